@@ -11,9 +11,9 @@ use Rattle.cfm_closure.specs.Stores.{Pair}
 use Rattle.cfm_closure.specs.Fragments.{library_count}
 use Rattle.cfm_closure.specs.Orders.{IsComplete}
 use Rattle.cfm_closure.specs.Walk.{Walked, is_marked, joining, marking, unwalked}
-use Rattle.cfm_closure.specs.declared.init_order.Taking.{Taking}
+use Rattle.cfm_closure.specs.declared.init_order.InitState.{InitState}
 use Rattle.cfm_closure.specs.Initialization.{awaits, before_of, first_left, init_order_of, is_ready, next_ready, take_next, take_ready, taken_all}
-use Rattle.cfm_closure.specs.Kept.Taken.{IsFresh, IsTaking, taken_of}
+use Rattle.cfm_closure.specs.Kept.Taken.{IsFresh, IsInitState, taken_of}
 
 some_of : {A : Type 0} (o : Option A) → is_some o ≡ true → (x : A) × (o ≡ Some x)
 some_of None is = absurd (cc)
@@ -44,8 +44,8 @@ module _ (pairs : List Pair) (s : Walked) (p : ℕ) where
       ∙ sym (ne_eqb l (library_count pairs p) (λ same. absurd (omega arith)))
 
 -- the entries that were passed, noted
-pub taking-passed : (pairs : List Pair) (order : List ℕ) (t t' : Taking) (p l : ℕ) → taken_of t' ≡ taken_of t → t'.passed.items ≡ set t.passed.items p l → p < length pairs → IsTaking pairs order t
-    → ((k : ℕ) → k < l → awaits pairs (taken_of t) p k ≡ None) → IsTaking pairs order t'
+pub taking-passed : (pairs : List Pair) (order : List ℕ) (t t' : InitState) (p l : ℕ) → taken_of t' ≡ taken_of t → t'.passed.items ≡ set t.passed.items p l → p < length pairs → IsInitState pairs order t
+    → ((k : ℕ) → k < l → awaits pairs (taken_of t) p k ≡ None) → IsInitState pairs order t'
 taking-passed pairs order t t' p l same is inside are none = record {
   complete = are.complete;
   taken_size = ap (λ (s : Walked). length s.marked) same ∙ are.taken_size;
@@ -74,7 +74,7 @@ get_or-zero n p = elim (cases_lt p n) [
   | inr past ↦ get_or_past (replicate n 0) p 0 (omega (arith, length-replicate {A = ℕ} n 0))
 ]
 
-pub taking-fresh : (pairs : List Pair) (order : List ℕ) (t : Taking) → IsComplete pairs order → IsFresh t (length pairs) → IsTaking pairs order t
+pub taking-fresh : (pairs : List Pair) (order : List ℕ) (t : InitState) → IsComplete pairs order → IsFresh t (length pairs) → IsInitState pairs order t
 taking-fresh pairs order t complete fresh = record {
   complete = complete;
   taken_size = ap length fresh.taken ∙ length-replicate (length pairs) false;
@@ -82,7 +82,7 @@ taking-fresh pairs order t complete fresh = record {
   passed = λ p l under. (let low = subst (λ xs. l < get_or xs p 0) fresh.passed under in let none = get_or-zero (length pairs) p in absurd (omega arith));
 }
 
-pub taken-fresh : (pairs : List Pair) (t : Taking) → IsFresh t (length pairs) → taken_of t ≡ unwalked pairs
+pub taken-fresh : (pairs : List Pair) (t : InitState) → IsFresh t (length pairs) → taken_of t ≡ unwalked pairs
 taken-fresh pairs t fresh = λ i. record { marked = fresh.taken i; order = fresh.order i }
 
 module _ (pairs : List Pair) (s : Walked) (order : List ℕ) (i : ℕ) (under : i < length order) where

@@ -244,10 +244,10 @@ module _ (pairs : List Pair) (root : ℕ) where
       abbrev behind : List ℕ → Option BindRefusal → Result Closed BindRefusal
       behind order refusal = unless refusal (init_order_of pairs order >>= (λ init_order. Ok (with_order order init_order)))
 
-      behind-binds : (order : List ℕ) (refusal : Option BindRefusal) → RefusalBinds refusal → Binds (behind order refusal)
-      behind-binds order None binds = binds-then (init_order_of pairs order) (λ init_order. Ok (with_order order init_order)) (ordered-binds order) (λ init_order is. tt)
-      behind-binds order (Some r) binds = binds
+      after-binds : (order : List ℕ) (refusal : Option BindRefusal) → RefusalBinds refusal → Binds (behind order refusal)
+      after-binds order None binds = binds-then (init_order_of pairs order) (λ init_order. Ok (with_order order init_order)) (ordered-binds order) (λ init_order is. tt)
+      after-binds order (Some r) binds = binds
 
       pub closed-binds : root < length pairs → Binds (closed_of pairs root)
       unfolding closed_of
-      closed-binds inside = binds-then (order_of pairs root) (λ order. behind order (first_refused pairs order)) (order-binds inside) (λ order is. behind-binds order (first_refused pairs order) (imports-bind order))
+      closed-binds inside = binds-then (order_of pairs root) (λ order. behind order (first_refused pairs order)) (order-binds inside) (λ order is. after-binds order (first_refused pairs order) (imports-bind order))

@@ -4,7 +4,7 @@ ghost use Rattle.cfm_closure.specs.Faults.{Answers};
 ghost use Rattle.cfm_closure.specs.Fragments.{library_count};
 ghost use Rattle.cfm_closure.specs.Walk.{joining, marking};
 ghost use Rattle.cfm_closure.specs.Initialization.{awaits, before_of, first_left, init_order_of, is_ready, next_ready, taken_all};
-ghost use Rattle.cfm_closure.specs.Kept.Taken.{IsFresh, IsTaking, taken_of};
+ghost use Rattle.cfm_closure.specs.Kept.Taken.{IsFresh, IsInitState, taken_of};
 
 use crate::bindings::Bindings;
 use crate::fault::BindFault;
@@ -12,7 +12,7 @@ use std::alloc::{AllocError, Global};
 
 /// The order of initialization so far.
 #[derive(Drop)]
-struct Taking {
+struct InitState {
     /// The fragments of the store that were taken.
     taken: Vec<bool>,
     /// For each fragment the number of library entries that wait for nothing any more.
@@ -40,14 +40,14 @@ fn before<'a>(bindings: &Bindings<'a>, p: usize, l: usize) -> Option<usize>
     }
 }
 
-impl Taking {
+impl InitState {
     /// Returns the state in which no fragment of `len` was taken.
-    fn new(alloc: Global, len: usize) -> Result<Taking, AllocError>
+    fn new(alloc: Global, len: usize) -> Result<InitState, AllocError>
         ensures { IfOk result (λ t. IsFresh t len) }
     {
         let taken = vec![in alloc; false; len]?;
         let passed = vec![in alloc; 0; len]?;
-        Ok(Taking {
+        Ok(InitState {
             taken,
             passed,
             order: Vec::new(alloc),
@@ -59,7 +59,7 @@ impl Taking {
     fn awaits<'a>(&self, bindings: &Bindings<'a>, p: usize, l: usize) -> bool
         requires place { Contains bindings.now.order p }
         requires library { l < library_count bindings.now.pairs p }
-        requires taking { IsTaking bindings.now.pairs bindings.now.order self.now }
+        requires taking { IsInitState bindings.now.pairs bindings.now.order self.now }
         ensures { result ≡ is_some (awaits bindings.now.pairs (taken_of self.now) p l) }
     {
         match before(bindings, p, l) {
@@ -72,7 +72,7 @@ impl Taking {
     /// that were passed before aren't tested again.
     fn passed<'a>(&self, bindings: &Bindings<'a>, p: usize) -> usize
         requires place { Contains bindings.now.order p }
-        requires taking { IsTaking bindings.now.pairs bindings.now.order self.now }
+        requires taking { IsInitState bindings.now.pairs bindings.now.order self.now }
         ensures passed { (k : ℕ) → k < result → awaits bindings.now.pairs (taken_of self.now) p k ≡ None }
         ensures ready { is_ready bindings.now.pairs (taken_of self.now) p ≡ (result == library_count bindings.now.pairs p) }
     {
@@ -88,9 +88,9 @@ impl Taking {
     /// Returns whether all fragments that must come before another one were taken.
     fn is_ready<'a>(&mut self, bindings: &Bindings<'a>, p: usize) -> bool
         requires place { Contains bindings.now.order p }
-        requires taking { IsTaking bindings.now.pairs bindings.now.order self.old }
+        requires taking { IsInitState bindings.now.pairs bindings.now.order self.old }
         ensures ready { result ≡ is_ready bindings.now.pairs (taken_of self.old) p }
-        ensures taking { IsTaking bindings.now.pairs bindings.now.order self.new }
+        ensures taking { IsInitState bindings.now.pairs bindings.now.order self.new }
         ensures same { taken_of self.new ≡ taken_of self.old }
     {
         let passed = self.passed(bindings, p);
@@ -100,10 +100,10 @@ impl Taking {
 
     /// Returns the first fragment in closure order that wasn't taken and is ready.
     fn next_ready<'a>(&mut self, bindings: &Bindings<'a>) -> Option<usize>
-        requires { IsTaking bindings.now.pairs bindings.now.order self.old }
+        requires { IsInitState bindings.now.pairs bindings.now.order self.old }
         ensures next { result ≡ next_ready bindings.now.pairs (taken_of self.old) bindings.now.order }
         ensures inside { IfSome result (λ p. p < length bindings.now.pairs) }
-        ensures taking { IsTaking bindings.now.pairs bindings.now.order self.new }
+        ensures taking { IsInitState bindings.now.pairs bindings.now.order self.new }
         ensures same { taken_of self.new ≡ taken_of self.old }
     {
         for p in bindings.order() {
@@ -117,8 +117,8 @@ impl Taking {
     /// Takes a fragment.
     fn take<'a>(&mut self, bindings: &Bindings<'a>, p: usize) -> Result<(), AllocError>
         requires place { p < length bindings.now.pairs }
-        requires taking { IsTaking bindings.now.pairs bindings.now.order self.old }
-        ensures taking { OnOk result (IsTaking bindings.now.pairs bindings.now.order self.new) }
+        requires taking { IsInitState bindings.now.pairs bindings.now.order self.old }
+        ensures taking { OnOk result (IsInitState bindings.now.pairs bindings.now.order self.new) }
         ensures state { OnOk result (taken_of self.new ≡ joining p (marking p (taken_of self.old))) }
     {
         self.taken[p] = true;
@@ -128,7 +128,7 @@ impl Taking {
 
     /// Returns the whole order, or the refusal if the first fragment that is left waits without end.
     fn end<'a>(self, bindings: &Bindings<'a>) -> Result<Vec<usize>, BindFault<'a>>
-        requires { IsTaking bindings.now.pairs bindings.now.order self }
+        requires { IsInitState bindings.now.pairs bindings.now.order self }
         ensures { Answers (λ order. order.items) result (taken_all bindings.now.pairs (taken_of self) (first_left (taken_of self) bindings.now.order)) }
     {
         for p in bindings.order() {
@@ -137,7 +137,7 @@ impl Taking {
                 return Err(BindFault::InitLoop { fragment });
             }
         }
-        let Taking { order, .. } = self;
+        let InitState { order, .. } = self;
         Ok(order)
     }
 }
@@ -150,7 +150,7 @@ pub(crate) fn initialized<'a>(
 ) -> Result<Vec<usize>, BindFault<'a>>
     ensures { Answers (λ order. order.items) result (init_order_of bindings.now.pairs bindings.now.order) }
 {
-    let mut taking = Taking::new(alloc, bindings.places())?;
+    let mut taking = InitState::new(alloc, bindings.places())?;
     for _turn in 0..bindings.order().len() {
         match taking.next_ready(bindings) {
             Some(p) => taking.take(bindings, p)?,

@@ -222,18 +222,18 @@ last_begins (x ∷ es) (b ∷ before) e address is =
     ]
 
 -- and lies after the others' begins
-last_behind : (from limit : ℕ) (es before : List (ℕ × Vec ℕ)) (e : ℕ × Vec ℕ) (address : ℕ) → IsLaidOut from limit (instances es) → entries_to address es ≡ before ++ e ∷ [] → from ≤ e.0
-last_behind from limit [] [] e address laid is = absurd (cc)
-last_behind from limit [] (b ∷ before) e address laid is = absurd (cc)
-last_behind from limit (x ∷ es) [] e address laid is =
+last_after : (from limit : ℕ) (es before : List (ℕ × Vec ℕ)) (e : ℕ × Vec ℕ) (address : ℕ) → IsLaidOut from limit (instances es) → entries_to address es ≡ before ++ e ∷ [] → from ≤ e.0
+last_after from limit [] [] e address laid is = absurd (cc)
+last_after from limit [] (b ∷ before) e address laid is = absurd (cc)
+last_after from limit (x ∷ es) [] e address laid is =
     elim (leb_tells x.0 address) [
       | inl begins ↦ (let there : x ∷ entries_to address es ≡ e ∷ [] = rw (to_is address x.0, begins.0) at is in let same : x ≡ e = ap (first_or e) there in rw (← same) laid.0)
-      | inr behind ↦ (let h = last_behind (end_of (instance_seen x)) limit es [] e address laid.2 (rw (to_is address x.0, behind.0) at is) in omega (arith, h, laid.0))
+      | inr behind ↦ (let h = last_after (end_of (instance_seen x)) limit es [] e address laid.2 (rw (to_is address x.0, behind.0) at is) in omega (arith, h, laid.0))
     ]
-last_behind from limit (x ∷ es) (b ∷ before) e address laid is =
+last_after from limit (x ∷ es) (b ∷ before) e address laid is =
     elim (leb_tells x.0 address) [
-      | inl begins ↦ (let h = last_behind (end_of (instance_seen x)) limit es before e address laid.2 (ap others_of (rw (to_is address x.0, begins.0) at is)) in omega (arith, h, laid.0))
-      | inr behind ↦ (let h = last_behind (end_of (instance_seen x)) limit es (b ∷ before) e address laid.2 (rw (to_is address x.0, behind.0) at is) in omega (arith, h, laid.0))
+      | inl begins ↦ (let h = last_after (end_of (instance_seen x)) limit es before e address laid.2 (ap others_of (rw (to_is address x.0, begins.0) at is)) in omega (arith, h, laid.0))
+      | inr behind ↦ (let h = last_after (end_of (instance_seen x)) limit es (b ∷ before) e address laid.2 (rw (to_is address x.0, behind.0) at is) in omega (arith, h, laid.0))
     ]
 
 -- a range is that of the last instance that begins up to its address
@@ -253,7 +253,7 @@ range_of_last from limit (x ∷ es) (b ∷ before) e address len laid is =
     elim (leb_tells x.0 address) [
       | inl begins ↦
           (let there = ap others_of (rw (to_is address x.0, begins.0) at is) in
-          last_has (instance_seen x) (instance_seen e) (range_at (instances es) address len) address len (last_behind (end_of (instance_seen x)) limit es before e address laid.2 there) (last_begins es before e address there) (range_of_last (end_of (instance_seen x)) limit es before e address len laid.2 there))
+          last_has (instance_seen x) (instance_seen e) (range_at (instances es) address len) address len (last_after (end_of (instance_seen x)) limit es before e address laid.2 there) (last_begins es before e address there) (range_of_last (end_of (instance_seen x)) limit es before e address len laid.2 there))
       | inr behind ↦ not_before (instance_seen x) _ address len behind.1 ∙ range_of_last (end_of (instance_seen x)) limit es (b ∷ before) e address len laid.2 (rw (to_is address x.0, behind.0) at is)
     ]
 

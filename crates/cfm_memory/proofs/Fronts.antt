@@ -9,7 +9,7 @@ use Rattle.cfm_memory.specs.Placement.{end_of, taken, IsFree, IsLaidOut}
 use Rattle.cfm_memory.proofs.Changes.{length-fitted}
 use Rattle.std.proofs.lemmas.Option.{same_Some}
 use Rattle.cfm_memory.proofs.Placing.{some_taken, free_before}
-use Rattle.cfm_memory.proofs.Ranges.{begins_behind}
+use Rattle.cfm_memory.proofs.Ranges.{begins_after}
 
 -- a range that is free with a new instance is free without it
 free_without_new : (address end : ℕ) (xs : List Instance) (y : Instance) → IsFree address end (with_instance xs y) → IsFree address end xs
@@ -56,7 +56,7 @@ ends_between from limit (x ∷ xs) address bytes laid is =
           (inr (omega (arith, ends)), free_before (address + taken (length bytes)) (address + taken (length bytes)) (end_of x) limit xs (omega (arith, ends)) laid.2))
       | inr other ↦
           (let there : bytes_at xs address ≡ Some bytes = rw other.0 at is in
-          let behind = begins_behind xs address (end_of x) limit bytes laid.2 there in
+          let behind = begins_after xs address (end_of x) limit bytes laid.2 there in
           (inr (omega (arith, behind)), ends_between (end_of x) limit xs address bytes laid.2 there))
     ]
 
@@ -73,8 +73,8 @@ none_inside (x ∷ xs) address other bytes is free low =
     ]
 
 -- the front passes the instance that is at it
-pub front_behind : (limit : ℕ) (xs : List Instance) (front : ℕ) (bytes : List ℕ) → IsLaidOut first_address limit xs → bytes_at xs front ≡ Some bytes → IsFront xs front → IsFront xs (front + taken (length bytes))
-front_behind limit xs front bytes laid at is = record {
+pub front_after : (limit : ℕ) (xs : List Instance) (front : ℕ) (bytes : List ℕ) → IsLaidOut first_address limit xs → bytes_at xs front ≡ Some bytes → IsFront xs front → IsFront xs (front + taken (length bytes))
+front_after limit xs front bytes laid at is = record {
   low = (let h = is.low in omega arith);
   between = ends_between first_address limit xs front bytes laid at;
   full = λ other low free. none_inside xs front other bytes at free (is.full other low free);
@@ -100,7 +100,7 @@ begins_between from limit (x ∷ xs) address bytes laid is =
       | inl same ↦ (let some = some_taken (length x.bytes) in (inl (omega (arith, same.1)), free_before address address (end_of x) limit xs (omega (arith, same.1, some)) laid.2))
       | inr other ↦
           (let there : bytes_at xs address ≡ Some bytes = rw other.0 at is in
-          let behind = begins_behind xs address (end_of x) limit bytes laid.2 there in
+          let behind = begins_after xs address (end_of x) limit bytes laid.2 there in
           (inr behind, begins_between (end_of x) limit xs address bytes laid.2 there))
     ]
 

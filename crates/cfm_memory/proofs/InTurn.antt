@@ -24,11 +24,11 @@ placed-append m mid after (e ∷ extents) others [] more placed later = absurd p
 placed-append m mid after (e ∷ extents) others (p ∷ places) more placed later = (placed.0, placed-append (with_new m p) mid after extents others places more placed.1 later)
 
 -- extents that lack room after placed ones lack it in one turn
-pub lack-behind : (m mid : Layout) (extents others : List Extent) (places : List Place) → ArePlaced m extents places mid → LackRoom mid others → LackRoom m (extents ++ others)
-lack-behind m mid [] others [] placed lack = subst (λ (k : Layout). LackRoom k others) placed lack
-lack-behind m mid [] others (p ∷ places) placed lack = absurd placed
-lack-behind m mid (e ∷ extents) others [] placed lack = absurd placed
-lack-behind m mid (e ∷ extents) others (p ∷ places) placed lack = inr (p, placed.0, lack-behind (with_new m p) mid extents others places placed.1 lack)
+pub lack-after : (m mid : Layout) (extents others : List Extent) (places : List Place) → ArePlaced m extents places mid → LackRoom mid others → LackRoom m (extents ++ others)
+lack-after m mid [] others [] placed lack = subst (λ (k : Layout). LackRoom k others) placed lack
+lack-after m mid [] others (p ∷ places) placed lack = absurd placed
+lack-after m mid (e ∷ extents) others [] placed lack = absurd placed
+lack-after m mid (e ∷ extents) others (p ∷ places) placed lack = inr (p, placed.0, lack-after (with_new m p) mid extents others places placed.1 lack)
 
 -- there are as many places as extents
 pub length-placed : (m : Layout) (extents : List Extent) (places : List Place) (after : Layout) → ArePlaced m extents places after → length places ≡ length extents

@@ -8,7 +8,7 @@ pub use Rattle.cfm_memory.proofs.Contents.{written_here, written_other}
 pub use Rattle.cfm_memory.proofs.Contents.{fitted_same}
 -- instances that are placed in turn: one turn after another, which extents lack room, how many
 -- there are
-pub use Rattle.cfm_memory.proofs.InTurn.{placed-append, lack-behind, length-placed}
+pub use Rattle.cfm_memory.proofs.InTurn.{placed-append, lack-after, length-placed}
 -- they are zeros, have the sizes that they need, lie apart, and all others stay
 pub use Rattle.cfm_memory.proofs.InTurn.{no_extent, placed_stand, placed_size, placed_apart, placed_new, placed_stays}
 -- no two of some places that are apart have the same address

@@ -12,7 +12,7 @@ use Rattle.cfm_memory.proofs.Contents.{nothing_at_free}
 use Rattle.cfm_memory.proofs.Entries.{inserted_is, instances}
 use Rattle.cfm_memory.proofs.Fronts.{front_below, front_with_new, front_without, front_written}
 use Rattle.cfm_memory.proofs.Placing.{some_taken}
-use Rattle.cfm_memory.proofs.Ranges.{begins_behind}
+use Rattle.cfm_memory.proofs.Ranges.{begins_after}
 
 -- an address that has room has it among the instances that the code keeps
 room_seen : (m : Layout) (limit size alignment address : ℕ) (xs : List Instance) → record { limit = limit; instances = xs } ≡ m → IsLowest m size alignment address → IsRoom (record { limit = limit; instances = xs }) size alignment address
@@ -44,7 +44,7 @@ placed_is m limit size alignment address v es view_is lowest =
 pub given_back_kept : (limit front address : ℕ) (bytes : List ℕ) (xs : List Instance) → bytes_at xs address ≡ Some bytes → IsKept limit xs front → IsKept limit (without xs address) (min front address)
 given_back_kept limit front address bytes xs there kept = record {
   laid_out = laid_out_without first_address limit xs address kept.laid_out;
-  is_front = front_without limit xs front address bytes (begins_behind xs address first_address limit bytes kept.laid_out there) kept.laid_out there kept.is_front;
+  is_front = front_without limit xs front address bytes (begins_after xs address first_address limit bytes kept.laid_out there) kept.laid_out there kept.is_front;
   small = kept.small;
 }
 

@@ -43,9 +43,9 @@ first_before n step at from limit x xs aligned before laid = record {
 }
 
 -- otherwise it is after that instance
-pub first_behind : (n step at next : ℕ) (x : Instance) (xs : List Instance) (r : ℕ) → x.address < at + n → at ≤ next → end_of x ≤ next
+pub first_after : (n step at next : ℕ) (x : Instance) (xs : List Instance) (r : ℕ) → x.address < at + n → at ≤ next → end_of x ≤ next
     → ((b : ℕ) → at ≤ b → end_of x ≤ b → b % step ≡ 0 → next ≤ b) → IsFirstFree n step next xs r → IsFirstFree n step at (x ∷ xs) r
-first_behind n step at next x xs r over low behind least rest = record {
+first_after n step at next x xs r over low behind least rest = record {
   low = (let h = rest.low in omega arith);
   aligned = rest.aligned;
   free = (inr (let h = rest.low in omega arith), rest.free);

@@ -32,9 +32,9 @@ ends_with from (x ∷ xs) y end ends = go (ends_with from xs y end ends.1) (ltb 
     go later false = (end, ends)
 
 -- after all instances everything is free
-free_behind : (address end from : ℕ) (xs : List Instance) → from ≤ address → EndBy from xs → IsFree address end xs
-free_behind address end from [] low ends = tt
-free_behind address end from (x ∷ xs) low ends = (inr (omega (arith, low, ends.0)), free_behind address end from xs low ends.1)
+free_after : (address end from : ℕ) (xs : List Instance) → from ≤ address → EndBy from xs → IsFree address end xs
+free_after address end from [] low ends = tt
+free_after address end from (x ∷ xs) low ends = (inr (omega (arith, low, ends.0)), free_after address end from xs low ends.1)
 
 -- the next multiple of a step after an address
 abbrev next_step : ℕ → ℕ → ℕ
@@ -48,22 +48,22 @@ unfolding step_of
 some_step alignment = le-max_left 16 (2 ^ alignment)
 
 -- after all instances an extent has room
-room_behind : (m : Layout) (e : Extent) (from : ℕ) → first_address ≤ from → from + (e.size + 16 + step_of e.alignment) ≤ m.limit → EndBy from m.instances → IsRoom m e.size e.alignment (next_step (step_of e.alignment) from)
-room_behind m e from low limit ends =
+room_after : (m : Layout) (e : Extent) (from : ℕ) → first_address ≤ from → from + (e.size + 16 + step_of e.alignment) ≤ m.limit → EndBy from m.instances → IsRoom m e.size e.alignment (next_step (step_of e.alignment) from)
+room_after m e from low limit ends =
     let near = next_near (step_of e.alignment) from (omega (arith, some_step e.alignment)) in
     record {
       from = omega (arith, low, near.0);
       aligned = mul-mod_right (step_of e.alignment) (from / step_of e.alignment + 1);
       inside = omega (arith, near.1, taken_most e.size, limit);
-      free = free_behind _ _ from m.instances near.0 ends;
+      free = free_after _ _ from m.instances near.0 ends;
     }
 
 none_lacks : (m : Layout) (extents : List Extent) (from : ℕ) → first_address ≤ from → from + most_taken extents ≤ m.limit → EndBy from m.instances → LackRoom m extents → ⊥
 none_lacks m [] from low limit ends lack = lack
-none_lacks m (e ∷ extents) from low limit ends (inl none) = none _ (room_behind m e from low (omega (arith, limit)) ends)
+none_lacks m (e ∷ extents) from low limit ends (inl none) = none _ (room_after m e from low (omega (arith, limit)) ends)
 none_lacks m (e ∷ extents) from low limit ends (inr (p, placed, later)) =
     let near = next_near (step_of e.alignment) from (omega (arith, some_step e.alignment)) in
-    let lowest = placed.lowest.lowest _ (room_behind m e from low (omega (arith, limit)) ends) in
+    let lowest = placed.lowest.lowest _ (room_after m e from low (omega (arith, limit)) ends) in
     let size : taken (length {A = ℕ} (replicate p.size 0)) ≤ e.size + 16 = rw (length-replicate {A = ℕ} p.size 0, placed.size) (taken_most e.size) in
     let to = from + (e.size + 16 + step_of e.alignment) in
     none_lacks (with_new m p) extents to (omega (arith, low)) (omega (arith, limit)) (ends_with to m.instances (record { address = p.address; bytes = replicate p.size 0 }) (omega (arith, lowest, near.1, size)) (ends_later from to m.instances (omega arith) ends)) later

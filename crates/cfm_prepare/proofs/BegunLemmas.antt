@@ -13,7 +13,7 @@ use Rattle.cfm_prepare.specs.declared.fragment_fault.FragmentFault.TheVariants a
 use Rattle.cfm_prepare.proofs.FoundLemmas.{present-has}
 use Rattle.cfm_prepare.proofs.ListLemmas.{contains-next}
 use Rattle.cfm_prepare.proofs.PlacedLemmas.{placed-back}
-use Rattle.cfm_prepare.proofs.ReadyLemmas.{held-rejoined, ready-behind}
+use Rattle.cfm_prepare.proofs.ReadyLemmas.{held-rejoined, ready-after}
 
 -- the fragments that were placed can be released
 pub begun-of : (pairs : List Pair) (m : Layout) (there now : List Present) (ps new : List ℕ) (after : Layout) → AreReady m there → ((p : ℕ) → has ps p ≡ true → has new p ≡ true) → HavePlaced pairs m there ps now after → HaveBegun m there new now after
@@ -22,7 +22,7 @@ begun-of pairs m there now ps new after ready inside have = record {
   behind = have.behind;
   are = λ p there. inside p (ap (λ qs. has qs p) (sym have.are) ∙ (sym (present-has have.fresh p) ∙ there));
   others = placed-back pairs m have.fresh after have.placed;
-  ready = subst (λ fs. AreReady after fs) (sym have.behind) (ready-behind pairs m there have.fresh after ready have.placed);
+  ready = subst (λ fs. AreReady after fs) (sym have.behind) (ready-after pairs m there have.fresh after ready have.placed);
 }
 
 pub begun-after : (pairs : List Pair) (m : Layout) (there now : List Present) (ps : List ℕ) (mid after : Layout) (have : HavePlaced pairs m there ps now mid) → AreReady m there
@@ -32,7 +32,7 @@ begun-after pairs m there now ps mid after have ready held same = record {
   behind = have.behind;
   are = λ p there. ap (λ qs. has qs p) (sym have.are) ∙ (sym (present-has have.fresh p) ∙ there);
   others = same ∙ placed-back pairs m have.fresh mid have.placed;
-  ready = subst (λ fs. AreReady after fs) (sym have.behind) (held-rejoined mid after there have.fresh (ready-behind pairs m there have.fresh mid ready have.placed) held same);
+  ready = subst (λ fs. AreReady after fs) (sym have.behind) (held-rejoined mid after there have.fresh (ready-after pairs m there have.fresh mid ready have.placed) held same);
 }
 
 new-of : (pairs : List Pair) (m : Layout) (there now : List Present) (ps : List ℕ) (mid : Layout) (have : HavePlaced pairs m there ps now mid) → AreNew pairs m ps have.fresh

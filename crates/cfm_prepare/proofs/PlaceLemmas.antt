@@ -6,7 +6,7 @@ use Rattle.cfm_memory.specs.Placement.{MayRefuse, with_new}
 use Rattle.cfm_memory.specs.declared.place.MemoryFault.{MemoryFault}
 use Rattle.cfm_memory.specs.declared.place.MemoryFault.TheVariants.{NoRoom, OutOfMemory}
 use Rattle.cfm_memory.specs.declared.place.Place.{Place}
-use Rattle.cfm_memory.proofs.Laws.{lack-behind, length-placed, no_extent, placed-append, placed_size}
+use Rattle.cfm_memory.proofs.Laws.{lack-after, length-placed, no_extent, placed-append, placed_size}
 use Rattle.pef_views.specs.Container.{Contained}
 use Rattle.cfm_prepare.specs.Images.{extent_at, extents_from, extents_of}
 
@@ -52,15 +52,15 @@ placed_next c m mid places i p placed is =
     subst (λ es. ArePlaced m es (places ++ p ∷ []) (with_new mid p)) (sym (extents_next c i))
     (placed-append m mid (with_new mid p) (extents_from c 0 i) (extent_at c i ∷ []) places (p ∷ []) placed (is, refl))
 
-refused_behind : (fault : MemoryFault) (m mid : Layout) (extents others : List Extent) (e : Extent) (places : List Place) → ArePlaced m extents places mid → MayRefuse mid e.size e.alignment fault → MayNotPlace fault m (extents ++ e ∷ others)
-refused_behind NoRoom m mid extents others e places placed refused = lack-behind m mid extents (e ∷ others) places placed (inl refused)
-refused_behind OutOfMemory m mid extents others e places placed refused = tt
+refused_later : (fault : MemoryFault) (m mid : Layout) (extents others : List Extent) (e : Extent) (places : List Place) → ArePlaced m extents places mid → MayRefuse mid e.size e.alignment fault → MayNotPlace fault m (extents ++ e ∷ others)
+refused_later NoRoom m mid extents others e places placed refused = lack-after m mid extents (e ∷ others) places placed (inl refused)
+refused_later OutOfMemory m mid extents others e places placed refused = tt
 
 -- a section that is refused is the first of them
 pub refused_here : (fault : MemoryFault) (c : Contained) (m mid : Layout) (places : List Place) (i n : ℕ) → i < n → ArePlaced m (extents_from c 0 i) places mid → MayRefuse mid (extent_at c i).size (extent_at c i).alignment fault
     → MayNotPlace fault m (extents_from c 0 n)
 refused_here fault c m mid places i n under placed refused =
-    subst (λ es. MayNotPlace fault m es) (sym (extents_around c i n under)) (refused_behind fault m mid (extents_from c 0 i) (extents_from c (i + 1) (n - (i + 1))) (extent_at c i) places placed refused)
+    subst (λ es. MayNotPlace fault m es) (sym (extents_around c i n under)) (refused_later fault m mid (extents_from c 0 i) (extents_from c (i + 1) (n - (i + 1))) (extent_at c i) places placed refused)
 
 -- there are as many places as instantiated sections
 pub length-fragment : (c : Contained) (m after : Layout) (places : List Place) → ArePlaced m (extents_of c) places after → length places ≡ c.header.instantiated_section_count

@@ -34,18 +34,18 @@ have-more pairs m mid after there now next new more p places have placed next_is
     }
 
 -- a fragment that lacks room after others lacks it among all
-lacks-behind : (pairs : List Pair) (m mid : Layout) (fs : List Present) (p : ℕ) (ps : List ℕ) (name : List ℕ)
+lacks-after : (pairs : List Pair) (m mid : Layout) (fs : List Present) (p : ℕ) (ps : List ℕ) (name : List ℕ)
     → AllPlaced pairs m fs mid → LackRoom mid (extents_in pairs p) → name ≡ (pair_of pairs p).name → LacksRoom pairs m (positions fs ++ p ∷ ps) name
-lacks-behind pairs m mid [] p ps name placed lack is =
+lacks-after pairs m mid [] p ps name placed lack is =
     let P : Layout → Type 0 = λ k. LackRoom k (extents_in pairs p) in
     inl (subst P placed lack, is)
-lacks-behind pairs m mid (f ∷ fs) p ps name placed lack is = inr (f.places, placed.0, placed.1, lacks-behind pairs placed.0 mid fs p ps name placed.2 lack is)
+lacks-after pairs m mid (f ∷ fs) p ps name placed lack is = inr (f.places, placed.0, placed.1, lacks-after pairs placed.0 mid fs p ps name placed.2 lack is)
 
 pub not-placed : (e : FragmentFault) (pairs : List Pair) (there now : List Present) (m mid : Layout) (new placed rest : List ℕ) (p : ℕ)
     → HavePlaced pairs m there placed now mid → new ≡ placed ++ p ∷ rest → IsNotPlaced pairs p mid e → MayNotPrepareNew pairs there m new e
 not-placed (fault.NoRoom f) pairs there now m mid new placed rest p have is not =
     let P : List ℕ → Type 0 = λ ps. LacksRoom pairs m ps f.now in
-    subst P (sym (is ∙ ap (λ ps. ps ++ p ∷ rest) (sym have.are))) (lacks-behind pairs m mid have.fresh p rest f.now have.placed not.0 not.1)
+    subst P (sym (is ∙ ap (λ ps. ps ++ p ∷ rest) (sym have.are))) (lacks-after pairs m mid have.fresh p rest f.now have.placed not.0 not.1)
 not-placed (fault.Pack f k) pairs there now m mid new placed rest p have is not = absurd not
 not-placed (fault.Reloc f k) pairs there now m mid new placed rest p have is not = absurd not
 not-placed fault.OutOfMemory pairs there now m mid new placed rest p have is not = tt

@@ -87,8 +87,8 @@ bytes-there : (m : Layout) (qs : List Place) (k : ℕ) → AreHeld m qs → k < 
 bytes-there m qs k held under = held-some (bytes_at m.instances (place_at qs k).address) (place_at qs k).size (held k nowhere under)
 
 -- new fragments after those that exist
-pub ready-behind : (pairs : List Pair) (m : Layout) (there fresh : List Present) (after : Layout) → AreReady m there → AllPlaced pairs m fresh after → AreReady after (there ++ fresh)
-ready-behind pairs m there fresh after ready placed = record {
+pub ready-after : (pairs : List Pair) (m : Layout) (there fresh : List Present) (after : Layout) → AreReady m there → AllPlaced pairs m fresh after → AreReady after (there ++ fresh)
+ready-after pairs m there fresh after ready placed = record {
   held = each-of (λ f. AreHeld after f.places) there fresh
       (λ i under. held_same m after (present_at there i).places (λ k low.
       let s = bytes-there m (present_at there i).places k (ready.held i under) low in

@@ -43,8 +43,8 @@ present-more (x ∷ xs) f ys p there = elim (eqb_tells x.position p) [
 ]
 
 -- if another number is first in a list, the others have it
-has-behind : (q : ℕ) (qs : List ℕ) (p : ℕ) → (q ≡ p → true ≡ false) → has (q ∷ qs) p ≡ true → has qs p ≡ true
-has-behind q qs p apart there = elim (eqb_tells q p) [
+has-after : (q : ℕ) (qs : List ℕ) (p : ℕ) → (q ≡ p → true ≡ false) → has (q ∷ qs) p ≡ true → has qs p ≡ true
+has-after q qs p apart there = elim (eqb_tells q p) [
   | inl same ↦ (let wrong : true ≡ false = apart same.1 in absurd (cc))
   | inr other ↦ ap (λ b. cond b true (has qs p)) (sym other.0) ∙ there
 ]
@@ -60,7 +60,7 @@ pub given-kept : (keep : ℕ → Bool) (all now : List Present) (before m : Layo
 given-kept keep all now before m q qs stays s = record {
   kept = s.kept;
   memory = s.memory;
-  left = λ p out there. has-behind q qs p (λ e. sym stays ∙ ap keep e ∙ out) (s.left p out there);
+  left = λ p out there. has-after q qs p (λ e. sym stays ∙ ap keep e ∙ out) (s.left p out there);
 }
 
 -- any other is released, or wasn't there
@@ -73,7 +73,7 @@ given-gone keep all fs now before m after q qs out (inl absent) s =
       memory = ap₂ (λ k xs. all_given_back k (gone_by keep xs)) absent.2 absent.1 ∙ s.memory;
       left = λ p free there.
           let before_there : is_present fs p ≡ true = ap (λ xs. is_present xs p) (sym absent.1) ∙ there in
-          has-behind q qs p (λ e. sym before_there ∙ ap (is_present fs) (sym e) ∙ absent.0) (s.left p free before_there);
+          has-after q qs p (λ e. sym before_there ∙ ap (is_present fs) (sym e) ∙ absent.0) (s.left p free before_there);
     }
 given-gone keep all fs now before m after q qs out (inr (places, taken, after_is)) s =
     let f : Present = record { position = q; places = places } in
@@ -83,7 +83,7 @@ given-gone keep all fs now before m after q qs out (inr (places, taken, after_is
       left = λ p free there.
           let more : is_present (taken.front ++ f ∷ taken.back) p ≡ true = present-more taken.front f taken.back p (ap (λ xs. is_present xs p) (sym taken.is) ∙ there) in
           let before_there : is_present fs p ≡ true = ap (λ xs. is_present xs p) taken.was ∙ more in
-          has-behind q qs p (λ e. sym there ∙ ap (is_present now) (sym e) ∙ taken.gone) (s.left p free before_there);
+          has-after q qs p (λ e. sym there ∙ ap (is_present now) (sym e) ∙ taken.gone) (s.left p free before_there);
     }
 
 -- if none is left, all that exist are kept

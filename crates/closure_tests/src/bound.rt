@@ -1,4 +1,4 @@
-use crate::closures::{told, told_of_pairs};
+use crate::closures::{reported_of_pairs, told};
 use std::alloc::Global;
 use std::process::Abort;
 use test_data::changes::{At, Change};
@@ -273,7 +273,7 @@ const CHAINS: &[(&[Fragment], &str)] = &[
 ];
 
 /// Tests the text of the closures of some fragments.
-fn test_told(rt: &impl Abort, alloc: Global, rows: &[(&[Fragment], &str)]) {
+fn test_reported(rt: &impl Abort, alloc: Global, rows: &[(&[Fragment], &str)]) {
     for row in rows {
         let (fragments, wanted) = *row;
         assert!(rt; told(rt, alloc, fragments).as_str() == wanted);
@@ -282,32 +282,32 @@ fn test_told(rt: &impl Abort, alloc: Global, rows: &[(&[Fragment], &str)]) {
 
 #[test]
 fn libraries(rt: HostRuntime) {
-    test_told(&rt, rt.alloc(), LIBRARIES);
+    test_reported(&rt, rt.alloc(), LIBRARIES);
 }
 
 #[test]
 fn orders(rt: HostRuntime) {
-    test_told(&rt, rt.alloc(), ORDERS);
+    test_reported(&rt, rt.alloc(), ORDERS);
 }
 
 #[test]
 fn circles(rt: HostRuntime) {
-    test_told(&rt, rt.alloc(), CIRCLES);
+    test_reported(&rt, rt.alloc(), CIRCLES);
 }
 
 #[test]
 fn targets(rt: HostRuntime) {
-    test_told(&rt, rt.alloc(), TARGETS);
+    test_reported(&rt, rt.alloc(), TARGETS);
 }
 
 #[test]
 fn chains(rt: HostRuntime) {
-    test_told(&rt, rt.alloc(), CHAINS);
+    test_reported(&rt, rt.alloc(), CHAINS);
 }
 
 /// Tests the text of the closure of fragments with these names and bytes.
-fn test_told_of_pairs(rt: &impl Abort, alloc: Global, pairs: &[(&str, &[u8])], wanted: &str) {
-    let told = told_of_pairs(rt, alloc, pairs);
+fn test_reported_of_pairs(rt: &impl Abort, alloc: Global, pairs: &[(&str, &[u8])], wanted: &str) {
+    let told = reported_of_pairs(rt, alloc, pairs);
     assert!(rt; told.as_str() == wanted);
 }
 
@@ -322,7 +322,7 @@ const NEEDS_WEAK: &str = "library L 0 0 weak\n";
 fn unreadable_container(rt: HostRuntime) {
     let needs = container(rt.alloc(), NEEDS_WEAK, &[]).expect(&rt, "a container");
     let pairs: [(&str, &[u8]); 2] = [("A", &needs), ("L", b"Joy!")];
-    test_told_of_pairs(&rt, rt.alloc(), &pairs, "1 TooShort L");
+    test_reported_of_pairs(&rt, rt.alloc(), &pairs, "1 TooShort L");
 }
 
 #[test]
@@ -330,7 +330,7 @@ fn unreadable_loader(rt: HostRuntime) {
     let needs = container(rt.alloc(), NEEDS_WEAK, &[]).expect(&rt, "a container");
     let bad_main = container(rt.alloc(), "", BAD_MAIN).expect(&rt, "a container");
     let pairs: [(&str, &[u8]); 2] = [("A", &needs), ("L", &bad_main)];
-    test_told_of_pairs(&rt, rt.alloc(), &pairs, "16 BadEntry L");
+    test_reported_of_pairs(&rt, rt.alloc(), &pairs, "16 BadEntry L");
 }
 
 /// A change that gives the second of two libraries the import of the first. The second library is at 160, its
@@ -356,7 +356,7 @@ fn import_of_two_libraries(rt: HostRuntime) {
     .expect(&rt, "a container");
     let pairs: [(&str, &[u8]); 3] = [("A", &importer), ("K", &second), ("L", &first)];
     let wanted = "order 2 1 0, init 2 1 0, 0.0 at 2 0 0";
-    test_told_of_pairs(&rt, alloc, &pairs, wanted);
+    test_reported_of_pairs(&rt, alloc, &pairs, wanted);
 }
 
 /// Returns a container that passes on its import 1, and whose libraries don't have its imports in order:
@@ -400,5 +400,5 @@ fn import_before_its_turn(rt: HostRuntime) {
     .expect(&rt, "a container");
     let pairs: [(&str, &[u8]); 3] = [("P", &second), ("Q", &first), ("L", &last)];
     let wanted = "order 2 1 0, init 2 1 0, 1.0 at 2 0 0, 0.0 at 1 0 4, 0.1 at 2 0 0";
-    test_told_of_pairs(&rt, alloc, &pairs, wanted);
+    test_reported_of_pairs(&rt, alloc, &pairs, wanted);
 }

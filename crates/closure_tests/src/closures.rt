@@ -12,13 +12,13 @@ use test_links::tell_names;
 pub(crate) fn told(rt: &impl Abort, alloc: Global, fragments: &[Fragment]) -> String {
     let containers = containers(alloc, fragments).expect(rt, "containers");
     let store = store_of(alloc, fragments, &containers).expect(rt, "a store");
-    told_of(rt, alloc, &store)
+    reported_of(rt, alloc, &store)
 }
 
 /// Returns the same for fragments with these names and bytes.
-pub(crate) fn told_of_pairs(rt: &impl Abort, alloc: Global, pairs: &[(&str, &[u8])]) -> String {
+pub(crate) fn reported_of_pairs(rt: &impl Abort, alloc: Global, pairs: &[(&str, &[u8])]) -> String {
     let store = store_of_pairs(rt, alloc, pairs);
-    told_of(rt, alloc, &store)
+    reported_of(rt, alloc, &store)
 }
 
 /// Returns a store of fragments with these names and bytes.
@@ -32,22 +32,22 @@ fn store_of_pairs<'a>(rt: &impl Abort, alloc: Global, pairs: &[(&'a str, &'a [u8
 }
 
 /// Returns the same for a store.
-fn told_of(rt: &impl Abort, alloc: Global, store: &Store<'_>) -> String {
+fn reported_of(rt: &impl Abort, alloc: Global, store: &Store<'_>) -> String {
     assert!(rt; !store.is_empty());
     match closure(alloc, store, 0) {
-        Ok(closure) => told_closure(rt, alloc, &closure),
-        Err(fault) => told_fault(rt, alloc, fault),
+        Ok(closure) => reported_closure(rt, alloc, &closure),
+        Err(fault) => reported_fault(rt, alloc, fault),
     }
 }
 
 /// Returns a refusal as a text: its number, its name, and the names in it.
-fn told_fault(rt: &impl Abort, alloc: Global, fault: BindFault<'_>) -> String {
+fn reported_fault(rt: &impl Abort, alloc: Global, fault: BindFault<'_>) -> String {
     let mut text = format!(in alloc; "{} {fault}", fault.number()).expect(rt, "memory");
     tell_names(&mut text, fault).expect(rt, "memory");
     text
 }
 
-fn told_closure(rt: &impl Abort, alloc: Global, closure: &Closure<'_>) -> String {
+fn reported_closure(rt: &impl Abort, alloc: Global, closure: &Closure<'_>) -> String {
     let mut text = String::new(alloc);
     tell(rt, &mut text, closure);
     text

@@ -85,7 +85,7 @@ fn tell_order(rt: &impl Abort, text: &mut String, order: Option<&[usize]>) {
 }
 
 /// Tests what the readers report about a connection.
-pub(crate) fn test_told(
+pub(crate) fn test_reported(
     rt: &impl Abort,
     alloc: Global,
     context: &Context<'_>,
@@ -100,7 +100,7 @@ pub(crate) fn test_told(
 /// closed.
 fn test_open_and_closed(rt: &impl Abort, alloc: Global, context: &mut Context<'_>) {
     assert!(rt; context.prepare(b"A").is_ok());
-    test_told(
+    test_reported(
         rt,
         alloc,
         context,
@@ -108,7 +108,7 @@ fn test_open_and_closed(rt: &impl Abort, alloc: Global, context: &mut Context<'_
         "own 00010014, no v, main 00010014, 0 at 00010010 0001000000000000, no 1, order 1 0, order 1 0",
     );
     assert!(rt; context.close(Connection(0)).is_ok());
-    test_told(
+    test_reported(
         rt,
         alloc,
         context,

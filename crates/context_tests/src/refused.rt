@@ -3,7 +3,7 @@
 
 use crate::added::empty;
 use crate::fixture::{LIMIT, context_of, tell_memory};
-use crate::readers::{prepared, test_told, told};
+use crate::readers::{prepared, test_reported, told};
 use cfm_memory::{Memory, MemoryFault, Place};
 use cfm_prepare::{AddFault, Connection, Context};
 use std::alloc::Global;
@@ -24,7 +24,7 @@ const RICH: &str =
     "library L 1 0 before\nimport v data strong\nsection a data process 4 4\nfix a 0 import v\nexport own data a 0\nmain a 0\ninit a 2\nterm a 3\n";
 
 /// Returns what each reader of a context reports about the first two connections and about all fragments.
-fn all_told(rt: &impl Abort, alloc: Global, context: &Context<'_>) -> String {
+fn all_reported(rt: &impl Abort, alloc: Global, context: &Context<'_>) -> String {
     let mut text = told(rt, alloc, context, Connection(0));
     let second = told(rt, alloc, context, Connection(1));
     text.push_str(&second).expect(rt, "memory");
@@ -66,7 +66,7 @@ fn prepare_again(
     let mut context = context_of(rt, alloc, fragments, &containers, LIMIT);
     assert!(rt; prepared(&mut context, b"A") == Ok(0));
     prepare_second(rt, alloc, &mut context)?;
-    test_told(rt, alloc, &context, 1, wanted);
+    test_reported(rt, alloc, &context, 1, wanted);
     Ok(())
 }
 
@@ -77,11 +77,11 @@ fn prepare_second(
     context: &mut Context<'_>,
 ) -> Result<(), Fail> {
     let first = told(rt, alloc, context, Connection(0));
-    let before = all_told(rt, alloc, context);
+    let before = all_reported(rt, alloc, context);
     say_begins(rt)?;
     let refused = prepare_until_answered(rt, alloc, context, &before);
     say_answered(rt, refused)?;
-    test_told(rt, alloc, context, 0, &first);
+    test_reported(rt, alloc, context, 0, &first);
     Ok(())
 }
 
@@ -95,7 +95,7 @@ fn prepare_until_answered(
     let mut answer = prepared(context, b"B");
     let refused = answer == Err(99);
     if refused {
-        assert!(rt; all_told(rt, alloc, context).as_str() == before);
+        assert!(rt; all_reported(rt, alloc, context).as_str() == before);
         answer = prepared(context, b"B");
     }
     assert!(rt; answer == Ok(1));

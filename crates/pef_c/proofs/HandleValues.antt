@@ -82,8 +82,8 @@ pub handle_good : (p : Ptr) → Good (ty_struct [] (tcons ty_ptr tnil)) (handle_
 handle_good (block_ptr b o) = (tt, (tt, tt))
 handle_good null_ptr = (tt, (record { fits = lit< tt }, tt))
 
-pub handle_told : (p : Ptr) (vs : List Val) → shadow (Pointed.own_val (p, tt) vs) → vs ≡ handle_val p ∷ []
-handle_told p vs s = s.1.0 ∙ (λ i. vstruct (of_list (s.1.1.0 i ++ [])) ∷ [])
+pub handle_reported : (p : Ptr) (vs : List Val) → shadow (Pointed.own_val (p, tt) vs) → vs ≡ handle_val p ∷ []
+handle_reported p vs s = s.1.0 ∙ (λ i. vstruct (of_list (s.1.1.0 i ++ [])) ∷ [])
 
 module _ {M : Type 1} {𝓤 : Ura M} (𝓛 : Logic 𝓤) where
   pub handle_made : (p : Ptr) → ent 𝓤 (emp 𝓤) (sem 𝓛 (Pointed.own_val (p, tt) (handle_val p ∷ [])))

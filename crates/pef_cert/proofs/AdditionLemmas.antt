@@ -27,22 +27,22 @@ pub got-import : (c : Claim) (at k : ℕ) (f : Fixup) → Shaped c → slice_get
 got-import c at k f shaped e is = import_small f.base k is (fixup_fits-parts f (got-fits c at f shaped e)).base
 
 -- the import index after a fixup
-pub index_behind : (fixups : List Fixup) (i : ℕ) (f : Fixup) → i < length fixups → index_after (take (i + 1) fixups) 0 ≡ index_past (slice_index_or fixups i f).base (index_after (take i fixups) 0)
-index_behind fixups i f under =
+pub index_later : (fixups : List Fixup) (i : ℕ) (f : Fixup) → i < length fixups → index_after (take (i + 1) fixups) 0 ≡ index_past (slice_index_or fixups i f).base (index_after (take i fixups) 0)
+index_later fixups i f under =
     ap (λ fs. index_after fs 0) (take_more fixups i f under) ∙ index_after-append (take i fixups) (slice_index_or fixups i f ∷ []) 0
 
 pub index-import : (fixups : List Fixup) (at i k : ℕ) (f : Fixup) → 0 < i → i ≤ length fixups → index_after (take i fixups) 0 ≡ index_after (take at fixups) 0 → (slice_index_or fixups (i - 1) f).base ≡ Import k → k + 1 ≡ index_after (take at fixups) 0
 index-import fixups at i k f some under same is =
     let step : i ≡ i - 1 + 1 = omega arith in
     sym (ap (λ b. index_past b (index_after (take (i - 1) fixups) 0)) is)
-    ∙ (sym (index_behind fixups (i - 1) f (omega arith))
+    ∙ (sym (index_later fixups (i - 1) f (omega arith))
     ∙ (sym (ap (λ n. index_after (take n fixups) 0) step) ∙ same))
 
 pub index-section : (fixups : List Fixup) (at i k : ℕ) (f : Fixup) → 0 < i → i ≤ length fixups → index_after (take i fixups) 0 ≡ index_after (take at fixups) 0 → (slice_index_or fixups (i - 1) f).base ≡ Section k → index_after (take (i - 1) fixups) 0 ≡ index_after (take at fixups) 0
 index-section fixups at i k f some under same is =
     let step : i ≡ i - 1 + 1 = omega arith in
     sym (ap (λ b. index_past b (index_after (take (i - 1) fixups) 0)) is)
-    ∙ (sym (index_behind fixups (i - 1) f (omega arith))
+    ∙ (sym (index_later fixups (i - 1) f (omega arith))
     ∙ (sym (ap (λ n. index_after (take n fixups) 0) step) ∙ same))
 
 -- the test of the next base

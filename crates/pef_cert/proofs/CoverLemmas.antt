@@ -13,7 +13,7 @@ use Rattle.pef_cert.specs.declared.claim.CheckedSuffix.{CheckedSuffix}
 use Rattle.pef_cert.specs.declared.runs.TestedState.{TestedState}
 use Rattle.pef_cert.specs.Labels.{Labels, class_of}
 use Rattle.pef_cert.specs.Feasible.{FeasibleAt, FeasibleFrom}
-use Rattle.pef_cert.specs.Kept.Claims.{PairsMet, RowMet, Tests, label_behind, labels_claimed}
+use Rattle.pef_cert.specs.Kept.Claims.{PairsMet, RowMet, Tests, label_after, labels_claimed}
 use Rattle.pef_cert.specs.Kept.Tests.{adds_first}
 use Rattle.pef_cert.specs.LabelTests.{adds_test, numbered_test, pairs_test, row_test, second_test}
 use Rattle.pef_cert.proofs.ClaimLemmas.{label_there}
@@ -34,8 +34,8 @@ feasible-later l index (g ∷ fixups) (suc from) (suc j) f beyond after e =
     (feasible-later l (index_past g.base index) fixups from j f beyond (omega (arith, after)) e)
 
 -- the tests that hold for a label after the tested one
-tests_behind : (b : CheckedSuffix) (t : TestedState) (j : ℕ) (g : Fixup) → Tests b t → t.at < j → slice_get b.claim.fixups.now j ≡ Some g → adds_test (labels_claimed b.claim) (index_after (take j b.claim.fixups.now) 0) g (drop (j + 1) b.claim.fixups.now) t.c t.d ≡ true
-tests_behind b t j g tests after e =
+tests_after : (b : CheckedSuffix) (t : TestedState) (j : ℕ) (g : Fixup) → Tests b t → t.at < j → slice_get b.claim.fixups.now j ≡ Some g → adds_test (labels_claimed b.claim) (index_after (take j b.claim.fixups.now) 0) g (drop (j + 1) b.claim.fixups.now) t.c t.d ≡ true
+tests_after b t j g tests after e =
     let fixups = b.claim.fixups.now in
     let feasible = feasible-later (labels_claimed b.claim) 0 fixups (t.at + 1) j g tests.beyond (omega (arith, after)) e in
     let needed = needed_of b.claim j (index_after (take j fixups) 0) g tests.knows.shaped e feasible in
@@ -45,15 +45,15 @@ tests_behind b t j g tests after e =
 abbrev label_added : CheckedSuffix → TestedState → ℕ → ℕ → Base → ℕ
 label_added b t j p base = (labels_claimed b.claim).label (length (added p base ∷ drop (j + 1) b.claim.fixups.now)) t.c t.d
 
-section_behind : (b : CheckedSuffix) (t : TestedState) (j p k : ℕ) → Tests b t → t.at < j → adds_first p (Section k) (drop j b.claim.fixups.now) ≡ true → SectionTests (labels_claimed b.claim) (label_added b t j p (Section k)) k (added p (Section k)) (drop (j + 1) b.claim.fixups.now) t.c t.d
-section_behind b t j p k tests after adds =
+section_after : (b : CheckedSuffix) (t : TestedState) (j p k : ℕ) → Tests b t → t.at < j → adds_first p (Section k) (drop j b.claim.fixups.now) ≡ true → SectionTests (labels_claimed b.claim) (label_added b t j p (Section k)) k (added p (Section k)) (drop (j + 1) b.claim.fixups.now) t.c t.d
+section_after b t j p k tests after adds =
     let fixups = b.claim.fixups.now in
     let e = added_there fixups j p (Section k) adds in
-    section_tests (labels_claimed b.claim) (label_added b t j p (Section k)) (index_after (take j fixups) 0) k (added p (Section k)) (drop (j + 1) fixups) t.c t.d (tests_behind b t j (added p (Section k)) tests after e)
+    section_tests (labels_claimed b.claim) (label_added b t j p (Section k)) (index_after (take j fixups) 0) k (added p (Section k)) (drop (j + 1) fixups) t.c t.d (tests_after b t j (added p (Section k)) tests after e)
 
 -- runs of a section that a register holds
-row_behind : (b : CheckedSuffix) (t : TestedState) (j p k w : ℕ) → adds_first p (Section k) (drop j b.claim.fixups.now) ≡ true → row_test (labels_claimed b.claim) (label_added b t j p (Section k)) w (Section k) t.c t.d 512 p (added p (Section k) ∷ drop (j + 1) b.claim.fixups.now) ≡ true → row_test (labels_claimed b.claim) (label_behind b t j) w (Section k) t.c t.d 512 p (drop j b.claim.fixups.now) ≡ true
-row_behind b t j p k w adds met =
+row_after : (b : CheckedSuffix) (t : TestedState) (j p k w : ℕ) → adds_first p (Section k) (drop j b.claim.fixups.now) ≡ true → row_test (labels_claimed b.claim) (label_added b t j p (Section k)) w (Section k) t.c t.d 512 p (added p (Section k) ∷ drop (j + 1) b.claim.fixups.now) ≡ true → row_test (labels_claimed b.claim) (label_after b t j) w (Section k) t.c t.d 512 p (drop j b.claim.fixups.now) ≡ true
+row_after b t j p k w adds met =
     let l = labels_claimed b.claim in
     let fixups = b.claim.fixups.now in
     let e = added_there fixups j p (Section k) adds in
@@ -61,23 +61,23 @@ row_behind b t j p k w adds met =
 
 pub words-met : (b : CheckedSuffix) (t : TestedState) (k class : ℕ) → Tests b t → class ≡ class_of b.claim.registers.now k → (class == t.c || class == t.d) ≡ true → RowMet b t 4 (Section k)
 words-met b t k class tests is either = λ j p after adds.
-    let behind = section_behind b t j p k tests after adds in
-    row_behind b t j p k 4 adds (behind.words (subst (λ (n : ℕ). (n == t.c || n == t.d) ≡ true) is either))
+    let behind = section_after b t j p k tests after adds in
+    row_after b t j p k 4 adds (behind.words (subst (λ (n : ℕ). (n == t.c || n == t.d) ≡ true) is either))
 
 pub spaced-met : (b : CheckedSuffix) (t : TestedState) (k class : ℕ) → Tests b t → class ≡ class_of b.claim.registers.now k → class ≡ t.d → RowMet b t 8 (Section k)
 spaced-met b t k class tests is in_d = λ j p after adds.
-    let behind = section_behind b t j p k tests after adds in
-    row_behind b t j p k 8 adds (behind.spaced (eq-eqb (class_of b.claim.registers.now k) t.d (sym is ∙ in_d)))
+    let behind = section_after b t j p k tests after adds in
+    row_after b t j p k 8 adds (behind.spaced (eq-eqb (class_of b.claim.registers.now k) t.d (sym is ∙ in_d)))
 
 -- runs of pairs of sections
-pairs_behind : (b : CheckedSuffix) (t : TestedState) (j p k i : ℕ) → Tests b t → t.at < j → class_of b.claim.registers.now k ≡ t.c → class_of b.claim.registers.now i ≡ t.d → (adds_first p (Section k) (drop j b.claim.fixups.now) && adds_first (p + 4) (Section i) (drop (j + 1) b.claim.fixups.now)) ≡ true → PairTests (labels_claimed b.claim) (label_behind b t j) k i t.c t.d p (drop j b.claim.fixups.now)
-pairs_behind b t j p k i tests after in_c in_d adds =
+pairs_after : (b : CheckedSuffix) (t : TestedState) (j p k i : ℕ) → Tests b t → t.at < j → class_of b.claim.registers.now k ≡ t.c → class_of b.claim.registers.now i ≡ t.d → (adds_first p (Section k) (drop j b.claim.fixups.now) && adds_first (p + 4) (Section i) (drop (j + 1) b.claim.fixups.now)) ≡ true → PairTests (labels_claimed b.claim) (label_after b t j) k i t.c t.d p (drop j b.claim.fixups.now)
+pairs_after b t j p k i tests after in_c in_d adds =
     let l = labels_claimed b.claim in
     let fixups = b.claim.fixups.now in
     let both = and_parts (adds_first p (Section k) (drop j fixups)) (adds_first (p + 4) (Section i) (drop (j + 1) fixups)) adds in
     let e = added_there fixups j p (Section k) both.0 in
     let next = drop-here fixups (j + 1) (added (p + 4) (Section i)) (added_there fixups (j + 1) (p + 4) (Section i) both.1) in
-    let behind = section_behind b t j p k tests after both.0 in
+    let behind = section_after b t j p k tests after both.0 in
     let met = behind.second (eq-eqb (class_of b.claim.registers.now k) t.c in_c) in
     let there = subst (λ (fs : List Fixup). second_test l (label_added b t j p (Section k)) k t.c t.d (added p (Section k)) fs ≡ true) next met in
     let two = pair_tests l (label_added b t j p (Section k)) k i t.c t.d p (added p (Section k) ∷ added (p + 4) (Section i) ∷ drop (j + 1 + 1) fixups) (eq-eqb (class_of b.claim.registers.now i) t.d in_d) there in
@@ -86,18 +86,18 @@ pairs_behind b t j p k i tests after in_c in_d adds =
     (subst (λ (fs : List Fixup). PairTests l (label_added b t j p (Section k)) k i t.c t.d p fs) (sym whole) two)
 
 pub near-met : (b : CheckedSuffix) (t : TestedState) (k i : ℕ) → Tests b t → class_of b.claim.registers.now k ≡ t.c → class_of b.claim.registers.now i ≡ t.d → PairsMet b t 8 (Section k) (Section i)
-near-met b t k i tests in_c in_d = λ j p after adds. (pairs_behind b t j p k i tests after in_c in_d adds).near
+near-met b t k i tests in_c in_d = λ j p after adds. (pairs_after b t j p k i tests after in_c in_d adds).near
 
 pub far-met : (b : CheckedSuffix) (t : TestedState) (k i : ℕ) → Tests b t → class_of b.claim.registers.now k ≡ t.c → class_of b.claim.registers.now i ≡ t.d → PairsMet b t 12 (Section k) (Section i)
-far-met b t k i tests in_c in_d = λ j p after adds. (pairs_behind b t j p k i tests after in_c in_d adds).far
+far-met b t k i tests in_c in_d = λ j p after adds. (pairs_after b t j p k i tests after in_c in_d adds).far
 
 -- runs of imports
-pub imports-met : (b : CheckedSuffix) (t : TestedState) (j p m : ℕ) → Tests b t → t.at < j → m ≡ index_after (take j b.claim.fixups.now) 0 → adds_first p (Import m) (drop j b.claim.fixups.now) ≡ true → numbered_test (labels_claimed b.claim) (label_behind b t j) t.c t.d 512 p m (drop j b.claim.fixups.now) ≡ true
+pub imports-met : (b : CheckedSuffix) (t : TestedState) (j p m : ℕ) → Tests b t → t.at < j → m ≡ index_after (take j b.claim.fixups.now) 0 → adds_first p (Import m) (drop j b.claim.fixups.now) ≡ true → numbered_test (labels_claimed b.claim) (label_after b t j) t.c t.d 512 p m (drop j b.claim.fixups.now) ≡ true
 imports-met b t j p m tests after index adds =
     let l = labels_claimed b.claim in
     let fixups = b.claim.fixups.now in
     let e = added_there fixups j p (Import m) adds in
-    let behind = import_tests l (label_added b t j p (Import m)) (index_after (take j fixups) 0) m (added p (Import m)) (drop (j + 1) fixups) t.c t.d (tests_behind b t j (added p (Import m)) tests after e) in
+    let behind = import_tests l (label_added b t j p (Import m)) (index_after (take j fixups) 0) m (added p (Import m)) (drop (j + 1) fixups) t.c t.d (tests_after b t j (added p (Import m)) tests after e) in
     ap₂ (λ n fs. numbered_test l n t.c t.d 512 p m fs) (label_there l fixups j (added p (Import m)) t.c t.d e) (drop-here fixups j (added p (Import m)) e)
     ∙ behind.imports (eq-eqb m (index_after (take j fixups) 0) index)
 

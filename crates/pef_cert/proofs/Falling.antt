@@ -32,9 +32,9 @@ world-first l index f rest w = record { numbers = w.numbers; here = w.registered
 pub world-next : (l : Labels) (index : ℕ) (f : Fixup) (rest : List Fixup) → World l index (f ∷ rest) → World l (index_past f.base index) rest
 world-next l index f rest w = record { numbers = w.numbers; registered = w.registered.1; feasible = w.feasible.1 }
 
-pub world-behind : (l : Labels) (index : ℕ) (made left : List Fixup) → World l index (made ++ left) → World l (index_after made index) left
-world-behind l index [] left w = w
-world-behind l index (f ∷ made) left w = world-behind l (index_past f.base index) made left (world-next l index f (made ++ left) w)
+pub world-after : (l : Labels) (index : ℕ) (made left : List Fixup) → World l index (made ++ left) → World l (index_after made index) left
+world-after l index [] left w = w
+world-after l index (f ∷ made) left w = world-after l (index_past f.base index) made left (world-next l index f (made ++ left) w)
 
 -- a move
 moved_by : (l : Labels) (f : Fixup) (rest : List Fixup) (index p e c d x : ℕ) → Stands l index f rest → c < classes l → d < classes l → e ≤ 4096 → p ≢ f.offset → p + e ≢ f.offset → Moved (f.offset - (p + e)) (l.label (length (f ∷ rest)) c d) (offer_at l f rest c d) x → extension l (f ∷ rest) p c d ≤ 1 + x
@@ -180,4 +180,4 @@ falls l x s (f ∷ rest) left w flat delivers = falling l x s f rest left (world
 pub world_left : (l : Labels) (x : Instr) (s : State) (fixups left : List Fixup) → World l s.import_index fixups → Delivers x s fixups left → World l (next_state x s).import_index left
 world_left l x s fixups left w delivers =
     subst (λ (index : ℕ). World l index left) (sym (index_kept x s))
-    (world-behind l s.import_index (additions x s) left (subst (λ (fs : List Fixup). World l s.import_index fs) delivers.is w))
+    (world-after l s.import_index (additions x s) left (subst (λ (fs : List Fixup). World l s.import_index fs) delivers.is w))

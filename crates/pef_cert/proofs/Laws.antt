@@ -21,7 +21,7 @@ pub use Rattle.pef_cert.proofs.LabelFacts.{base_counts}
 -- registers that rise below a number are at most this many
 pub use Rattle.pef_cert.proofs.ClaimLemmas.{few_rising}
 -- the import index after one more fixup
-pub use Rattle.pef_cert.proofs.AdditionLemmas.{index_behind}
+pub use Rattle.pef_cert.proofs.AdditionLemmas.{index_later}
 -- The extension.
 -- it is 0 after the last fixup
 pub use Rattle.pef_cert.proofs.ExtensionLemmas.{extension-end}

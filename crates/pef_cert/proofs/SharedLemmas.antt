@@ -18,7 +18,7 @@ use Rattle.pef_cert.specs.declared.feasible.TestedFixup.{TestedFixup}
 use Rattle.pef_cert.specs.declared.runs.TestedState.{TestedState}
 use Rattle.pef_cert.specs.Extension.{extension}
 use Rattle.pef_cert.specs.Labels.{Labels, class_of}
-use Rattle.pef_cert.specs.Kept.Claims.{GoesOn, SharesRow, Tests, UnderTest, label_behind, labels_claimed, row_at, state_of}
+use Rattle.pef_cert.specs.Kept.Claims.{GoesOn, SharesRow, Tests, UnderTest, label_after, labels_claimed, row_at, state_of}
 use Rattle.pef_cert.specs.Kept.Sets.{RowHolds}
 use Rattle.pef_cert.specs.Kept.Tests.{AllSingles, AllTests, adds_first, label_of}
 use Rattle.pef_cert.specs.LabelTests.{SetsHold, import_cost, numbered_test, pair_test, row_test, second_test}
@@ -107,7 +107,7 @@ words_shared b u k c d under on under_c under_d either =
     let same = shared_label b u c d under on.shares in
     let low = near_low b u (Section k) c d under on in
     row_test-first l label 4 (Section k) c d 511 u.fixup.offset u.fixup rest (omega (arith, low))
-    (row_test-weaker l label (label_behind b t (u.at + 1)) 4 (Section k) c d 511 512 (u.fixup.offset + 4) rest (omega (arith, same)) (omega arith) met)
+    (row_test-weaker l label (label_after b t (u.at + 1)) 4 (Section k) c d 511 512 (u.fixup.offset + 4) rest (omega (arith, same)) (omega arith) met)
 
 not_added : (p q : ℕ) (b b' : Base) (more : List Fixup) → q ≢ p → adds_first p b (added q b' ∷ more) ≡ false
 not_added p q b b' more apart = rw (ne_eqb q p apart) refl
@@ -182,7 +182,7 @@ imports_shared b u m c d under base on under_c under_d =
     let same = shared_label b u c d under on.shares in
     let low = near_low b u (Import (m + 1)) c d under on in
     numbered_test-first l label c d 511 u.fixup.offset m u.fixup rest (omega (arith, low))
-    (numbered_test-weaker l label (label_behind b t (u.at + 1)) c d 511 512 (u.fixup.offset + 4) (m + 1) rest (omega (arith, same)) (omega arith) met)
+    (numbered_test-weaker l label (label_after b t (u.at + 1)) c d 511 512 (u.fixup.offset + 4) (m + 1) rest (omega (arith, same)) (omega arith) met)
 
 pub next-holds : (b : CheckedSuffix) (u : TestedFixup) (m index : ℕ) → UnderTest b u → u.fixup.base ≡ Import m → GoesOn b u (Import (m + 1)) → AllTests (labels_claimed b.claim) index u.fixup (drop (u.at + 1) b.claim.fixups.now)
 next-holds b u m index under base on =

@@ -15,7 +15,7 @@ use Rattle.pef_cert.specs.Fixups.Additions.{same_base}
 use Rattle.pef_cert.specs.Kept.Tests.{adds_first}
 use Rattle.pef_cert.proofs.ClassLemmas.{class_of-same}
 use Rattle.pef_cert.proofs.ExtensionLemmas.{extension-end, skip-is, skip-most, skips-is}
-use Rattle.pef_cert.proofs.Falling.{World, world-behind, world-first}
+use Rattle.pef_cert.proofs.Falling.{World, world-after, world-first}
 use Rattle.pef_cert.proofs.LabelFacts.{Offered, extension-set_c, offer-is, offer-most, skip_has}
 use Rattle.pef_cert.proofs.MinimaLemmas.{AtMost, at_most-weaker}
 
@@ -24,9 +24,9 @@ any-set_c : (l : Labels) (index : ℕ) (fixups : List Fixup) (p c c' d : ℕ) �
 any-set_c l index [] p c c' d w under under' under_d = let none = extension-end l p c d in omega (arith, none)
 any-set_c l index (f ∷ rest) p c c' d w under under' under_d = extension-set_c l index f rest p c c' d (world-first l index f rest w) under under' under_d
 
-words_behind : (f : Fixup) (rest left : List Fixup) (n p k : ℕ) → f ∷ rest ≡ row (suc n) p 4 (Section k) ++ left → rest ≡ row n (p + 4) 4 (Section k) ++ left
+words_after : (f : Fixup) (rest left : List Fixup) (n p k : ℕ) → f ∷ rest ≡ row (suc n) p 4 (Section k) ++ left → rest ≡ row n (p + 4) 4 (Section k) ++ left
 unfolding row
-words_behind f rest left n p k e = cc
+words_after f rest left n p k e = cc
 
 -- the value of a skip with another register C is at most 1 less
 skip-set_c : (l : Labels) (index : ℕ) (f : Fixup) (rest : List Fixup) (c c' k x : ℕ) → World l index rest → class_of l.registers k < length l.registers → c < classes l → c' < classes l → skips_at l f rest c' (class_of l.registers k) ≡ Some x → AtMost (skips_at l f rest c (class_of l.registers k)) (1 + x)
@@ -34,8 +34,8 @@ skip-set_c l index f rest c c' k x w counts under under' e =
     let d : ℕ = class_of l.registers k in
     let s = skip-is l 63 f.offset c' d k x (f ∷ rest) refl counts e in
     let few = s.under in
-    let behind : rest ≡ row s.count (f.offset + 4) 4 (Section k) ++ s.left = words_behind f rest s.left s.count f.offset k s.words in
-    let there = world-behind l index (row s.count (f.offset + 4) 4 (Section k)) s.left (subst (λ (fs : List Fixup). World l index fs) behind w) in
+    let behind : rest ≡ row s.count (f.offset + 4) 4 (Section k) ++ s.left = words_after f rest s.left s.count f.offset k s.words in
+    let there = world-after l index (row s.count (f.offset + 4) 4 (Section k)) s.left (subst (λ (fs : List Fixup). World l index fs) behind w) in
     let low = any-set_c l _ s.left (f.offset + 4 * suc s.count) c c' d there under under' (omega (arith, counts)) in
     at_most-weaker (skips_at l f rest c d) (1 + extension l s.left (f.offset + 4 * suc s.count) c d) (1 + x)
     (skip-most l 63 f.offset c d k s.count (f ∷ rest) s.left few refl s.words)

@@ -2,7 +2,7 @@
 use Rattle.std.proofs.Common.{◌≡◌, ℕ, ◌+◌, ◌≤◌, ◌<◌, true, List, [], ◌∷◌, length, refl, ap, sym, ◌∙◌, subst, arith, Some}
 use Rattle.pef_reloc.specs.declared.fixup.Fixup.{Fixup}
 use Rattle.pef_reloc.specs.declared.instr.Instr.{Instr}
-use Rattle.pef_reloc.specs.Deliveries.{Delivers, MakesFrom, StandsBehind, index_after, is_flat_instr}
+use Rattle.pef_reloc.specs.Deliveries.{Delivers, MakesFrom, StandsAfter, index_after, is_flat_instr}
 use Rattle.pef_reloc.specs.Fixups.{fixups_fit}
 use Rattle.pef_reloc.specs.Instrs.{instr_length, program_length}
 use Rattle.pef_reloc.specs.Steps.{Least, State, is_flat, next_state, start}
@@ -14,7 +14,7 @@ use Rattle.pef_cert.specs.Certified.{Certified}
 use Rattle.pef_cert.specs.Valid.{RegistersOf, Trusted, Valid, labels_of}
 use Rattle.pef_cert.proofs.ClassLemmas.{all_registered, numbers}
 use Rattle.pef_cert.proofs.ExtensionLemmas.{extension-end}
-use Rattle.pef_cert.proofs.Falling.{World, falls, world-behind, world-first, world_left}
+use Rattle.pef_cert.proofs.Falling.{World, falls, world-after, world-first, world_left}
 use Rattle.pef_cert.proofs.LabelFacts.{Stands, extension-label, extension-set_c, extension-set_d, label-extension, label-offer}
 
 -- from a state at which labels are in order, no flat list that makes the fixups has fewer halfwords than the
@@ -39,10 +39,10 @@ whole_world l fixups fit registers feasible = record {
 }
 
 -- and from each one on
-pub trusted_world : (l : Labels) (fixups made left : List Fixup) (s : State) → Trusted l fixups made left → StandsBehind made s → World l s.import_index left
+pub trusted_world : (l : Labels) (fixups made left : List Fixup) (s : State) → Trusted l fixups made left → StandsAfter made s → World l s.import_index left
 trusted_world l fixups made left s t behind =
     subst (λ (index : ℕ). World l index left) (sym behind.index)
-    (world-behind l 0 made left (subst (λ (fs : List Fixup). World l 0 fs) t.parts (whole_world l fixups t.fit t.registers t.feasible)))
+    (world-after l 0 made left (subst (λ (fs : List Fixup). World l 0 fs) t.parts (whole_world l fixups t.fit t.registers t.feasible)))
 
 -- a valid certificate's program is least
 pub valid-least : (fixups : List Fixup) (c : Certified) → fixups_fit fixups ≡ true → Valid fixups c → Least fixups c.program
@@ -62,7 +62,7 @@ unfolding behind
 trusted_stands l fixups made rest f t = world-first l (index_after made 0) f rest (trusted_world l fixups made (f ∷ rest) (behind made) t (record { index = refl }))
 
 -- the facts from which the extension's fall follows
-pub trusted-falls : (l : Labels) (fixups made rest left : List Fixup) (s : State) (x : Instr) → Trusted l fixups made rest → StandsBehind made s → is_flat_instr x ≡ true → Delivers x s rest left → extension_at l rest s ≤ instr_length x + extension_at l left (next_state x s)
+pub trusted-falls : (l : Labels) (fixups made rest left : List Fixup) (s : State) (x : Instr) → Trusted l fixups made rest → StandsAfter made s → is_flat_instr x ≡ true → Delivers x s rest left → extension_at l rest s ≤ instr_length x + extension_at l left (next_state x s)
 trusted-falls l fixups made rest left s x t at flat delivers = falls l x s rest left (trusted_world l fixups made rest s t at) flat delivers
 
 pub trusted-offer : (l : Labels) (fixups made rest : List Fixup) (f : Fixup) (c d x : ℕ) → Trusted l fixups made (f ∷ rest) → c < classes l → d < classes l → offer_at l f rest c d ≡ Some x → l.label (length (f ∷ rest)) c d ≤ x

@@ -38,13 +38,13 @@ added_there (f ∷ fixups) zero p b e = ap Some (is_added-is p b f e)
 added_there (f ∷ fixups) (suc j) p b e = added_there fixups j p b e
 
 -- the end of the word of a fixup
-pub word_end-behind : (fixups : List Fixup) (at : ℕ) (f : Fixup) → slice_get fixups at ≡ Some f → word_end fixups (at + 1) ≡ f.offset + 4
-word_end-behind fixups at f e =
+pub word_end-after : (fixups : List Fixup) (at : ℕ) (f : Fixup) → slice_get fixups at ≡ Some f → word_end fixups (at + 1) ≡ f.offset + 4
+word_end-after fixups at f e =
     let step : at + 1 ≡ suc at = omega arith in
     ap (word_end fixups) step ∙ ap (λ o. option_map_or (λ (g : Fixup). g.offset + 4) o 0) e
 
 pub word_end-added : (fixups : List Fixup) (at p : ℕ) (b : Base) → adds_first p b (drop at fixups) ≡ true → word_end fixups (at + 1) ≡ p + 4
-word_end-added fixups at p b e = word_end-behind fixups at (added p b) (added_there fixups at p b e)
+word_end-added fixups at p b e = word_end-after fixups at (added p b) (added_there fixups at p b e)
 
 pub word_end-pair : (fixups : List Fixup) (at p : ℕ) (b b' : Base) → true ≡ (adds_first p b (drop at fixups) && adds_first (p + 4) b' (drop (at + 1) fixups)) → word_end fixups (at + 2) ≡ p + 8
 word_end-pair fixups at p b b' e =

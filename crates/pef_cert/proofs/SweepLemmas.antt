@@ -25,7 +25,7 @@ use Rattle.pef_cert.specs.Valid.{labels_in}
 use Rattle.pef_cert.specs.Kept.Claims.{IsRowOf, KnownAt, Shaped, SkipsAre, SkipsKept, Swept, labels_claimed, rows_before, word_end}
 use Rattle.pef_cert.specs.Rows.{RowsFull, rows_from}
 use Rattle.pef_cert.specs.Kept.Sets.{RowIsZero}
-use Rattle.pef_cert.proofs.AdditionLemmas.{index_behind}
+use Rattle.pef_cert.proofs.AdditionLemmas.{index_later}
 use Rattle.pef_cert.proofs.Bounds.{extension-small}
 use Rattle.pef_cert.proofs.ClaimLemmas.{get_under, place_under}
 use Rattle.pef_cert.proofs.ClassLemmas.{RegisteredBase, all_registered, class_of-below, numbers}
@@ -158,7 +158,7 @@ pub index_next : (fixups : List Fixup) (at : ℕ) (f : Fixup) → slice_get fixu
 index_next fixups at f e =
     let under = get_under fixups at f e in
     let is = got_is fixups at f e in
-    index_behind fixups at f under ∙ ap (λ (g : Fixup). index_past g.base (index_after (take at fixups) 0)) is
+    index_later fixups at f under ∙ ap (λ (g : Fixup). index_past g.base (index_after (take at fixups) 0)) is
   where
     some_same : (f g : Fixup) → Some f ≡ Some g → f ≡ g
     some_same f g e = cc

@@ -3,5 +3,5 @@
 mod additions;
 mod walk;
 
-pub use additions::{WORD, adds_at, behind_first, behind_import};
+pub use additions::{WORD, adds_at, after_first, after_import};
 pub use walk::{makes, program_length};

@@ -1,7 +1,7 @@
 ghost use Rattle.std.specs.Prelude.{◌≡◌, ◌+◌, ◌*◌, ◌<◌, ◌≤◌, MatchOption, ◌-◌, drop, take, slice_get, length};
 ghost use Rattle.pef_cert.specs.Extension.{extension_at};
 ghost use Rattle.pef_cert.specs.Feasible.{Feasible};
-ghost use Rattle.pef_cert.specs.Kept.Claims.{FeasibleBehind, IsRowOf, Knows, Shaped, Skips, SkipsAre, labels_claimed, word_end};
+ghost use Rattle.pef_cert.specs.Kept.Claims.{FeasibleAfter, IsRowOf, Knows, Shaped, Skips, SkipsAre, labels_claimed, word_end};
 ghost use Rattle.pef_cert.specs.Kept.Sets.{RowIsZero};
 ghost use Rattle.pef_cert.specs.Fixups.Answers.{Says};
 ghost use Rattle.pef_reloc.specs.Steps.{start};
@@ -97,7 +97,7 @@ impl<'a> CheckedSuffix<'a> {
     fn skips_after_gap(self, at: usize, fixup: Fixup) -> Option<[u32; MAX_CLASSES]>
         requires knows { Knows self (at + 1) }
         requires here { slice_get self.claim.fixups.now at ≡ Some fixup }
-        requires beyond { FeasibleBehind self.claim at }
+        requires beyond { FeasibleAfter self.claim at }
         ensures { MatchOption result (fixup.offset ≤ word_end self.entry.claim.fixups.now at) (λ least. SkipsAre self.entry.claim fixup (drop (at + 1) self.entry.claim.fixups.now) least) }
     {
         if u64::from(fixup.offset) <= self.claim.word_end(at) {
@@ -110,7 +110,7 @@ impl<'a> CheckedSuffix<'a> {
     fn least_skips(self, at: usize, fixup: Fixup) -> [u32; MAX_CLASSES]
         requires knows { Knows self (at + 1) }
         requires here { slice_get self.claim.fixups.now at ≡ Some fixup }
-        requires beyond { FeasibleBehind self.claim at }
+        requires beyond { FeasibleAfter self.claim at }
         ensures { SkipsAre self.entry.claim fixup (drop (at + 1) self.entry.claim.fixups.now) result }
     {
         match fixup.base {

@@ -4,7 +4,7 @@ ghost use Rattle.pef_cert.specs.Extension.{at_offset, extension, extension_at, m
 ghost use Rattle.pef_cert.specs.Labels.{Labels, classes};
 ghost use Rattle.pef_cert.specs.Certified.{Certified};
 ghost use Rattle.pef_cert.specs.Valid.{Trusted, Valid};
-ghost use Rattle.pef_reloc.specs.Deliveries.{Delivers, StandsBehind, is_flat_instr};
+ghost use Rattle.pef_reloc.specs.Deliveries.{Delivers, StandsAfter, is_flat_instr};
 ghost use Rattle.pef_reloc.specs.Fixups.{fixups_fit};
 ghost use Rattle.pef_reloc.specs.Instrs.{instr_length};
 ghost use Rattle.pef_reloc.specs.Steps.{Least, State, next_state};
@@ -21,7 +21,7 @@ pub fn extension_of_labels()
 /// instruction that fits, isn't a repeat and adds exactly the next fixups, one or more or none. This
 /// holds at every position and at every register value.
 pub fn extensions_fall()
-    ensures { (l : Labels) (fixups made rest left : List Fixup) (s : State) (instr : Instr) → Trusted l fixups made rest → StandsBehind made s → is_flat_instr instr ≡ true → Delivers instr s rest left → extension_at l rest s ≤ instr_length instr + extension_at l left (next_state instr s) }
+    ensures { (l : Labels) (fixups made rest left : List Fixup) (s : State) (instr : Instr) → Trusted l fixups made rest → StandsAfter made s → is_flat_instr instr ≡ true → Delivers instr s rest left → extension_at l rest s ≤ instr_length instr + extension_at l left (next_state instr s) }
 {}
 
 /// The facts that this needs: a label is at most every offer, and so at most the extension from every

@@ -72,8 +72,8 @@ pub regular_counts : (t : ExportTable) (s word i key : ℕ) → IsRegular t → 
 regular_counts t s word i key regular there is here = (regular.delimited s word i there).1 (record { key = key; is = is; here = here })
 
 -- an earlier slot of a regular table counts earlier places
-pub counted_behind : (t : ExportTable) (s word i e : ℕ) → IsRegular t → IsCountedBefore t s e → slot_word_of t s ≡ Some word → IsCounted word i → e < i
-counted_behind t s word i e regular b there counted =
+pub counted_after : (t : ExportTable) (s word i e : ℕ) → IsRegular t → IsCountedBefore t s e → slot_word_of t s ≡ Some word → IsCounted word i → e < i
+counted_after t s word i e regular b there counted =
     let here = (regular.delimited s word i there).0 counted in
     let last = (regular.delimited b.r b.word e b.is).0 b.counted in
     let before = b.before in
@@ -96,11 +96,11 @@ counted_behind t s word i e regular b there counted =
     ]
 
 -- the places of a slot that counts some begin at or after an end, and end inside
-pub begins_behind : (t : ExportTable) (s word end : ℕ) → IsSearchable t → IsEndOf t s end → slot_word_of t s ≡ Some word → 0 < slot_count word → end ≤ slot_first word
-begins_behind t s word zero sought ends there some = omega arith
-begins_behind t s word (suc e) sought ends there some =
+pub begins_after : (t : ExportTable) (s word end : ℕ) → IsSearchable t → IsEndOf t s end → slot_word_of t s ≡ Some word → 0 < slot_count word → end ≤ slot_first word
+begins_after t s word zero sought ends there some = omega arith
+begins_after t s word (suc e) sought ends there some =
     let counted : IsCounted word (slot_first word) = record { low = omega arith; high = omega arith } in
-    let behind = counted_behind t s word (slot_first word) e sought.regular (ends e (omega arith)) there counted in
+    let behind = counted_after t s word (slot_first word) e sought.regular (ends e (omega arith)) there counted in
     omega arith
 
 pub ends_inside : (t : ExportTable) (s word : ℕ) → IsSearchable t → slot_word_of t s ≡ Some word → 0 < slot_count word → slot_first word + slot_count word ≤ t.count

@@ -8,7 +8,7 @@ use Rattle.std.proofs.lemmas.List.{get_or-append-add}
 use Rattle.pef_hash.specs.Word.{slot}
 use Rattle.pef_hash.specs.Build.{count_before, count_in, in_slot, in_slots, slot_words}
 use Rattle.pef_hash.specs.Exports.{slot_word}
-use Rattle.pef_hash.proofs.SlotLists.{at_drop, drop_behind}
+use Rattle.pef_hash.proofs.SlotLists.{at_drop, drop_after}
 
 -- a place that a slot lists is that of a word in the slot
 pub record IsInSlot (power s from j : ℕ) (all : List ℕ) : Type 0 where
@@ -37,7 +37,7 @@ pub in_slot-member : (power s from k : ℕ) (all words : List ℕ) → drop from
 in_slot-member power s from k all [] is under = absurd (omega arith)
 in_slot-member power s from k all (w ∷ words) is under =
     let at = at_drop all words w from is in
-    let next = drop_behind all words w from is in
+    let next = drop_after all words w from is in
     let inside = below_end all words w from is in
     elim (eqb_tells (slot w power) s) [
       | inl same ↦ rw same.0 (member_first power s from k w all (in_slot power s (from + 1) words) inside (rw at same.1) (rw same.0 at under) (λ n less. in_slot-member power s (from + 1) n all words next less))
@@ -155,7 +155,7 @@ listed power s from j all [] is low high here =
     let clash = sym is ∙ more in
     absurd (cc)
 listed power s from j all (w ∷ words) is low high here =
-    let next = drop_behind all words w from is in
+    let next = drop_after all words w from is in
     elim (eqb_tells from j) [
       | inl same ↦ (
           let at_j : from ≡ j = same.1 in

@@ -18,8 +18,8 @@ drop_suc [] rest x (suc i) is = absurd (cc)
 drop_suc (y ∷ xs) rest x zero is = cc
 drop_suc (y ∷ xs) rest x (suc i) is = drop_suc xs rest x i is
 
-pub drop_behind : (xs rest : List ℕ) (x i : ℕ) → drop i xs ≡ x ∷ rest → drop (i + 1) xs ≡ rest
-drop_behind xs rest x i is = rw add-one (drop_suc xs rest x i is)
+pub drop_after : (xs rest : List ℕ) (x i : ℕ) → drop i xs ≡ x ∷ rest → drop (i + 1) xs ≡ rest
+drop_after xs rest x i is = rw add-one (drop_suc xs rest x i is)
 
 -- the item where the rest begins
 pub at_drop : (xs rest : List ℕ) (x i : ℕ) → drop i xs ≡ x ∷ rest → get_or xs i 0 ≡ x
@@ -45,7 +45,7 @@ first_in-slot power s from all [] is under =
     absurd (cc)
 first_in-slot power s from all (w ∷ words) is under =
     let at = at_drop all words w from is in
-    let later = first_in-slot power s (from + 1) all words (drop_behind all words w from is) in
+    let later = first_in-slot power s (from + 1) all words (drop_after all words w from is) in
     elim (eqb_tells (slot w power) s) [
       | inl same ↦ rw (same.0, at) same.1
       | inr other ↦ rw other.0 (later (rw other.0 at under))
@@ -55,7 +55,7 @@ first_in-slot power s from all (w ∷ words) is under =
 pub in_slot-first : (power s from : ℕ) (all words : List ℕ) → drop from all ≡ words → in_slot power s from words ≡ in_slot power s (first_in power s from words) (drop (first_in power s from words) all)
 in_slot-first power s from all [] is = rw is refl
 in_slot-first power s from all (w ∷ words) is =
-    let later = in_slot-first power s (from + 1) all words (drop_behind all words w from is) in
+    let later = in_slot-first power s (from + 1) all words (drop_after all words w from is) in
     elim (eqb_tells (slot w power) s) [
       | inl same ↦ rw (same.0, is, same.0) refl
       | inr other ↦ rw other.0 later

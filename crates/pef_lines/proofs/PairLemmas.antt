@@ -11,16 +11,16 @@ use Rattle.pef_lines.specs.Kept.Pairs.{is_hex}
 use Rattle.pef_lines.specs.Views.{bytes_of_pairs, digit_value}
 
 -- without the bytes after it, a pair is none
-none_behind : (pair : Option ℕ) → option_and_then (λ byte. option_map (λ bytes. byte ∷ bytes) None) pair ≡ None
-none_behind None = refl
-none_behind (Some byte) = refl
+none_after : (pair : Option ℕ) → option_and_then (λ byte. option_map (λ bytes. byte ∷ bytes) None) pair ≡ None
+none_after None = refl
+none_after (Some byte) = refl
 
 -- an odd number of digits spells nothing
 pub pairs_of-odd : (k : ℕ) (digits : List ℕ) → length digits ≡ 2 * k + 1 → hex_bytes digits ≡ None
 pairs_of-odd k [] odd = absurd (omega arith)
 pairs_of-odd k (high ∷ []) odd = refl
 pairs_of-odd zero (high ∷ low ∷ digits) odd = absurd (omega arith)
-pairs_of-odd (suc k) (high ∷ low ∷ digits) odd = rw (pairs_of-odd k digits (omega arith)) (none_behind (hex_byte high low))
+pairs_of-odd (suc k) (high ∷ low ∷ digits) odd = rw (pairs_of-odd k digits (omega arith)) (none_after (hex_byte high low))
 
 -- if one byte is no hex digit, nothing is spelled
 pub pairs_of-bad : (digits : List ℕ) → list_all is_hex digits ≡ false → hex_bytes digits ≡ None

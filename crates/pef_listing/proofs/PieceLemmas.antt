@@ -9,17 +9,17 @@ use Rattle.pef_reloc.specs.Unrolled.{program_fault}
 use Rattle.pef_reloc.specs.Views.{program_bytes}
 use Rattle.pef_listing.specs.declared.pieces.Piece.{Piece}
 use Rattle.pef_listing.specs.Listing.{each_text}
-use Rattle.pef_listing.specs.Pieces.{piece_text, pieces_behind, pieces_text}
+use Rattle.pef_listing.specs.Pieces.{piece_text, pieces_after, pieces_text}
 
 -- a text in front of pieces
-behind-text : (text : List ℕ) (pieces : List Piece) → pieces_behind text pieces ≡ text ++ pieces_text pieces
-behind-text text [] = sym (append-nil text)
-behind-text text (piece ∷ pieces) =
-    behind-text (text ++ piece_text piece) pieces ∙ append_assoc text (piece_text piece) (pieces_text pieces) ∙ ap (λ (t : List ℕ). text ++ t) (sym (behind-text (piece_text piece) pieces))
+after-text : (text : List ℕ) (pieces : List Piece) → pieces_after text pieces ≡ text ++ pieces_text pieces
+after-text text [] = sym (append-nil text)
+after-text text (piece ∷ pieces) =
+    after-text (text ++ piece_text piece) pieces ∙ append_assoc text (piece_text piece) (pieces_text pieces) ∙ ap (λ (t : List ℕ). text ++ t) (sym (after-text (piece_text piece) pieces))
 
 -- a piece in front of others
 pub pieces-more : (piece : Piece) (pieces : List Piece) → pieces_text (piece ∷ pieces) ≡ piece_text piece ++ pieces_text pieces
-pieces-more piece pieces = behind-text (piece_text piece) pieces
+pieces-more piece pieces = after-text (piece_text piece) pieces
 
 -- the texts of the parts from one on begin with its own
 pub each_text-more : (text : ℕ → List ℕ) (i n : ℕ) → i < n → each_text text i (n - i) ≡ text i ++ each_text text (i + 1) (n - (i + 1))

@@ -15,11 +15,11 @@ piece_text (Word n) = word_text n
 piece_text (Byte n) = hex_text (n ∷ [])
 
 -- pieces after a text
-abbrev pub pieces_behind : List ℕ → List Piece → List ℕ
-pieces_behind text [] = text
-pieces_behind text (piece ∷ pieces) = pieces_behind (text ++ piece_text piece) pieces
+abbrev pub pieces_after : List ℕ → List Piece → List ℕ
+pieces_after text [] = text
+pieces_after text (piece ∷ pieces) = pieces_after (text ++ piece_text piece) pieces
 
 -- the pieces one after the other
 abbrev pub pieces_text : List Piece → List ℕ
 pieces_text [] = []
-pieces_text (piece ∷ pieces) = pieces_behind (piece_text piece) pieces
+pieces_text (piece ∷ pieces) = pieces_after (piece_text piece) pieces

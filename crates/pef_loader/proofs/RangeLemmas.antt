@@ -28,12 +28,12 @@ pub owns_is : (bytes : List ℕ) (j i : ℕ) → (nat_le (first_of bytes i) j &&
 owns_is bytes j i = owns-of j (library_at bytes i)
 
 -- an import that a range ends before isn't in it
-owns-behind-of : (j : ℕ) (e : Option LibraryEntry) → option_map_or (λ e. e.first + e.count) e 0 ≤ j → option_map_or (λ e. nat_le e.first j && nat_lt j (e.first + e.count)) e false ≡ false
-owns-behind-of j None behind = refl
-owns-behind-of j (Some e) behind = grind (arith, nat_tests)
+owns-after-of : (j : ℕ) (e : Option LibraryEntry) → option_map_or (λ e. e.first + e.count) e 0 ≤ j → option_map_or (λ e. nat_le e.first j && nat_lt j (e.first + e.count)) e false ≡ false
+owns-after-of j None behind = refl
+owns-after-of j (Some e) behind = grind (arith, nat_tests)
 
-pub owns-behind : (bytes : List ℕ) (j i : ℕ) → end_of bytes i ≤ j → owns bytes j i ≡ false
-owns-behind bytes j i behind = owns-behind-of j (library_at bytes i) behind
+pub owns-after : (bytes : List ℕ) (j i : ℕ) → end_of bytes i ≤ j → owns bytes j i ≡ false
+owns-after bytes j i behind = owns-after-of j (library_at bytes i) behind
 
 -- a range ends before each later one begins
 pub ends-before : (bytes : List ℕ) (n i d : ℕ) → AreInOrder bytes n → i + suc d < n → end_of bytes i ≤ first_of bytes (i + suc d)
@@ -62,7 +62,7 @@ owned bytes j i has = rw has refl
 
 -- the libraries before one whose range begins at or before an import don't have it
 pub none_before : (bytes : List ℕ) (n l j : ℕ) → AreInOrder bytes n → l < n → first_of bytes l ≤ j → AreWithout bytes l j
-none_before bytes n l j order under first = λ i before. (let ends = ends_before bytes n i l order before under in owns-behind bytes j i (omega arith))
+none_before bytes n l j order under first = λ i before. (let ends = ends_before bytes n i l order before under in owns-after bytes j i (omega arith))
 
 -- the first library that has an import owns it
 pub owner_first : (bytes : List ℕ) (h : LoaderHeader) (j l : ℕ) → AreWithout bytes l j → l < h.library_count → owns bytes j l ≡ true → owner_of bytes h j ≡ Some l

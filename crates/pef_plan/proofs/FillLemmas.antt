@@ -18,7 +18,7 @@ use Rattle.pef_cert.specs.Labels.{Labels, class_of, classes}
 use Rattle.pef_cert.specs.Extension.{OfferIs, extension, skips_at}
 use Rattle.pef_cert.specs.Feasible.{FeasibleAt}
 use Rattle.pef_cert.specs.Valid.{RegistersOf}
-use Rattle.pef_cert.proofs.Laws.{Numbers, RegisteredBase, World, all_registered, class_of-below, extension-here, feasible-tested, few_rising, index_behind, numbers, offer-import, offer-section}
+use Rattle.pef_cert.proofs.Laws.{Numbers, RegisteredBase, World, all_registered, class_of-below, extension-here, feasible-tested, few_rising, index_later, numbers, offer-import, offer-section}
 use Rattle.pef_plan.specs.declared.runs.suffix.SolvedSuffix.{SolvedSuffix}
 use Rattle.pef_plan.specs.declared.runs.state.FixupState.{FixupState}
 use Rattle.pef_plan.specs.declared.runs.ends.RunEnds.{RunEnds}
@@ -287,7 +287,7 @@ tabled-next rs labels skips k a row line index t m here numbers = record {
 
 -- the index of the next import after one more fixup
 pub index-next : (fixups : List Fixup) (at : ℕ) (f : Fixup) (n index : ℕ) → at < length fixups → index ≡ index_after (take at fixups) 0 → n ≡ index_past (slice_index_or fixups at f).base index → n ≡ index_after (take (at + 1) fixups) 0
-index-next fixups at f n index under is next = next ∙ (ap (λ m. index_past (slice_index_or fixups at f).base m) is ∙ sym (index_behind fixups at f under))
+index-next fixups at f n index under is next = next ∙ (ap (λ m. index_past (slice_index_or fixups at f).base m) is ∙ sym (index_later fixups at f under))
 
 -- the indices of the next import at one more fixup
 pub indices-more : (P : ℕ → ℕ → Type 0) (indices : List ℕ) (at index : ℕ) → length indices ≡ at → ((i : ℕ) → i < at → P i (slice_index indices i)) → P at index → (i : ℕ) → i < at + 1 → P i (slice_index (indices ++ index ∷ []) i)
@@ -359,7 +359,7 @@ first_is : (fixups : List Fixup) (at : ℕ) (a : FixupState) → at < length fix
 first_is fixups at a under state =
     let whole : slice_index_or fixups at a.first ∷ drop (suc at) fixups ≡ a.first ∷ a.others.now = sym (drop-cons fixups at a.first under) ∙ state.parts in
     let same : slice_index_or fixups at a.first ≡ a.first = cc in
-    index_behind fixups at a.first under ∙ ap (λ (f : Fixup). index_past f.base (index_after (take at fixups) 0)) same
+    index_later fixups at a.first under ∙ ap (λ (f : Fixup). index_past f.base (index_after (take at fixups) 0)) same
 
 pub fill-next : (fixups : List Fixup) (rs : List ℕ) (labels : List (List ℕ)) (skips : List (List ℕ)) (at n : ℕ) (k : SolvedSuffix) (a : FixupState) (row : List ℕ) (line : List ℕ) → fixups_fit fixups ≡ true → RegistersOf fixups rs → n ≡ at + 1 → n ≤ length fixups → Tabled rs labels skips (index_after (take n fixups) 0) (drop n fixups) → KnownOf k rs labels skips → StateAt fixups at a → RowOf k a row → SkipsOf k a line → Tabled rs (labels ++ row ∷ []) (skips ++ line ∷ []) (index_after (take at fixups) 0) (drop at fixups)
 fill-next fixups rs labels skips at n k a row line fit right step inside t known state row_is line_is =

@@ -26,14 +26,14 @@ pub record Planned (l : Labels) (index : ℕ) (fixups : List Fixup) : Type 0 whe
 pub planned-next : (l : Labels) (index : ℕ) (f : Fixup) (rest : List Fixup) → Planned l index (f ∷ rest) → Planned l (index_past f.base index) rest
 planned-next l index f rest p = record { world = world-next l index f rest p.world; reached = p.reached.1; fit = p.fit.1 }
 
-pub planned-behind : (l : Labels) (index : ℕ) (made left : List Fixup) → Planned l index (made ++ left) → Planned l (index_after made index) left
-planned-behind l index [] left p = p
-planned-behind l index (f ∷ made) left p = planned-behind l (index_past f.base index) made left (planned-next l index f (made ++ left) p)
+pub planned-after : (l : Labels) (index : ℕ) (made left : List Fixup) → Planned l index (made ++ left) → Planned l (index_after made index) left
+planned-after l index [] left p = p
+planned-after l index (f ∷ made) left p = planned-after l (index_past f.base index) made left (planned-next l index f (made ++ left) p)
 
 pub planned_left : (l : Labels) (x : Instr) (s : State) (fixups left : List Fixup) → Planned l s.import_index fixups → Delivers x s fixups left → Planned l (next_state x s).import_index left
 planned_left l x s fixups left p delivers =
     subst (λ (index : ℕ). Planned l index left) (sym (index_kept x s))
-    (planned-behind l s.import_index (additions x s) left (subst (λ (fs : List Fixup). Planned l s.import_index fs) delivers.is p))
+    (planned-after l s.import_index (additions x s) left (subst (λ (fs : List Fixup). Planned l s.import_index fs) delivers.is p))
 
 -- a move to the offset, from anywhere
 led_far : (l : Labels) (s : State) (f : Fixup) (rest : List Fixup) → fixup_fits f ≡ true → extension_at l (f ∷ rest) s ≡ 2 + label_at l (f ∷ rest) s → LeadsOn l s (f ∷ rest)

@@ -35,8 +35,8 @@ skip_is k h section first value l here base holds from is one ends agrees =
     (subst (λ (p : ℕ). Ends l (Skip 0 section) h p value) (sym from) (ends l value agrees (omega arith)))
 
 -- the extension after the first fixup, from a state at it
-behind_first : (l : Labels) (k : SolvedSuffix) (h : OpenState) (s t : State) → Agrees l k h.others.now → h.place.position ≡ h.first.offset → InPlace k.registers.now h.place s → t.position ≡ s.position + 4 → t.c ≡ s.c → t.d ≡ s.d → extension_at l h.others.now t ≡ extension l h.others.now (h.first.offset + 4) h.place.c h.place.d
-behind_first l k h s t agrees at in_place position c d =
+after_first : (l : Labels) (k : SolvedSuffix) (h : OpenState) (s t : State) → Agrees l k h.others.now → h.place.position ≡ h.first.offset → InPlace k.registers.now h.place s → t.position ≡ s.position + 4 → t.c ≡ s.c → t.d ≡ s.d → extension_at l h.others.now t ≡ extension l h.others.now (h.first.offset + 4) h.place.c h.place.d
+after_first l k h s t agrees at in_place position c d =
     let same = agrees.same.registers_are in
     let there : t.position ≡ h.first.offset + 4 = position ∙ ap (λ p. p + 4) (in_place.position ∙ at) in
     ap (λ p. extension l h.others.now p (class_of l.registers t.c) (class_of l.registers t.d)) there
@@ -55,7 +55,7 @@ base_of k h b here base = subst (λ (x : Base). base_fits x ≡ true) base (fixu
 pub section_led : (k : SolvedSuffix) (h : OpenState) (section value : ℕ) → HereOf k h → h.place.position ≡ h.first.offset → h.first.base ≡ Section section → ((l : Labels) → Agrees l k h.others.now → value ≡ 1 + extension l h.others.now (h.first.offset + 4) h.place.c h.place.d) → Led k h value
 section_led k h section value here at base is l s agrees in_place =
     let low = ltb-true section most_sections (base_of k h (Section section) here base) in
-    let behind = behind_first l k h s (next_state (SmBySection section) s) agrees at in_place refl refl refl in
+    let behind = after_first l k h s (next_state (SmBySection section) s) agrees at in_place refl refl refl in
     let worth = is l agrees in
     record {
       instr = SmBySection section;
@@ -67,7 +67,7 @@ section_led k h section value here at base is l s agrees in_place =
 
 pub import_by : (k : SolvedSuffix) (h : OpenState) (import value : ℕ) (small : Bool) → HereOf k h → h.place.position ≡ h.first.offset → h.first.base ≡ Import import → nat_lt import 512 ≡ small → ((l : Labels) → Agrees l k h.others.now → value ≡ cond small 1 2 + extension l h.others.now (h.first.offset + 4) h.place.c h.place.d) → Led k h value
 import_by k h import value true here at base small is l s agrees in_place =
-    let behind = behind_first l k h s (next_state (SmByImport import) s) agrees at in_place refl refl refl in
+    let behind = after_first l k h s (next_state (SmByImport import) s) agrees at in_place refl refl refl in
     let worth = is l agrees in
     record {
       instr = SmByImport import;
@@ -78,7 +78,7 @@ import_by k h import value true here at base small is l s agrees in_place =
     }
 import_by k h import value false here at base small is l s agrees in_place =
     let low = ltb-true import most_imports (base_of k h (Import import) here base) in
-    let behind = behind_first l k h s (next_state (LgByImport import) s) agrees at in_place refl refl refl in
+    let behind = after_first l k h s (next_state (LgByImport import) s) agrees at in_place refl refl refl in
     let worth = is l agrees in
     record {
       instr = LgByImport import;

@@ -10,7 +10,7 @@ use Rattle.pef_reloc.specs.Deliveries.{all_meet, is_flat_instr, names_used, uses
 use Rattle.pef_reloc.specs.Instrs.{counts_to}
 use Rattle.pef_reloc.specs.Steps.{Least, State, added, additions, is_flat, named_sections, next_state, pairs, row, start, state_after, trace}
 use Rattle.pef_reloc.specs.Deliveries.{named_imports}
-use Rattle.pef_reloc.proofs.Laws.{flat-append, flat-before, flat-behind, flat_parts, program_length-append, some_length, trace-append, uses_import-append, uses_section-append}
+use Rattle.pef_reloc.proofs.Laws.{flat-append, flat-before, flat-after, flat_parts, program_length-append, some_length, trace-append, uses_import-append, uses_section-append}
 
 or_none : (a b : Bool) → (a || b) ≡ false → (a ≡ false) × (b ≡ false)
 or_none false b e = (refl, e)
@@ -102,13 +102,13 @@ with_d (LgBySection j) s k e = keeps_d refl refl refl
 with_d (LgSetSectC j) s k e = keeps_d refl refl refl
 with_d (LgSetSectD j) s k e = sets_d refl refl
 
-unused_behind : (x : Instr) (xs : List Instr) (s : State) (k : ℕ) → uses_section (trace (x ∷ xs) s) k ≡ false → (uses_section (additions x s) k ≡ false) × (uses_section (trace xs (next_state x s)) k ≡ false)
-unused_behind x xs s k e = or_none (uses_section (additions x s) k) (uses_section (trace xs (next_state x s)) k) (sym (uses_section-append (additions x s) (trace xs (next_state x s)) k) ∙ e)
+unused_after : (x : Instr) (xs : List Instr) (s : State) (k : ℕ) → uses_section (trace (x ∷ xs) s) k ≡ false → (uses_section (additions x s) k ≡ false) × (uses_section (trace xs (next_state x s)) k ≡ false)
+unused_after x xs s k e = or_none (uses_section (additions x s) k) (uses_section (trace xs (next_state x s)) k) (sym (uses_section-append (additions x s) (trace xs (next_state x s)) k) ∙ e)
 
 -- a list does the same from a state with another section in register C, if it never adds the register's section
 other_c : (xs : List Instr) (s : State) (k : ℕ) → is_flat xs ≡ true → uses_section (trace xs s) s.c ≡ false → trace xs s ≡ trace xs (record s { c = k })
 other_c [] s k flat unused = refl
-other_c (x ∷ xs) s k flat unused = go (other_c xs (next_state x s) k (flat_parts x xs flat).others) (with_c x s k (flat_parts x xs flat).first) (unused_behind x xs s s.c unused)
+other_c (x ∷ xs) s k flat unused = go (other_c xs (next_state x s) k (flat_parts x xs flat).others) (with_c x s k (flat_parts x xs flat).first) (unused_after x xs s s.c unused)
   where
     go : (uses_section (trace xs (next_state x s)) (next_state x s).c ≡ false → trace xs (next_state x s) ≡ trace xs (record (next_state x s) { c = k })) → WithC x s k → (uses_section (additions x s) s.c ≡ false) × (uses_section (trace xs (next_state x s)) s.c ≡ false) → trace (x ∷ xs) s ≡ trace (x ∷ xs) (record s { c = k })
     go more (adds_c used) none = absurd (never_both (uses_section (additions x s) s.c) used none.0)
@@ -120,7 +120,7 @@ other_c (x ∷ xs) s k flat unused = go (other_c xs (next_state x s) k (flat_par
 
 other_d : (xs : List Instr) (s : State) (k : ℕ) → is_flat xs ≡ true → uses_section (trace xs s) s.d ≡ false → trace xs s ≡ trace xs (record s { d = k })
 other_d [] s k flat unused = refl
-other_d (x ∷ xs) s k flat unused = go (other_d xs (next_state x s) k (flat_parts x xs flat).others) (with_d x s k (flat_parts x xs flat).first) (unused_behind x xs s s.d unused)
+other_d (x ∷ xs) s k flat unused = go (other_d xs (next_state x s) k (flat_parts x xs flat).others) (with_d x s k (flat_parts x xs flat).first) (unused_after x xs s s.d unused)
   where
     go : (uses_section (trace xs (next_state x s)) (next_state x s).d ≡ false → trace xs (next_state x s) ≡ trace xs (record (next_state x s) { d = k })) → WithD x s k → (uses_section (additions x s) s.d ≡ false) × (uses_section (trace xs (next_state x s)) s.d ≡ false) → trace (x ∷ xs) s ≡ trace (x ∷ xs) (record s { d = k })
     go more (adds_d used) none = absurd (never_both (uses_section (additions x s) s.d) used none.0)
@@ -142,7 +142,7 @@ unfolding here
 whole fixups done x rest a = sym (trace-append done (x ∷ rest) start) ∙ a.least.makes
 
 rest_flat : (fixups : List Fixup) (done : List Instr) (x : Instr) (rest : List Instr) → Amid fixups done x rest → is_flat rest ≡ true
-rest_flat fixups done x rest a = (flat_parts x rest (flat-behind done (x ∷ rest) a.least.flat)).others
+rest_flat fixups done x rest a = (flat_parts x rest (flat-after done (x ∷ rest) a.least.flat)).others
 
 -- none of its instructions can be left out
 none_idle : (fixups : List Fixup) (done : List Instr) (x : Instr) (rest : List Instr) → Amid fixups done x rest → trace (x ∷ rest) (here done) ≡ trace rest (here done) → ⊥

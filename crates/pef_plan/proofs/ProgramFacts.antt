@@ -25,7 +25,7 @@ use Rattle.pef_plan.specs.Runs.Tables.{Agrees, SameLabels}
 use Rattle.pef_plan.specs.Kept.Tables.{TablesOf}
 use Rattle.pef_plan.specs.Reached.{ReachedFrom}
 use Rattle.pef_plan.proofs.FillLemmas.{counts-all, index-small, known_shaped}
-use Rattle.pef_plan.proofs.RunsProofs.KnownLemmas.{agrees-behind, shaped_fewer}
+use Rattle.pef_plan.proofs.RunsProofs.KnownLemmas.{agrees-after, shaped_fewer}
 use Rattle.pef_plan.proofs.Leading.{Planned, planned_left}
 use Rattle.pef_plan.proofs.StepFacts.{tracked_world}
 
@@ -101,7 +101,7 @@ tracked_next k p x s t in_place f low =
           omega (arith, most, kept, to)
           );
       position_small = low;
-      agrees = agrees-behind l k made left (subst (λ (fs : List Fixup). Agrees l k fs) parts t.agrees);
+      agrees = agrees-after l k made left (subst (λ (fs : List Fixup). Agrees l k fs) parts t.agrees);
       feasible = planned.world.feasible;
       reached = planned.reached;
     }

@@ -2,7 +2,7 @@
 use Rattle.std.proofs.Common.{◌≡◌, ℕ, zero, suc, ◌*◌, ◌≤◌, true, List, [], ◌∷◌, ◌++◌, length, refl, sym, subst, arith}
 use Rattle.pef_reloc.specs.declared.fixup.Fixup.{Fixup}
 use Rattle.pef_reloc.specs.declared.instr.Instr.{Instr}
-use Rattle.pef_reloc.specs.Deliveries.{MakesFrom, StandsBehind}
+use Rattle.pef_reloc.specs.Deliveries.{MakesFrom, StandsAfter}
 use Rattle.pef_reloc.specs.Fixups.{fixups_fit}
 use Rattle.pef_reloc.specs.Instrs.{program_length}
 use Rattle.pef_reloc.specs.Steps.{Least, State, is_flat, next_state}
@@ -14,7 +14,7 @@ use Rattle.pef_cert.specs.Valid.{RegistersOf}
 use Rattle.pef_cert.proofs.Laws.{extension-here, none_shorter, whole_world}
 use Rattle.pef_plan.specs.Exact.{Exact, LeastFrom}
 use Rattle.pef_plan.specs.Reached.{ReachedFrom}
-use Rattle.pef_plan.proofs.Leading.{Planned, leads, planned-behind, planned_left}
+use Rattle.pef_plan.proofs.Leading.{Planned, leads, planned-after, planned_left}
 use Rattle.pef_plan.proofs.WordByWord.{word_by_word, word_by_word-flat, word_by_word-makes, word_by_word-short}
 
 -- a flat list that makes some fixups from a state, within a number of halfwords
@@ -65,10 +65,10 @@ whole_planned l fixups fit registers feasible reached = record {
 }
 
 -- the extension is the least length in every state
-pub reached-least : (l : Labels) (fixups made rest : List Fixup) (s : State) → fixups_fit fixups ≡ true → RegistersOf fixups l.registers → Feasible l fixups → ReachedFrom l 0 fixups → fixups ≡ made ++ rest → StandsBehind made s → LeastFrom s rest (extension_at l rest s)
+pub reached-least : (l : Labels) (fixups made rest : List Fixup) (s : State) → fixups_fit fixups ≡ true → RegistersOf fixups l.registers → Feasible l fixups → ReachedFrom l 0 fixups → fixups ≡ made ++ rest → StandsAfter made s → LeastFrom s rest (extension_at l rest s)
 reached-least l fixups made rest s fit registers feasible reached parts behind =
     least_from l s rest (subst (λ (index : ℕ). Planned l index rest) (sym behind.index)
-    (planned-behind l 0 made rest (subst (λ (fs : List Fixup). Planned l 0 fs) parts (whole_planned l fixups fit registers feasible reached))))
+    (planned-after l 0 made rest (subst (λ (fs : List Fixup). Planned l 0 fs) parts (whole_planned l fixups fit registers feasible reached))))
 
 -- each label is the least length in its state
 pub reached-exact : (l : Labels) (fixups : List Fixup) → fixups_fit fixups ≡ true → RegistersOf fixups l.registers → Feasible l fixups → ReachedFrom l 0 fixups → Exact l fixups

@@ -21,7 +21,7 @@ use Rattle.pef_plan.specs.Kept.Steps.{FallsOn, Sections, Tracked, TrackedHere, l
 use Rattle.pef_plan.specs.Runs.Tables.{Agrees, label_in}
 use Rattle.pef_plan.specs.Reached.{LeadsOn, ReachedFrom}
 use Rattle.pef_plan.proofs.FillLemmas.{registered-all}
-use Rattle.pef_plan.proofs.RunsProofs.KnownLemmas.{agrees-behind}
+use Rattle.pef_plan.proofs.RunsProofs.KnownLemmas.{agrees-after}
 use Rattle.pef_reloc.specs.Limits.{most_sections}
 
 -- a section of each class
@@ -54,7 +54,7 @@ tracked_world k p t = record {
 pub agrees_others : (k : SolvedSuffix) (h : OpenState) → TrackedHere k h → Agrees (labels_tabled k) k h.others.now
 agrees_others k h t =
     let whole = subst (λ (fs : List Fixup). Agrees (labels_tabled k) k fs) t.parts t.at.agrees in
-    agrees-behind (labels_tabled k) k (h.first ∷ []) h.others.now whole
+    agrees-after (labels_tabled k) k (h.first ∷ []) h.others.now whole
 
 -- the extension at a fixup is its label
 pub extension_label : (k : SolvedSuffix) (h : OpenState) (c d : ℕ) → TrackedHere k h → h.place.position ≡ h.first.offset → extension (labels_tabled k) h.place.left.now h.place.position c d ≡ label_in (length k.registers.now + 1) k.labels.now.rows (length h.place.left.now) c d

@@ -16,7 +16,7 @@ use pef_reloc::{Base, Instr};
 pub(crate) const SMALL_IMPORTS: u32 = 512;
 
 /// Returns the place after the first fixup.
-pub(crate) fn place_behind<'a>(here: OpenState<'a>, import_index: u64) -> PlanState<'a>
+pub(crate) fn place_after<'a>(here: OpenState<'a>, import_index: u64) -> PlanState<'a>
     ensures left { result.left.now ≡ here.entry.others.now }
     ensures position { result.position ≡ here.entry.first.offset + 4 }
     ensures import_index { result.import_index ≡ import_index }
@@ -68,14 +68,14 @@ fn single_section<'a>(known: SolvedSuffix<'a>, here: OpenState<'a>, section: u32
     ensures small { result.value ≤ 4 * length here.entry.others.now + 4 }
 {
     let instr = Instr::SmBySection(section);
-    let next = place_behind(here, here.place.import_index);
-    let value = 1 + value_behind(known, here);
+    let next = place_after(here, here.place.import_index);
+    let value = 1 + value_after(known, here);
     let step = Step { instr, next };
     Choice { step, value }
 }
 
 /// Returns the extension after the first fixup.
-pub(crate) fn value_behind(known: SolvedSuffix<'_>, here: OpenState<'_>) -> u64
+pub(crate) fn value_after(known: SolvedSuffix<'_>, here: OpenState<'_>) -> u64
     requires here { HereOf known here }
     ensures is { (l : Labels) → Agrees l known.entry here.entry.others.now → result ≡ extension l here.entry.others.now (here.entry.first.offset + 4) here.entry.place.c here.entry.place.d }
     ensures small { result ≤ 4 * length here.entry.others.now + 2 }
@@ -212,8 +212,8 @@ fn single_import<'a>(known: SolvedSuffix<'a>, here: OpenState<'a>, import: u32) 
     ensures value { (l : Labels) → Agrees l known.entry here.entry.others.now → result.value ≡ import_cost import + extension l here.entry.others.now (here.entry.first.offset + 4) here.entry.place.c here.entry.place.d }
     ensures small { result.value ≤ 4 * length here.entry.others.now + 4 }
 {
-    let next = place_behind(here, u64::from(import) + 1);
-    let behind = value_behind(known, here);
+    let next = place_after(here, u64::from(import) + 1);
+    let behind = value_after(known, here);
     if import < SMALL_IMPORTS {
         let instr = Instr::SmByImport(import);
         let value = 1 + behind;

@@ -8,7 +8,7 @@ ghost use Rattle.pef_plan.specs.Runs.Runs.{Holds};
 ghost use Rattle.pef_plan.specs.Runs.Tables.{Agrees};
 ghost use Rattle.pef_reloc.specs.declared.fixup.Base.TheVariants.{Section};
 
-use crate::direct::{place_behind, value_behind};
+use crate::direct::{place_after, value_after};
 use crate::rows::at_classes;
 use crate::runs::{Choice, FixupState, OpenState, Run, RunEnds, SolvedSuffix, Step};
 use pef_cert::class_of;
@@ -109,8 +109,8 @@ fn single_skip<'a>(
         skip: words,
         count: 1,
     };
-    let next = place_behind(here, here.place.import_index);
-    let value = 1 + value_behind(known, here);
+    let next = place_after(here, here.place.import_index);
+    let value = 1 + value_after(known, here);
     let step = Step { instr, next };
     Choice { step, value }
 }

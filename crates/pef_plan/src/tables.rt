@@ -89,13 +89,13 @@ fn import_indices(alloc: Global, fixups: &[Fixup]) -> Result<Vec<u64>, AllocErro
     let mut index = 0;
     for at in 0..fixups.len() {
         indices.push(index)?;
-        index = index_behind(fixups[at].base, index);
+        index = index_later(fixups[at].base, index);
     }
     Ok(indices)
 }
 
 /// Returns the index of the next import after a base.
-fn index_behind(base: Base, index: u64) -> u64
+fn index_later(base: Base, index: u64) -> u64
     ensures { result ≡ index_past base index }
 {
     match base {

@@ -6,7 +6,7 @@ ghost use Rattle.pef_cert.specs.Labels.{Labels};
 ghost use Rattle.pef_cert.specs.Valid.{RegistersOf};
 ghost use Rattle.pef_plan.specs.Exact.{Exact, LeastFrom};
 ghost use Rattle.pef_plan.specs.Reached.{ReachedFrom};
-ghost use Rattle.pef_reloc.specs.Deliveries.{StandsBehind, names_used};
+ghost use Rattle.pef_reloc.specs.Deliveries.{StandsAfter, names_used};
 ghost use Rattle.pef_reloc.specs.Fixups.{fixups_fit};
 ghost use Rattle.pef_reloc.specs.Instrs.{program_length};
 ghost use Rattle.pef_reloc.specs.Steps.{Least, State};
@@ -17,7 +17,7 @@ ghost use Rattle.pef_reloc.specs.declared.instr.Instr.{Instr};
 /// flat list that makes the remaining fixups from its state. The extension is the least length in every state.
 pub fn reached_labels_are_least()
     ensures labels { (l : Labels) (fixups : List Fixup) → fixups_fit fixups ≡ true → RegistersOf fixups l.registers → Feasible l fixups → ReachedFrom l 0 fixups → Exact l fixups }
-    ensures states { (l : Labels) (fixups made rest : List Fixup) (s : State) → fixups_fit fixups ≡ true → RegistersOf fixups l.registers → Feasible l fixups → ReachedFrom l 0 fixups → fixups ≡ made ++ rest → StandsBehind made s → LeastFrom s rest (extension_at l rest s) }
+    ensures states { (l : Labels) (fixups made rest : List Fixup) (s : State) → fixups_fit fixups ≡ true → RegistersOf fixups l.registers → Feasible l fixups → ReachedFrom l 0 fixups → fixups ≡ made ++ rest → StandsAfter made s → LeastFrom s rest (extension_at l rest s) }
 {}
 
 /// Proves that a least program has at most four halfwords for each fixup.

@@ -57,9 +57,9 @@ flat-append (x ∷ xs) ys left right =
     flat_more x (xs ++ ys) parts.first (flat-append xs ys parts.others right)
 
 -- and so is the second part of one, and the first
-pub flat-behind : (xs ys : List Instr) → is_flat (xs ++ ys) ≡ true → is_flat ys ≡ true
-flat-behind [] ys flat = flat
-flat-behind (x ∷ xs) ys flat = flat-behind xs ys (flat_parts x (xs ++ ys) flat).others
+pub flat-after : (xs ys : List Instr) → is_flat (xs ++ ys) ≡ true → is_flat ys ≡ true
+flat-after [] ys flat = flat
+flat-after (x ∷ xs) ys flat = flat-after xs ys (flat_parts x (xs ++ ys) flat).others
 
 pub flat-before : (xs ys : List Instr) → is_flat (xs ++ ys) ≡ true → is_flat xs ≡ true
 flat-before [] ys flat = refl

@@ -17,7 +17,7 @@ pub use Rattle.pef_reloc.proofs.Readback.{spelled-instrs_of, instrs_of-fit}
 pub use Rattle.pef_reloc.proofs.FlatLaws.{program_fault-spelled, relocated-spelled, applied-trace}
 -- lists of instructions in a row: their additions, their length, and that they are flat
 pub use Rattle.pef_reloc.proofs.ActLists.{state_after-append}
-pub use Rattle.pef_reloc.proofs.DeliveryLaws.{trace-append, program_length-append, flat-append, flat-before, flat-behind}
+pub use Rattle.pef_reloc.proofs.DeliveryLaws.{trace-append, program_length-append, flat-append, flat-before, flat-after}
 -- a list has no fewer halfwords than instructions
 pub use Rattle.pef_reloc.proofs.DeliveryLaws.{count-length}
 -- a flat list is a flat instruction and a flat list; it makes fixups if the one delivers some and the other makes those

@@ -46,7 +46,7 @@ index_after [] index = index
 index_after (fixup ∷ fixups) index = index_after fixups (index_past fixup.base index)
 
 -- a state whose import index is that after the fixups made so far
-pub record StandsBehind (made : List Fixup) (s : State) : Type 0 where
+pub record StandsAfter (made : List Fixup) (s : State) : Type 0 where
   pub index : s.import_index ≡ index_after made 0
 
 -- the import that an instruction names

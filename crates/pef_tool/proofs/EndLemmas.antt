@@ -2,7 +2,7 @@
 use Rattle.std.proofs.Common.{◌≡◌, List, ℕ, Ok, Err, sym, ap, ◌∙◌}
 use Rattle.std.specs.declared.alloc.Global.{Global}
 use Rattle.std.specs.declared.vec.Vec.{Vec}
-use Rattle.pef_tool.specs.Answers.Told.{input_refusal, script_refusal}
+use Rattle.pef_tool.specs.Answers.Reported.{input_refusal, script_refusal}
 use Rattle.pef_ports.specs.Input.{ReadsInput}
 use Rattle.pef_ports.specs.Ports.{Stream}
 use Rattle.pef_ports.specs.declared.input.InputFault.{InputFault}

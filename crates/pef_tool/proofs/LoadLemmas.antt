@@ -94,8 +94,8 @@ module _ {F : Type 0} (port : FilesPort F) where
       )
 
   -- an allocation failed after the first files
-  pub lacks-behind : (before after : F) (xs : List NamedFile) (i : ℕ) (contents : List (List ℕ)) → WereRead port before after (map named_path (take i xs)) contents → StopsReading port before after (map named_path xs) OutOfMemory
-  lacks-behind before after xs i contents read =
+  pub lacks-after : (before after : F) (xs : List NamedFile) (i : ℕ) (contents : List (List ℕ)) → WereRead port before after (map named_path (take i xs)) contents → StopsReading port before after (map named_path xs) OutOfMemory
+  lacks-after before after xs i contents read =
       let P : List (List ℕ × List ℕ) → Type 0 = λ named. WereRead port before after named contents in
       inl (i, contents, subst P (sym (take-map named_path i xs)) read)
 

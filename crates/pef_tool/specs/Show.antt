@@ -16,7 +16,7 @@ use Rattle.cfm_prepare.specs.Fragments.{places_of}
 use Rattle.cfm_prepare.specs.Contexts.{ContextState, fresh_state}
 use Rattle.cfm_prepare.specs.Steps.{Prepares}
 use Rattle.pef_tool.specs.Answers.Answers.{Answer, answer_done, answer_refused}
-use Rattle.pef_tool.specs.Answers.Refusals.{bind_refusal_text, refusal_text, refused_text, told_text}
+use Rattle.pef_tool.specs.Answers.Refusals.{bind_refusal_text, refusal_text, refused_text, reported_text}
 use Rattle.pef_tool.specs.declared.answers.refusal.Refusal.{Refusal}
 use Rattle.pef_tool.specs.declared.answers.refusal.Refusal.TheVariants.{Script, InputUnreadable, InputTooLong, OutOfMemory}
 use Rattle.pef_ports.specs.Input.{IsLonger, IsWhole, WasReadWithin}
@@ -145,7 +145,7 @@ ShowEnds before after (refuses refusal) = ShowRefuses before after refusal
 
 -- the line of a fragment without room for its sections: 67, and its name
 abbrev pub unplaced_text : List ℕ → List ℕ
-unplaced_text name = refused_text (memory.fault_number NoRoom) (memory.fault_name NoRoom) ++ told_text (codes " in ") (Some name) ++ 10 ∷ []
+unplaced_text name = refused_text (memory.fault_number NoRoom) (memory.fault_name NoRoom) ++ reported_text (codes " in ") (Some name) ++ 10 ∷ []
 
 -- the answer for each end
 abbrev pub show_answer : ShowOutcome → Answer

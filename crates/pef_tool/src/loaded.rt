@@ -9,7 +9,7 @@ ghost use Rattle.pef_tool.specs.Kept.Routines.{address_in, place_of, routine_tex
 ghost use Rattle.pef_tool.specs.Limits.{memory_limit};
 ghost use Rattle.pef_tool.specs.Loaded.{entry_label, fragment_name, fragment_text, fragments_text, init_order_in, loaded_text, order_in, sections_in};
 
-use crate::answers::{Outcome, Reply, deliver, deliver_detailed, print_behind, print_name_end};
+use crate::answers::{Outcome, Reply, deliver, deliver_detailed, print_after, print_name_end};
 use crate::details::{Shelf, prepare_detail};
 use crate::fragment::{entry_line, print_bytes};
 use cfm_closure::Store;
@@ -293,6 +293,6 @@ fn print_address<W: Sink>(
 ) -> Result<(), StreamFault>
     ensures { Sends result (W.stream out.old) (W.stream out.new) page.old.items page.new.items (entry_text (entry_label word.now name.now) (Some address)) }
 {
-    print_behind(out, page, word, name)?;
+    print_after(out, page, word, name)?;
     send(out, page, entry_line(b" ", Some(address)).as_slice())
 }

@@ -87,13 +87,13 @@ certified_short n j k (s ∷ sections) (c ∷ certificates) holds are =
     All-cons (λ (c : Certified). program_length c.program < 2 ^ 32) c certificates (omega (arith, short, few)) (certified_short n j (k + 1) sections certificates holds.1 are.1)
 
 -- one certificate more, for the next section
-certified_behind : (k : ℕ) (sections : List DescribedSection) (certificates : List Certified) (s : DescribedSection) (c : Certified) → AreCertified k sections certificates → IsCertified (k + length sections) s.fixups c → AreCertified k (sections ++ s ∷ []) (certificates ++ c ∷ [])
-certified_behind k [] [] s c are is = (let at : k + 0 ≡ k = omega arith in (subst (λ n. IsCertified n s.fixups c) at is, tt))
-certified_behind k [] (d ∷ certificates) s c are is = absurd are
-certified_behind k (t ∷ sections) [] s c are is = absurd are
-certified_behind k (t ∷ sections) (d ∷ certificates) s c are is =
+certified_after : (k : ℕ) (sections : List DescribedSection) (certificates : List Certified) (s : DescribedSection) (c : Certified) → AreCertified k sections certificates → IsCertified (k + length sections) s.fixups c → AreCertified k (sections ++ s ∷ []) (certificates ++ c ∷ [])
+certified_after k [] [] s c are is = (let at : k + 0 ≡ k = omega arith in (subst (λ n. IsCertified n s.fixups c) at is, tt))
+certified_after k [] (d ∷ certificates) s c are is = absurd are
+certified_after k (t ∷ sections) [] s c are is = absurd are
+certified_after k (t ∷ sections) (d ∷ certificates) s c are is =
     let at : k + suc (length sections) ≡ k + 1 + length sections = omega arith in
-    (are.0, certified_behind (k + 1) sections certificates s c are.1 (subst (λ n. IsCertified n s.fixups c) at is))
+    (are.0, certified_after (k + 1) sections certificates s c are.1 (subst (λ n. IsCertified n s.fixups c) at is))
 
 -- certificates so far, and one more
 pub certified_more : (sections : List DescribedSection) (k : ℕ) (s d : DescribedSection) (done now : List Certified) (c : Certified) → k < length sections → s ≡ get_or sections k d → IsCertified k s.fixups c → now ≡ done ++ c ∷ []
@@ -103,4 +103,4 @@ certified_more sections k s d done now c under found is pushed are =
     let at : k ≡ 0 + length (take k sections) = omega (arith, length-take-le k sections (omega (arith, under))) in
     let own : IsCertified (0 + length (take k sections)) s.fixups c = subst (λ n. IsCertified n s.fixups c) at is in
     subst (λ cs. AreCertified 0 (take (k + 1) sections) cs) (sym pushed)
-    (subst (λ ss. AreCertified 0 ss (done ++ c ∷ [])) (sym taken) (certified_behind 0 (take k sections) done s c are own))
+    (subst (λ ss. AreCertified 0 ss (done ++ c ∷ [])) (sym taken) (certified_after 0 (take k sections) done s c are own))

@@ -32,7 +32,7 @@ use Rattle.pef_write.proofs.Fields.{reads-at}
 use Rattle.pef_write.proofs.Loaders.{length-table_fields, length-written_loader}
 use Rattle.pef_write.proofs.Listing.{zip-at, zip-length}
 use Rattle.pef_write.proofs.Standing.{import_name, library_name, name-stands, part-stands, stands-dropped, stands-in, stands-inside}
-use Rattle.pef_write.proofs.TablesStand.{export-name-stands, export_name_at, export_reads, import-name-stands, import_name_at, import_reads, key_reads, library-name-stands, library_name_at, library_reads, loader_header_reads, program-stands, program_at, relocation_reads, slot_reads, strings-stand, table-behind}
+use Rattle.pef_write.proofs.TablesStand.{export-name-stands, export_name_at, export_reads, import-name-stands, import_name_at, import_reads, key_reads, library-name-stands, library_name_at, library_reads, loader_header_reads, program-stands, program_at, relocation_reads, slot_reads, strings-stand, table-after}
 
 -- the same choice before equal others
 same_choice : (b : Bool) (x : ℕ) (others others' : Option ℕ) → others ≡ others' → option_or (cond b (Some x) None) others ≡ cond b (Some x) others'
@@ -184,7 +184,7 @@ module _ (sections : ℕ) (t : LoaderTables) (a : AreTables sections t) where
       let number = rw here at r.0 in
       let under = slice_get_within t.slots s slot there in
       let slots = a.slots in
-      rw (lt-ltb s (2 ^ t.power) (omega arith), table-behind t, number) refl
+      rw (lt-ltb s (2 ^ t.power) (omega arith), table-after t, number) refl
 
   pub key_there : (k : ℕ) (e : Export) (key : ℕ) → slice_get t.exports k ≡ Some e → slice_get t.keys k ≡ Some key → key_of (export_table (written_loader t) (header_read t)) k ≡ Some key
   unfolding key_of
@@ -193,7 +193,7 @@ module _ (sections : ℕ) (t : LoaderTables) (a : AreTables sections t) where
       let r = reads-at (spelled (table_fields t)) (4 * length t.slots + 4 * k) 0 (4 * 2 ^ t.power + 4 * k) 0 (Word key ∷ []) (omega arith) (key_reads t a.fit k key keyed) in
       let here : 4 * 2 ^ t.power + 4 * k + 0 ≡ 4 * 2 ^ t.power + 4 * k = omega arith in
       let number = rw here at r.0 in
-      rw (lt-ltb k (length t.exports) (slice_get_within t.exports k e there), table-behind t, number) refl
+      rw (lt-ltb k (length t.exports) (slice_get_within t.exports k e there), table-after t, number) refl
 
   export_there : (k : ℕ) (e : Export) → slice_get t.exports k ≡ Some e
       → entry_of (export_table (written_loader t) (header_read t)) k ≡ Some (record { class = e.class; name_offset = export_name_at t k; value = e.value; section = e.section })
@@ -207,7 +207,7 @@ module _ (sections : ℕ) (t : LoaderTables) (a : AreTables sections t) where
       let section = to_z-of_z w16 e.section (all-at (λ (e : Export). FitsSigned w16 e.section) t.exports k e (λ k d under. (a.fit.exports k d under).section) there) in
       let r = reads-at (spelled (table_fields t)) (4 * length t.slots + 4 * length t.keys + 10 * k) 0 (4 * 2 ^ t.power + 4 * length t.exports + 10 * k) 0 (export_entry (export_name_at t k) e) (omega arith) (export_reads t a.fit k e there) in
       let entry = export-if (spelled (table_fields t)) (4 * 2 ^ t.power + 4 * length t.exports + 10 * k) (export_name_at t k) e class (omega arith) section r in
-      rw (lt-ltb k (length t.exports) (slice_get_within t.exports k e there), table-behind t, entry) refl
+      rw (lt-ltb k (length t.exports) (slice_get_within t.exports k e there), table-after t, entry) refl
 
   pub export_named : (k : ℕ) (e : Export) → slice_get t.exports k ≡ Some e → name_of (export_table (written_loader t) (header_read t)) k ≡ Some e.name
   unfolding name_of
@@ -233,7 +233,7 @@ module _ (sections : ℕ) (t : LoaderTables) (a : AreTables sections t) where
       let keys = zip-length (λ key e. key / 2 ^ 16 ≡ length e.name) t.keys t.exports a.keys in
       let len = length-table_fields t in
       let inside = le-leb (4 * 2 ^ t.power + 14 * length t.exports) (length (spelled (table_fields t))) (omega arith) in
-      rw (table-behind t, le-leb t.power 30 a.power, inside) (or-true (length t.exports == 0))
+      rw (table-after t, le-leb t.power 30 a.power, inside) (or-true (length t.exports == 0))
 
 -- an entry's section is read with its sign
 section-signed : (sections : ℕ) (entry : Option (ℕ × ℕ)) → sections < 2 ^ 15 → IfSome entry (λ e. e.0 < sections) → cast_signed w32 (entry_section entry) ≡ section_read entry

@@ -82,14 +82,14 @@ abbrev table_zeros : LoaderTables → List ℕ
 table_zeros t = replicate (next_multiple_of (length (front_of t)) 4 - length (front_of t)) 0
 
 -- the export table is after everything else
-pub table-behind : (t : LoaderTables) → drop (exports_from t) (written_loader t) ≡ spelled (table_fields t)
+pub table-after : (t : LoaderTables) → drop (exports_from t) (written_loader t) ≡ spelled (table_fields t)
 unfolding written_loader
-table-behind t = drop_at (padded 4 (front_of t)) (spelled (table_fields t)) (exports_from t) (length-front_of t)
+table-after t = drop_at (padded 4 (front_of t)) (spelled (table_fields t)) (exports_from t) (length-front_of t)
 
 -- the programs and the strings are after the entries
-behind-entries : (t : LoaderTables) → Stands (written_loader t) (program_bytes t.programs ++ strings_of t) (programs_from t)
+after-entries : (t : LoaderTables) → Stands (written_loader t) (program_bytes t.programs ++ strings_of t) (programs_from t)
 unfolding written_loader padded
-behind-entries t =
+after-entries t =
     let f = spelled (front_fields t) in
     let r = program_bytes t.programs ++ strings_of t in
     record {
@@ -100,7 +100,7 @@ behind-entries t =
     }
 
 pub strings-stand : (t : LoaderTables) → Stands (written_loader t) (strings_of t) (strings_from t)
-strings-stand t = stands-in (written_loader t) (program_bytes t.programs ++ strings_of t) (strings_of t) (programs_from t) (length (program_bytes t.programs)) (behind-entries t) (stands-end (program_bytes t.programs) (strings_of t))
+strings-stand t = stands-in (written_loader t) (program_bytes t.programs ++ strings_of t) (strings_of t) (programs_from t) (length (program_bytes t.programs)) (after-entries t) (stands-end (program_bytes t.programs) (strings_of t))
 
 -- where program i begins, counted from the first program
 abbrev pub program_at : LoaderTables → ℕ → ℕ
@@ -109,7 +109,7 @@ program_at t i = length (program_bytes (take i t.programs))
 pub program-stands : (t : LoaderTables) (i : ℕ) (p : ProgramEntry) → slice_get t.programs i ≡ Some p → Stands (written_loader t) p.bytes (programs_from t + program_at t i)
 program-stands t i p there =
     let all = program_bytes t.programs in
-    let front = stands-in (written_loader t) (all ++ strings_of t) all (programs_from t) 0 (behind-entries t) (stands-front all (strings_of t)) in
+    let front = stands-in (written_loader t) (all ++ strings_of t) all (programs_from t) 0 (after-entries t) (stands-front all (strings_of t)) in
     let own = stands-in (written_loader t) all p.bytes (programs_from t + 0) (program_at t i) front (stands-among (λ (p : ProgramEntry). p.bytes) t.programs i p there) in
     let e : programs_from t + 0 + program_at t i ≡ programs_from t + program_at t i = omega arith in
     let P : ℕ → Type 0 = λ at. Stands (written_loader t) p.bytes at in
@@ -206,20 +206,20 @@ module _ (t : LoaderTables) (w : TablesFit t) where
   libraries_there : Reads (written_loader t) 0 56 (library_fields 0 t.libraries)
   libraries_there = (reads-split (written_loader t) 0 56 (library_fields 0 t.libraries) _ entries_there).0
 
-  behind_libraries : Reads (written_loader t) 0 (56 + 24 * length t.libraries) (import_fields (import_names_from t) t.imports ++ program_fields 0 t.programs)
-  behind_libraries =
+  after_libraries : Reads (written_loader t) 0 (56 + 24 * length t.libraries) (import_fields (import_names_from t) t.imports ++ program_fields 0 t.programs)
+  after_libraries =
       let libraries = library_fields 0 t.libraries in
       let others = import_fields (import_names_from t) t.imports ++ program_fields 0 t.programs in
       let behind = (reads-split (written_loader t) 0 56 libraries others entries_there).1 in
       reads-at (written_loader t) 0 (56 + widths libraries) 0 (56 + 24 * length t.libraries) others (omega (arith, widths-length libraries, length-library_fields 0 t.libraries)) behind
 
   imports_there : Reads (written_loader t) 0 (56 + 24 * length t.libraries) (import_fields (import_names_from t) t.imports)
-  imports_there = (reads-split (written_loader t) 0 (56 + 24 * length t.libraries) (import_fields (import_names_from t) t.imports) _ behind_libraries).0
+  imports_there = (reads-split (written_loader t) 0 (56 + 24 * length t.libraries) (import_fields (import_names_from t) t.imports) _ after_libraries).0
 
   relocations_there : Reads (written_loader t) 0 (56 + 24 * length t.libraries + 4 * length t.imports) (program_fields 0 t.programs)
   relocations_there =
       let imports = import_fields (import_names_from t) t.imports in
-      let behind = (reads-split (written_loader t) 0 (56 + 24 * length t.libraries) imports (program_fields 0 t.programs) behind_libraries).1 in
+      let behind = (reads-split (written_loader t) 0 (56 + 24 * length t.libraries) imports (program_fields 0 t.programs) after_libraries).1 in
       reads-at (written_loader t) 0 (56 + 24 * length t.libraries + widths imports) 0 (56 + 24 * length t.libraries + 4 * length t.imports) (program_fields 0 t.programs)
       (omega (arith, widths-length imports, length-import_fields (import_names_from t) t.imports)) behind
 
@@ -255,20 +255,20 @@ module _ (t : LoaderTables) (w : TablesFit t) where
       let slots = (reads-split (spelled (table_fields t)) 0 0 (map Word t.slots) (map Word t.keys ++ export_fields (export_names_from t) t.exports) table_reads).0 in
       table-entry words-table (spelled (table_fields t)) 0 0 t.slots s slot there slots
 
-  behind_slots : Reads (spelled (table_fields t)) 0 (4 * length t.slots) (map Word t.keys ++ export_fields (export_names_from t) t.exports)
-  behind_slots =
+  after_slots : Reads (spelled (table_fields t)) 0 (4 * length t.slots) (map Word t.keys ++ export_fields (export_names_from t) t.exports)
+  after_slots =
       let others = map Word t.keys ++ export_fields (export_names_from t) t.exports in
       let behind = (reads-split (spelled (table_fields t)) 0 0 (map Word t.slots) others table_reads).1 in
       reads-at (spelled (table_fields t)) 0 (0 + widths (map Word t.slots)) 0 (4 * length t.slots) others (omega (arith, widths-length (map Word t.slots), length-words t.slots)) behind
 
   pub key_reads : (i key : ℕ) → slice_get t.keys i ≡ Some key → Reads (spelled (table_fields t)) (4 * length t.slots + 4 * i) 0 (Word key ∷ [])
   key_reads i key there =
-      let keys = (reads-split (spelled (table_fields t)) 0 (4 * length t.slots) (map Word t.keys) (export_fields (export_names_from t) t.exports) behind_slots).0 in
+      let keys = (reads-split (spelled (table_fields t)) 0 (4 * length t.slots) (map Word t.keys) (export_fields (export_names_from t) t.exports) after_slots).0 in
       table-entry words-table (spelled (table_fields t)) (4 * length t.slots) 0 t.keys i key there keys
 
   pub export_reads : (i : ℕ) (e : Export) → slice_get t.exports i ≡ Some e → Reads (spelled (table_fields t)) (4 * length t.slots + 4 * length t.keys + 10 * i) 0 (export_entry (export_name_at t i) e)
   export_reads i e there =
       let exports = export_fields (export_names_from t) t.exports in
-      let behind = (reads-split (spelled (table_fields t)) 0 (4 * length t.slots) (map Word t.keys) exports behind_slots).1 in
+      let behind = (reads-split (spelled (table_fields t)) 0 (4 * length t.slots) (map Word t.keys) exports after_slots).1 in
       let own = reads-at (spelled (table_fields t)) 0 (4 * length t.slots + widths (map Word t.keys)) 0 (4 * length t.slots + 4 * length t.keys) exports (omega (arith, widths-length (map Word t.keys), length-words t.keys)) behind in
       table-entry exports-table (spelled (table_fields t)) (4 * length t.slots + 4 * length t.keys) (export_names_from t) t.exports i e there own

@@ -11,7 +11,7 @@ use Rattle.pef_reloc.specs.declared.instr.Instr.{Instr}
 use Rattle.pef_reloc.specs.Deliveries.{is_flat_instr}
 use Rattle.pef_reloc.specs.Steps.{Makes, State, added, additions, is_flat, next_state, numbered, pairs, row, start, state_after, trace}
 use Rattle.pef_reloc.proofs.Laws.{flat_parts, flat_more, row-more, row-end, pairs-more, pairs-end, numbered-more, numbered-end}
-use Rattle.pef_cert.specs.Fixups.Additions.{behind, behind_first, is_added}
+use Rattle.pef_cert.specs.Fixups.Additions.{behind, after_first, is_added}
 use Rattle.pef_cert.specs.Fixups.Answers.{Says}
 use Rattle.pef_cert.specs.Fixups.Kept.Walks.{Place, passed, placed, start_place, stepped, walked}
 use Rattle.pef_cert.proofs.FixupsProofs.FixupLemmas.{is_added-is, is_added-refl}
@@ -30,67 +30,67 @@ ended (f ∷ rest) e =
     ]
 
 -- one more addition
-behind_some : (a : Fixup) (made left rest : List Fixup) (all : Option (List Fixup)) → behind (a ∷ made) left ≡ all → Some rest ≡ behind_first a.offset a.base left → behind made rest ≡ all
-behind_some a made left rest all so first = ap (option_and_then (behind made)) first ∙ so
+after_some : (a : Fixup) (made left rest : List Fixup) (all : Option (List Fixup)) → behind (a ∷ made) left ≡ all → Some rest ≡ after_first a.offset a.base left → behind made rest ≡ all
+after_some a made left rest all so first = ap (option_and_then (behind made)) first ∙ so
 
-behind_none : (a : Fixup) (made left : List Fixup) (all : Option (List Fixup)) → behind (a ∷ made) left ≡ all → None ≡ behind_first a.offset a.base left → None ≡ all
-behind_none a made left all so first = ap (option_and_then (behind made)) first ∙ so
+after_none : (a : Fixup) (made left : List Fixup) (all : Option (List Fixup)) → behind (a ∷ made) left ≡ all → None ≡ after_first a.offset a.base left → None ≡ all
+after_none a made left all so first = ap (option_and_then (behind made)) first ∙ so
 
-behind_nothing : (made left : List Fixup) (all : Option (List Fixup)) → made ≡ [] → behind made left ≡ all → Some left ≡ all
-behind_nothing made left all none so = ap (λ made. behind made left) (sym none) ∙ so
+after_nothing : (made left : List Fixup) (all : Option (List Fixup)) → made ≡ [] → behind made left ≡ all → Some left ≡ all
+after_nothing made left all none so = ap (λ made. behind made left) (sym none) ∙ so
 
-pub words-next : (n i p w : ℕ) (b : Base) (left rest : List Fixup) (all : Option (List Fixup)) → i < n → behind (row (n - i) p w b) left ≡ all → Some rest ≡ behind_first p b left → behind (row (n - (i + 1)) (p + w) w b) rest ≡ all
+pub words-next : (n i p w : ℕ) (b : Base) (left rest : List Fixup) (all : Option (List Fixup)) → i < n → behind (row (n - i) p w b) left ≡ all → Some rest ≡ after_first p b left → behind (row (n - (i + 1)) (p + w) w b) rest ≡ all
 words-next n i p w b left rest all under so first =
-    behind_some (added p b) (row (n - (i + 1)) (p + w) w b) left rest all (ap (λ made. behind made left) (sym (row-more n i p w b under)) ∙ so) first
+    after_some (added p b) (row (n - (i + 1)) (p + w) w b) left rest all (ap (λ made. behind made left) (sym (row-more n i p w b under)) ∙ so) first
 
-pub words-fail : (n i p w : ℕ) (b : Base) (left : List Fixup) (all : Option (List Fixup)) → i < n → behind (row (n - i) p w b) left ≡ all → None ≡ behind_first p b left → None ≡ all
+pub words-fail : (n i p w : ℕ) (b : Base) (left : List Fixup) (all : Option (List Fixup)) → i < n → behind (row (n - i) p w b) left ≡ all → None ≡ after_first p b left → None ≡ all
 words-fail n i p w b left all under so first =
-    behind_none (added p b) (row (n - (i + 1)) (p + w) w b) left all (ap (λ made. behind made left) (sym (row-more n i p w b under)) ∙ so) first
+    after_none (added p b) (row (n - (i + 1)) (p + w) w b) left all (ap (λ made. behind made left) (sym (row-more n i p w b under)) ∙ so) first
 
 pub words-end : (n i p w : ℕ) (b : Base) (left : List Fixup) (all : Option (List Fixup)) → n ≤ i → behind (row (n - i) p w b) left ≡ all → Some left ≡ all
-words-end n i p w b left all past so = behind_nothing (row (n - i) p w b) left all (row-end n i p w b past) so
+words-end n i p w b left all past so = after_nothing (row (n - i) p w b) left all (row-end n i p w b past) so
 
-pub pairs-first : (n i p w : ℕ) (b b' : Base) (left rest : List Fixup) (all : Option (List Fixup)) → i < n → behind (pairs (n - i) p w b b') left ≡ all → Some rest ≡ behind_first p b left → behind (added (p + 4) b' ∷ pairs (n - (i + 1)) (p + w) w b b') rest ≡ all
+pub pairs-first : (n i p w : ℕ) (b b' : Base) (left rest : List Fixup) (all : Option (List Fixup)) → i < n → behind (pairs (n - i) p w b b') left ≡ all → Some rest ≡ after_first p b left → behind (added (p + 4) b' ∷ pairs (n - (i + 1)) (p + w) w b b') rest ≡ all
 pairs-first n i p w b b' left rest all under so first =
-    behind_some (added p b) (added (p + 4) b' ∷ pairs (n - (i + 1)) (p + w) w b b') left rest all (ap (λ made. behind made left) (sym (pairs-more n i p w b b' under)) ∙ so) first
+    after_some (added p b) (added (p + 4) b' ∷ pairs (n - (i + 1)) (p + w) w b b') left rest all (ap (λ made. behind made left) (sym (pairs-more n i p w b b' under)) ∙ so) first
 
-pub pairs-second : (n i p w : ℕ) (b b' : Base) (left rest : List Fixup) (all : Option (List Fixup)) → behind (added (p + 4) b' ∷ pairs (n - (i + 1)) (p + w) w b b') left ≡ all → Some rest ≡ behind_first (p + 4) b' left → behind (pairs (n - (i + 1)) (p + w) w b b') rest ≡ all
-pairs-second n i p w b b' left rest all so first = behind_some (added (p + 4) b') (pairs (n - (i + 1)) (p + w) w b b') left rest all so first
+pub pairs-second : (n i p w : ℕ) (b b' : Base) (left rest : List Fixup) (all : Option (List Fixup)) → behind (added (p + 4) b' ∷ pairs (n - (i + 1)) (p + w) w b b') left ≡ all → Some rest ≡ after_first (p + 4) b' left → behind (pairs (n - (i + 1)) (p + w) w b b') rest ≡ all
+pairs-second n i p w b b' left rest all so first = after_some (added (p + 4) b') (pairs (n - (i + 1)) (p + w) w b b') left rest all so first
 
-pub pairs-fail : (n i p w : ℕ) (b b' : Base) (left : List Fixup) (all : Option (List Fixup)) → i < n → behind (pairs (n - i) p w b b') left ≡ all → None ≡ behind_first p b left → None ≡ all
+pub pairs-fail : (n i p w : ℕ) (b b' : Base) (left : List Fixup) (all : Option (List Fixup)) → i < n → behind (pairs (n - i) p w b b') left ≡ all → None ≡ after_first p b left → None ≡ all
 pairs-fail n i p w b b' left all under so first =
-    behind_none (added p b) (added (p + 4) b' ∷ pairs (n - (i + 1)) (p + w) w b b') left all (ap (λ made. behind made left) (sym (pairs-more n i p w b b' under)) ∙ so) first
+    after_none (added p b) (added (p + 4) b' ∷ pairs (n - (i + 1)) (p + w) w b b') left all (ap (λ made. behind made left) (sym (pairs-more n i p w b b' under)) ∙ so) first
 
-pub pairs-fail_second : (n i p w : ℕ) (b b' : Base) (left : List Fixup) (all : Option (List Fixup)) → behind (added (p + 4) b' ∷ pairs (n - (i + 1)) (p + w) w b b') left ≡ all → None ≡ behind_first (p + 4) b' left → None ≡ all
-pairs-fail_second n i p w b b' left all so first = behind_none (added (p + 4) b') (pairs (n - (i + 1)) (p + w) w b b') left all so first
+pub pairs-fail_second : (n i p w : ℕ) (b b' : Base) (left : List Fixup) (all : Option (List Fixup)) → behind (added (p + 4) b' ∷ pairs (n - (i + 1)) (p + w) w b b') left ≡ all → None ≡ after_first (p + 4) b' left → None ≡ all
+pairs-fail_second n i p w b b' left all so first = after_none (added (p + 4) b') (pairs (n - (i + 1)) (p + w) w b b') left all so first
 
 pub pairs-last : (n i p w : ℕ) (b b' : Base) (left : List Fixup) (all : Option (List Fixup)) → n ≤ i → behind (pairs (n - i) p w b b') left ≡ all → Some left ≡ all
-pairs-last n i p w b b' left all past so = behind_nothing (pairs (n - i) p w b b') left all (pairs-end n i p w b b' past) so
+pairs-last n i p w b b' left all past so = after_nothing (pairs (n - i) p w b b') left all (pairs-end n i p w b b' past) so
 
-pub imports-next : (n i p m : ℕ) (left rest : List Fixup) (all : Option (List Fixup)) → i < n → behind (numbered (n - i) p m) left ≡ all → Some rest ≡ behind_first p (Import m) left → behind (numbered (n - (i + 1)) (p + 4) (m + 1)) rest ≡ all
+pub imports-next : (n i p m : ℕ) (left rest : List Fixup) (all : Option (List Fixup)) → i < n → behind (numbered (n - i) p m) left ≡ all → Some rest ≡ after_first p (Import m) left → behind (numbered (n - (i + 1)) (p + 4) (m + 1)) rest ≡ all
 imports-next n i p m left rest all under so first =
-    behind_some (added p (Import m)) (numbered (n - (i + 1)) (p + 4) (m + 1)) left rest all (ap (λ made. behind made left) (sym (numbered-more n i p m under)) ∙ so) first
+    after_some (added p (Import m)) (numbered (n - (i + 1)) (p + 4) (m + 1)) left rest all (ap (λ made. behind made left) (sym (numbered-more n i p m under)) ∙ so) first
 
-pub imports-fail : (n i p m : ℕ) (left : List Fixup) (all : Option (List Fixup)) → i < n → behind (numbered (n - i) p m) left ≡ all → None ≡ behind_first p (Import m) left → None ≡ all
+pub imports-fail : (n i p m : ℕ) (left : List Fixup) (all : Option (List Fixup)) → i < n → behind (numbered (n - i) p m) left ≡ all → None ≡ after_first p (Import m) left → None ≡ all
 imports-fail n i p m left all under so first =
-    behind_none (added p (Import m)) (numbered (n - (i + 1)) (p + 4) (m + 1)) left all (ap (λ made. behind made left) (sym (numbered-more n i p m under)) ∙ so) first
+    after_none (added p (Import m)) (numbered (n - (i + 1)) (p + 4) (m + 1)) left all (ap (λ made. behind made left) (sym (numbered-more n i p m under)) ∙ so) first
 
 pub imports-end : (n i p m : ℕ) (left : List Fixup) (all : Option (List Fixup)) → n ≤ i → behind (numbered (n - i) p m) left ≡ all → Some left ≡ all
-imports-end n i p m left all past so = behind_nothing (numbered (n - i) p m) left all (numbered-end n i p m past) so
+imports-end n i p m left all past so = after_nothing (numbered (n - i) p m) left all (numbered-end n i p m past) so
 
 -- the fixups left, and those made before them
 first_is : (a f : Fixup) (made rest left : List Fixup) (b : Bool) → is_added a.offset a.base f ≡ b → (behind made rest ≡ Some left → rest ≡ made ++ left) → option_and_then (behind made) (cond b (Some rest) None) ≡ Some left → f ∷ rest ≡ a ∷ (made ++ left)
 first_is a f made rest left true is others e = ap₂ (λ g fs. g ∷ fs) (is_added-is a.offset a.base f is) (others e)
 first_is a f made rest left false is others e = absurd (cc)
 
-pub behind-is : (made fixups left : List Fixup) → behind made fixups ≡ Some left → fixups ≡ made ++ left
-behind-is [] fixups left e = cc
-behind-is (a ∷ made) [] left e = absurd (cc)
-behind-is (a ∷ made) (f ∷ rest) left e = first_is a f made rest left (is_added a.offset a.base f) refl (behind-is made rest left) e
+pub after-is : (made fixups left : List Fixup) → behind made fixups ≡ Some left → fixups ≡ made ++ left
+after-is [] fixups left e = cc
+after-is (a ∷ made) [] left e = absurd (cc)
+after-is (a ∷ made) (f ∷ rest) left e = first_is a f made rest left (is_added a.offset a.base f) refl (after-is made rest left) e
 
-pub behind-made : (made left : List Fixup) → behind made (made ++ left) ≡ Some left
-behind-made [] left = refl
-behind-made (a ∷ made) left = rw (is_added-refl a.offset a.base a refl) (behind-made made left)
+pub after-made : (made left : List Fixup) → behind made (made ++ left) ≡ Some left
+after-made [] left = refl
+after-made (a ∷ made) left = rw (is_added-refl a.offset a.base a refl) (after-made made left)
 
 -- an instruction that was passed
 record Passed (x : Instr) (p q : Place) : Type 0 where
@@ -105,7 +105,7 @@ placed_is x p q (Some rest) e is flat =
     record {
       flat = flat;
       state = sym (ap (λ (t : Place). t.state) same);
-      left = behind-is (additions x p.state) p.left rest e ∙ ap (λ (t : Place). additions x p.state ++ t.left) same;
+      left = after-is (additions x p.state) p.left rest e ∙ ap (λ (t : Place). additions x p.state ++ t.left) same;
     }
 
 passed_if : (x : Instr) (p q : Place) (b : Bool) → is_flat_instr x ≡ b → cond b (stepped x p) None ≡ Some q → Passed x p q
@@ -143,7 +143,7 @@ made-walked (x ∷ xs) s fixups flat makes =
     let parts = flat_parts x xs flat in
     let others = made-walked xs (next_state x s) (trace xs (next_state x s)) parts.others refl in
     ap (λ fs. walked (x ∷ xs) (record { state = s; left = fs })) (sym makes)
-    ∙ rw (parts.first, behind-made (additions x s) (trace xs (next_state x s))) others
+    ∙ rw (parts.first, after-made (additions x s) (trace xs (next_state x s))) others
 
 -- the test of a program
 pub walk-says : (xs : List Instr) (fixups : List Fixup) (o : Option Place) (answer : Bool) → o ≡ walked xs (start_place fixups) → answer ≡ at_end o → Says answer ((is_flat xs ≡ true) × Makes fixups xs)

@@ -14,9 +14,9 @@ use Rattle.pef_cert.specs.Text.Words.{behind, first_of, halfwords_in, words_of}
 use Rattle.pef_cert.proofs.TextProofs.ReadLemmas.{fails_first, said_first, then_read}
 
 -- the rest after its first word
-program_line-behind : (halfwords : ℕ) (line : List ℕ) (words : List (List ℕ)) → behind (codes "program") (words_of line) ≡ Some words → program_line halfwords line ≡ then_read (bytes_spelled words) (program_in halfwords)
+program_line-after : (halfwords : ℕ) (line : List ℕ) (words : List (List ℕ)) → behind (codes "program") (words_of line) ≡ Some words → program_line halfwords line ≡ then_read (bytes_spelled words) (program_in halfwords)
 unfolding program_line
-program_line-behind halfwords line words first = rw first (by (bytes_spelled words))
+program_line-after halfwords line words first = rw first (by (bytes_spelled words))
   where
     by : (bytes : Option (List ℕ)) → (bytes >>= program_in halfwords) ≡ then_read bytes (program_in halfwords)
     by None = refl
@@ -24,12 +24,12 @@ program_line-behind halfwords line words first = rw first (by (bytes_spelled wor
 
 -- the bytes' fault is the line's
 pub program_fails : (fault : CertFault) (number halfwords : ℕ) (line : List ℕ) (words : List (List ℕ)) → behind (codes "program") (words_of line) ≡ Some words → FailsAs fault (ok_or (bytes_spelled words) number) → FailsAs fault (ok_or (program_line halfwords line) number)
-program_fails fault number halfwords line words first is = rw (program_line-behind halfwords line words first) (fails_first fault number (bytes_spelled words) (program_in halfwords) is)
+program_fails fault number halfwords line words first is = rw (program_line-after halfwords line words first) (fails_first fault number (bytes_spelled words) (program_in halfwords) is)
 
 -- their program is the line's
 pub program_taken : (result : Result (List Instr) CertFault) (number halfwords : ℕ) (line bytes : List ℕ) (words : List (List ℕ)) → behind (codes "program") (words_of line) ≡ Some words → ok_or (bytes_spelled words) number ≡ Ok bytes
     → Says result number (program_in halfwords bytes) → Says result number (program_line halfwords line)
-program_taken result number halfwords line bytes words first spelled is = rw (program_line-behind halfwords line words first, said_first (bytes_spelled words) number bytes spelled) is
+program_taken result number halfwords line bytes words first spelled is = rw (program_line-after halfwords line words first, said_first (bytes_spelled words) number bytes spelled) is
 
 -- words whose first isn't `-` spell the bytes of their halfwords
 pub halfwords_say : (result : Result (List ℕ) CertFault) (number : ℕ) (words : List (List ℕ)) (first : List ℕ) (others : List (List ℕ)) (old : List ℕ) → Some (first, others) ≡ first_of words → false ≡ bytes_eq first (codes "-") → old ≡ []

@@ -10,7 +10,7 @@ use Rattle.pef_cert.specs.declared.text.fault.CertFault.TheVariants.{BadCertific
 use Rattle.pef_cert.specs.declared.text.fields.Head.TheVariants.{End, Section}
 use Rattle.pef_cert.specs.declared.text.fields.Version.{Version}
 use Rattle.pef_cert.specs.declared.text.lines.Line.{Line}
-use Rattle.pef_cert.specs.Text.Grammar.{Left, behind_head, certificate_read, certificates_of, certificates_read, last_labels, line_read, range_rows, ranges_read, rows_read}
+use Rattle.pef_cert.specs.Text.Grammar.{Left, after_head, certificate_read, certificates_of, certificates_read, last_labels, line_read, range_rows, ranges_read, rows_read}
 use Rattle.pef_cert.specs.Text.Kept.Reading.{Going, NextLine, RangesGoing, Says, Takes}
 use Rattle.pef_cert.specs.Text.Views.{FailsAs}
 use Rattle.pef_cert.specs.Text.Lines.{Range, head_line, range_line, row_line, version_line}
@@ -46,7 +46,7 @@ rows_read-more width at count rows left under =
 pub record GoingOn (version : Version) (text : List ℕ) (certificates : List Certified) (behind : Left) : Type 0 where
   pub most : ℕ
   pub more : length behind.text ≤ most
-  pub whole : (line_read head_line behind >>= λ head. behind_head version head.0 certificates head.1 (certificates_read version most)) ≡ certificates_of text
+  pub whole : (line_read head_line behind >>= λ head. after_head version head.0 certificates head.1 (certificates_read version most)) ≡ certificates_of text
 
 pub going_on : (version : Version) (text : List ℕ) (certificates : List Certified) (behind : Left) → Going version text certificates behind → GoingOn version text certificates behind
 going_on version text certificates behind g =

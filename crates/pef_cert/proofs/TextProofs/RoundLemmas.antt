@@ -196,9 +196,9 @@ rows_read-text width at before (row ∷ rows) number rest all small =
     record { number = others.number; is = rw (parts, line) (others.is ∙ ap (λ (rs : List (List ℕ)). Ok (rs, record { number = others.number; text = rest })) whole) }
 
 -- a fact of all of some rows in a row is one of the last of them
-all-behind : {A : Type 0} (P : A → Type 0) (xs ys : List A) → AllByRecursion P (xs ++ ys) → AllByRecursion P ys
-all-behind P [] ys all = all
-all-behind P (x ∷ xs) ys all = all-behind P xs ys all.1
+all-after : {A : Type 0} (P : A → Type 0) (xs ys : List A) → AllByRecursion P (xs ++ ys) → AllByRecursion P ys
+all-after P [] ys all = all
+all-after P (x ∷ xs) ys all = all-after P xs ys all.1
 
 -- ranges
 ranges_read-text : (most width count : ℕ) (before rows : List (List ℕ)) (number : ℕ) (rest : List ℕ) → AllByRecursion (IsRow width) rows → length before + length rows ≡ count → count ≤ 2 ^ 32 → length rows < most
@@ -233,7 +233,7 @@ ranges_read-text (suc most) width count before (row ∷ rows) number rest all wh
     let grown : range_rows run ≡ front = (let e : length before + s.n - length before + 1 ≡ suc s.n = omega arith in ap (λ (m : ℕ). replicate m row) e) in
     let last : last_labels next ≡ row = ap (λ (m : ℕ). last_labels (before ++ replicate m row)) one ∙ last_labels-more before s.n row in
     let others = ranges_read-text most width count next s.others (number + 1) rest
-    (all-behind (IsRow width) front s.others (subst (AllByRecursion (IsRow width)) parts all)) (omega (arith, whole, count_is, sum)) small (omega (arith, enough, count_is))
+    (all-after (IsRow width) front s.others (subst (AllByRecursion (IsRow width)) parts all)) (omega (arith, whole, count_is, sum)) small (omega (arith, enough, count_is))
     (λ more is. s.apart more (is ∙ ap (λ (r : List ℕ). r ∷ more) last)) in
     record {
       number = others.number;

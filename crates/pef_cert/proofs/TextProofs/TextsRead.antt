@@ -13,7 +13,7 @@ use Rattle.pef_cert.specs.declared.text.fields.Head.{Head}
 use Rattle.pef_cert.specs.declared.text.fields.Head.TheVariants.{Section, End}
 use Rattle.pef_cert.specs.declared.text.fields.Version.{Version}
 use Rattle.pef_cert.specs.declared.text.fields.Version.TheVariants.{One, Two}
-use Rattle.pef_cert.specs.Text.Grammar.{Left, behind_head, certificate_read, certificates_of, certificates_read, labels_read, last_labels, line_read, range_rows, ranges_read, row_width, rows_read, text_ended}
+use Rattle.pef_cert.specs.Text.Grammar.{Left, after_head, certificate_read, certificates_of, certificates_read, labels_read, last_labels, line_read, range_rows, ranges_read, row_width, rows_read, text_ended}
 use Rattle.pef_cert.specs.Text.Lines.{Range, fixups_line, head_line, length_line, program_line, range_line, registers_line, row_line, version_line}
 use Rattle.pef_cert.specs.Text.Printed.{IsNumber, IsRow, Printable, certificate_text, certificates_text, each_text, labels_text, line_text, number_words, program_words, range_text, ranges_of, ranges_text, rows_text, version_word, versioned_text, words_text}
 use Rattle.pef_cert.proofs.TextProofs.LinesRead.{line_read-ok, step_ok}
@@ -237,7 +237,7 @@ one_more version section before all old left next line c is parts one others = r
       ∙ sym (append_assoc (certificate_text version c) (each_text version others.more) end_text);
 }
 
-headed-are : (version : Version) (n : ℕ) (head : Head) (before all : List Certified) (old left : Left) (line : List ℕ) → HeadText head line → old.text ≡ line ++ 0x0A ∷ left.text → behind_head version head before left (certificates_read version n) ≡ Ok all
+headed-are : (version : Version) (n : ℕ) (head : Head) (before all : List Certified) (old left : Left) (line : List ℕ) → HeadText head line → old.text ≡ line ++ 0x0A ∷ left.text → after_head version head before left (certificates_read version n) ≡ Ok all
     → ((others : List Certified) (next : Left) → certificates_read version n others next ≡ Ok all → CertificatesText version others next all) → CertificatesText version before old all
 headed-are version n End before all old left line is parts read others = ended-are version before all old left line is parts read
 headed-are version n (Section section) before all old left line is parts read others =
@@ -247,7 +247,7 @@ headed-are version n (Section section) before all old left line is parts read ot
 certificates_read-are : (version : Version) (n : ℕ) (before all : List Certified) (old : Left) → certificates_read version n before old ≡ Ok all → CertificatesText version before old all
 certificates_read-are version zero before all old is = absurd (cc)
 certificates_read-are version (suc n) before all old is =
-    step_ok (line_read head_line old) (λ head. behind_head version head.0 before head.1 (certificates_read version n)) all is (λ head first rest.
+    step_ok (line_read head_line old) (λ head. after_head version head.0 before head.1 (certificates_read version n)) all is (λ head first rest.
     line_read-ok head_line old head.1 head.0 first (λ line said parts.
     headed-are version n head.0 before all old head.1 line (head_line-is line head.0 said) parts rest (λ others next read. certificates_read-are version n others all next read)))
 

@@ -36,8 +36,8 @@ first_of-some (word ∷ words) x is =
     let same : (word, words) ≡ x = cc in
     ap (λ (p : List ℕ × List (List ℕ)). p.0 ∷ p.1) same
 
-pub behind-some : (wanted : List ℕ) (words others : List (List ℕ)) → behind wanted words ≡ Some others → words ≡ wanted ∷ others
-behind-some wanted words others is = then_some (first_of words) (λ first. provided (bytes_eq first.0 wanted) first.1) others is (λ first found rest.
+pub after-some : (wanted : List ℕ) (words others : List (List ℕ)) → behind wanted words ≡ Some others → words ≡ wanted ∷ others
+after-some wanted words others is = then_some (first_of words) (λ first. provided (bytes_eq first.0 wanted) first.1) others is (λ first found rest.
     let p = provided-some (bytes_eq first.0 wanted) first.1 others rest in
     first_of-some words first found ∙ ap₂ (λ (w : List ℕ) (ws : List (List ℕ)). w ∷ ws) (is_word first.0 wanted p.0) p.1)
 
@@ -62,7 +62,7 @@ joined-words_of (b ∷ bytes) = by (b == 0x20) refl (words_of bytes) (joined-wor
 -- a line that begins with a word
 pub line-is : (line word : List ℕ) (words others : List (List ℕ)) → behind word (words_of line) ≡ Some words → words ≡ others → line ≡ word ++ words_text others
 line-is line word words others first are =
-    sym (joined-words_of line) ∙ ap joined (behind-some word (words_of line) words first ∙ ap (λ (ws : List (List ℕ)). word ∷ ws) are)
+    sym (joined-words_of line) ∙ ap joined (after-some word (words_of line) words first ∙ ap (λ (ws : List (List ℕ)). word ∷ ws) are)
 
 -- numbers
 

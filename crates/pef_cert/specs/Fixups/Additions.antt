@@ -16,11 +16,11 @@ abbrev pub is_added : ℕ → Base → Fixup → Bool
 is_added p b f = f.offset == p && same_base f.base b
 
 -- the fixups left after the first, if it adds a base at an offset
-abbrev pub behind_first : ℕ → Base → List Fixup → Option (List Fixup)
-behind_first p b [] = None
-behind_first p b (f ∷ rest) = if is_added p b f then Some rest else None
+abbrev pub after_first : ℕ → Base → List Fixup → Option (List Fixup)
+after_first p b [] = None
+after_first p b (f ∷ rest) = if is_added p b f then Some rest else None
 
 -- the fixups left after those at the front
 abbrev pub behind : List Fixup → List Fixup → Option (List Fixup)
 behind [] fixups = Some fixups
-behind (a ∷ made) fixups = option_and_then (behind made) (behind_first a.offset a.base fixups)
+behind (a ∷ made) fixups = option_and_then (behind made) (after_first a.offset a.base fixups)

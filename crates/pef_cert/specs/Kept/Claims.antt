@@ -82,13 +82,13 @@ abbrev pub Knows : CheckedSuffix → ℕ → Type 0
 Knows b from = Swept b.claim b.rows.now b.skips.now from
 
 -- the labels after an index are feasible
-abbrev pub FeasibleBehind : Claim → ℕ → Type 0
-FeasibleBehind claim at = FeasibleFrom (labels_claimed claim) (index_after (take (at + 1) claim.fixups.now) 0) (drop (at + 1) claim.fixups.now)
+abbrev pub FeasibleAfter : Claim → ℕ → Type 0
+FeasibleAfter claim at = FeasibleFrom (labels_claimed claim) (index_after (take (at + 1) claim.fixups.now) 0) (drop (at + 1) claim.fixups.now)
 
 -- a state at a fixup, whose label is tested against the later fixups
 pub record Tests (b : CheckedSuffix) (s : TestedState) : Type 0 where
   pub knows : Knows b (s.at + 1)
-  pub beyond : FeasibleBehind b.claim s.at
+  pub beyond : FeasibleAfter b.claim s.at
   pub here : slice_get b.claim.fixups.now s.at ≡ Some s.fixup
   pub c_class : s.c < length b.claim.registers.now + 1
   pub d_class : s.d < length b.claim.registers.now + 1
@@ -104,28 +104,28 @@ state_of claim u c d = record {
 }
 
 -- the label of an index, in the classes of a tested state
-abbrev pub label_behind : CheckedSuffix → TestedState → ℕ → ℕ
-label_behind b s j = (labels_claimed b.claim).label (length b.claim.fixups.now - j) s.c s.d
+abbrev pub label_after : CheckedSuffix → TestedState → ℕ → ℕ
+label_after b s j = (labels_claimed b.claim).label (length b.claim.fixups.now - j) s.c s.d
 
 -- for each label after a tested one the test of a run of a base that begins there holds
 abbrev pub RowMet : CheckedSuffix → TestedState → ℕ → Base → Type 0
 RowMet b s w base = (j p : ℕ) → s.at < j → adds_first p base (drop j b.claim.fixups.now) ≡ true
-    → row_test (labels_claimed b.claim) (label_behind b s j) w base s.c s.d 512 p (drop j b.claim.fixups.now) ≡ true
+    → row_test (labels_claimed b.claim) (label_after b s j) w base s.c s.d 512 p (drop j b.claim.fixups.now) ≡ true
 
 -- and that of a run of two bases side by side
 abbrev pub PairsMet : CheckedSuffix → TestedState → ℕ → Base → Base → Type 0
 PairsMet b s w first second = (j p : ℕ) → s.at < j → (adds_first p first (drop j b.claim.fixups.now) && adds_first (p + 4) second (drop (j + 1) b.claim.fixups.now)) ≡ true
-    → pairs_test (labels_claimed b.claim) (label_behind b s j) w first second s.c s.d 512 p (drop j b.claim.fixups.now) ≡ true
+    → pairs_test (labels_claimed b.claim) (label_after b s j) w first second s.c s.d 512 p (drop j b.claim.fixups.now) ≡ true
 
 -- an index after a tested state whose label is no lower
 pub record Covers (b : CheckedSuffix) (s : TestedState) (j : ℕ) : Type 0 where
   pub after : s.at < j
-  pub low : s.label ≤ label_behind b s j
+  pub low : s.label ≤ label_after b s j
 
 -- a fixup under test, with its row of labels
 pub record UnderTest (b : CheckedSuffix) (u : TestedFixup) : Type 0 where
   pub knows : Knows b (u.at + 1)
-  pub beyond : FeasibleBehind b.claim u.at
+  pub beyond : FeasibleAfter b.claim u.at
   pub here : slice_get b.claim.fixups.now u.at ≡ Some u.fixup
   pub row : IsRowOf b.claim.kept.ends.now u.row u.at
 
@@ -146,7 +146,7 @@ pub record GoesOn (b : CheckedSuffix) (u : TestedFixup) (base : Base) : Type 0 w
 -- an index at a section's fixup, if everything after it is known and labels are feasible there
 pub record Skips (b : CheckedSuffix) (at : ℕ) (f : Fixup) (k : ℕ) : Type 0 where
   pub knows : Knows b (at + 1)
-  pub beyond : FeasibleBehind b.claim at
+  pub beyond : FeasibleAfter b.claim at
   pub here : slice_get b.claim.fixups.now at ≡ Some f
   pub base : f.base ≡ Section k
 

@@ -70,9 +70,9 @@ abbrev pub text_ended : List Certified → Left → Result (List Certified) ℕ
 text_ended certificates left = if length left.text == 0 then Ok certificates else Err left.number
 
 -- a line begins a certificate, which others may follow, or ends the text
-abbrev pub behind_head : Version → Head → List Certified → Left → (List Certified → Left → Result (List Certified) ℕ) → Result (List Certified) ℕ
-behind_head version End certificates left others = text_ended certificates left
-behind_head version (Section section) certificates left others = do
+abbrev pub after_head : Version → Head → List Certified → Left → (List Certified → Left → Result (List Certified) ℕ) → Result (List Certified) ℕ
+after_head version End certificates left others = text_ended certificates left
+after_head version (Section section) certificates left others = do
   certificate ← certificate_read version section left
   others (certificates ++ certificate.0 ∷ []) certificate.1
 
@@ -81,7 +81,7 @@ abbrev pub certificates_read : Version → ℕ → List Certified → Left → R
 certificates_read version zero certificates left = Err left.number
 certificates_read version (suc n) certificates left = do
   head ← line_read head_line left
-  behind_head version head.0 certificates head.1 (certificates_read version n)
+  after_head version head.0 certificates head.1 (certificates_read version n)
 
 -- the certificates of a text, or the number of the line that is refused. There are fewer certificates than bytes
 unfoldable pub certificates_of : List ℕ → Result (List Certified) ℕ

@@ -1,6 +1,6 @@
 ghost use Rattle.std.specs.Prelude.{◌≡◌};
 ghost use Rattle.std.specs.Option.{option_map};
-ghost use Rattle.pef_cert.specs.Fixups.Additions.{behind_first, is_added};
+ghost use Rattle.pef_cert.specs.Fixups.Additions.{after_first, is_added};
 ghost use Rattle.pef_reloc.specs.declared.fixup.Base.TheVariants.{Import};
 
 use pef_reloc::{Base, Fixup};
@@ -17,16 +17,16 @@ pub fn adds_at(fixup: Fixup, offset: u64, base: Base) -> bool
 
 /// Returns the fixups left after the first, if it adds `base` at `offset`. `None` if it doesn't, or there
 /// is none.
-pub fn behind_first(fixups: &[Fixup], offset: u64, base: Base) -> Option<&[Fixup]>
-    ensures { option_map (λ l. l.now) result ≡ behind_first offset base fixups.now }
+pub fn after_first(fixups: &[Fixup], offset: u64, base: Base) -> Option<&[Fixup]>
+    ensures { option_map (λ l. l.now) result ≡ after_first offset base fixups.now }
 {
     let (first, rest) = fixups.split_first()?;
     adds_at(*first, offset, base).then_some(rest)
 }
 
 /// Returns the same for the import with a number.
-pub fn behind_import(fixups: &[Fixup], offset: u64, import: u64) -> Option<&[Fixup]>
-    ensures { option_map (λ l. l.now) result ≡ behind_first offset (Import import) fixups.now }
+pub fn after_import(fixups: &[Fixup], offset: u64, import: u64) -> Option<&[Fixup]>
+    ensures { option_map (λ l. l.now) result ≡ after_first offset (Import import) fixups.now }
 {
     let (first, rest) = fixups.split_first()?;
     adds_import_at(*first, offset, import).then_some(rest)

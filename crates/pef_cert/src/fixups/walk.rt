@@ -1,13 +1,13 @@
 ghost use Rattle.std.specs.Prelude.{◌≡◌, ◌+◌, ◌*◌, ◌^◌, ◌<◌, ◌≤◌, true, IfSome, length};
 ghost use Rattle.std.specs.Option.{option_map};
-ghost use Rattle.pef_cert.specs.Fixups.Additions.{behind, behind_first};
+ghost use Rattle.pef_cert.specs.Fixups.Additions.{behind, after_first};
 ghost use Rattle.pef_cert.specs.Fixups.Answers.{Says};
 ghost use Rattle.pef_cert.specs.Fixups.Kept.Walks.{passed, place_of, placed, start_place, state_of, stepped, walked};
 ghost use Rattle.pef_reloc.specs.Instrs.{instr_fits, program_length};
 ghost use Rattle.pef_reloc.specs.Steps.{Makes, is_flat, moved, numbered, pairs, past_import, row};
 ghost use Rattle.pef_reloc.specs.declared.fixup.Base.TheVariants.{Import, Section};
 
-use crate::fixups::additions::{WORD, behind_first, behind_import};
+use crate::fixups::additions::{WORD, after_first, after_import};
 use pef_reloc::{Base, Fixup, Instr};
 
 /// The state of a walk of a program along fixups: the registers, and the fixups that are left to make.
@@ -124,7 +124,7 @@ impl<'a> Walk<'a> {
         ensures near { IfSome result (λ w. (w.position ≤ self.entry.position + 2 ^ 26) × (w.import_index ≡ self.entry.import_index)) }
     {
         let from = self.position + bytes;
-        let left = behind_words(self.left, count, from, stride, Base::Section(section))?;
+        let left = after_words(self.left, count, from, stride, Base::Section(section))?;
         let position = from + stride * u64::from(count);
         Some(Walk {
             left,
@@ -141,7 +141,7 @@ impl<'a> Walk<'a> {
         ensures is { option_map place_of result ≡ placed (moved (stride * count) (state_of self.entry)) (behind (pairs count self.entry.position stride (Section self.entry.c) (Section self.entry.d)) self.entry.left.now) }
         ensures near { IfSome result (λ w. (w.position ≤ self.entry.position + 2 ^ 26) × (w.import_index ≡ self.entry.import_index)) }
     {
-        let left = self.behind_pairs(count, stride)?;
+        let left = self.after_pairs(count, stride)?;
         let position = self.position + stride * u64::from(count);
         Some(Walk {
             left,
@@ -158,7 +158,7 @@ impl<'a> Walk<'a> {
         ensures is { option_map place_of result ≡ placed (record (state_of self.entry) { position = self.entry.position + 4 * count; import_index = self.entry.import_index + count }) (behind (numbered count self.entry.position self.entry.import_index) self.entry.left.now) }
         ensures near { IfSome result (λ w. (w.position ≤ self.entry.position + 2 ^ 26) × (w.import_index ≤ self.entry.import_index + 2 ^ 26)) }
     {
-        let left = self.behind_imports(count)?;
+        let left = self.after_imports(count)?;
         let position = self.position + WORD * u64::from(count);
         let import_index = self.import_index + u64::from(count);
         Some(Walk {
@@ -172,10 +172,10 @@ impl<'a> Walk<'a> {
     /// Adds a section to a word.
     fn add_section(self, section: u32) -> Option<Walk<'a>>
         requires position { self.position < 2 ^ 60 }
-        ensures is { option_map place_of result ≡ placed (moved 4 (state_of self.entry)) (behind_first self.entry.position (Section section) self.entry.left.now) }
+        ensures is { option_map place_of result ≡ placed (moved 4 (state_of self.entry)) (after_first self.entry.position (Section section) self.entry.left.now) }
         ensures near { IfSome result (λ w. (w.position ≤ self.entry.position + 2 ^ 26) × (w.import_index ≡ self.entry.import_index)) }
     {
-        let left = behind_first(self.left, self.position, Base::Section(section))?;
+        let left = after_first(self.left, self.position, Base::Section(section))?;
         let position = self.position + WORD;
         Some(Walk {
             left,
@@ -188,10 +188,10 @@ impl<'a> Walk<'a> {
     fn add_import(self, import: u32) -> Option<Walk<'a>>
         requires position { self.position < 2 ^ 60 }
         requires import { import < 2 ^ 26 }
-        ensures is { option_map place_of result ≡ placed (past_import import (state_of self.entry)) (behind_first self.entry.position (Import import) self.entry.left.now) }
+        ensures is { option_map place_of result ≡ placed (past_import import (state_of self.entry)) (after_first self.entry.position (Import import) self.entry.left.now) }
         ensures near { IfSome result (λ w. (w.position ≤ self.entry.position + 2 ^ 26) × (w.import_index ≤ self.entry.import_index + 2 ^ 26)) }
     {
-        let left = behind_first(self.left, self.position, Base::Import(import))?;
+        let left = after_first(self.left, self.position, Base::Import(import))?;
         let position = self.position + WORD;
         let import_index = u64::from(import) + 1;
         Some(Walk {
@@ -203,7 +203,7 @@ impl<'a> Walk<'a> {
     }
 
     /// Returns the fixups left after this many pairs of sections C and D.
-    fn behind_pairs(self, count: u32, stride: u64) -> Option<&'a [Fixup]>
+    fn after_pairs(self, count: u32, stride: u64) -> Option<&'a [Fixup]>
         requires position { self.position < 2 ^ 60 }
         requires stride { stride ≤ 12 }
         ensures { option_map (λ l. l.now) result ≡ behind (pairs count self.entry.position stride (Section self.entry.c) (Section self.entry.d)) self.entry.left.now }
@@ -211,15 +211,15 @@ impl<'a> Walk<'a> {
         let mut left = self.left;
         let mut position = self.position;
         'pairs: for _ in 0..count {
-            left = behind_first(left, position, Base::Section(self.c))?;
-            left = behind_first(left, position + WORD, Base::Section(self.d))?;
+            left = after_first(left, position, Base::Section(self.c))?;
+            left = after_first(left, position + WORD, Base::Section(self.d))?;
             position += stride;
         }
         Some(left)
     }
 
     /// Returns the fixups left after this many imports from the next one on.
-    fn behind_imports(self, count: u32) -> Option<&'a [Fixup]>
+    fn after_imports(self, count: u32) -> Option<&'a [Fixup]>
         requires position { self.position < 2 ^ 60 }
         requires import_index { self.import_index < 2 ^ 60 }
         ensures { option_map (λ l. l.now) result ≡ behind (numbered count self.entry.position self.entry.import_index) self.entry.left.now }
@@ -228,7 +228,7 @@ impl<'a> Walk<'a> {
         let mut position = self.position;
         let mut import = self.import_index;
         'imports: for _ in 0..count {
-            left = behind_import(left, position, import)?;
+            left = after_import(left, position, import)?;
             position += WORD;
             import += 1;
         }
@@ -237,7 +237,7 @@ impl<'a> Walk<'a> {
 }
 
 /// Returns the fixups left after this many words of a base, `stride` bytes apart.
-fn behind_words<'a>(
+fn after_words<'a>(
     fixups: &'a [Fixup],
     count: u32,
     from: u64,
@@ -251,7 +251,7 @@ fn behind_words<'a>(
     let mut left = fixups;
     let mut position = from;
     'words: for _ in 0..count {
-        left = behind_first(left, position, base)?;
+        left = after_first(left, position, base)?;
         position += stride;
     }
     Some(left)

@@ -14,7 +14,7 @@ use Rattle.pef_plan.specs.declared.runs.ends.RunEnds.{RunEnds}
 use Rattle.pef_plan.specs.declared.runs.suffix.SolvedSuffix.{SolvedSuffix}
 use Rattle.pef_plan.specs.declared.runs.state.PlanState.{PlanState}
 use Rattle.pef_plan.specs.declared.runs.state.FixupState.{FixupState}
-use Rattle.pef_plan.specs.Runs.Ends.{Brought, BroughtMaybe, EndRows, EndsAt, EndsOf, FarAt, FarKept, FarPairsAt, FarPairsKept, Holding, HoldingTwo, NearKept, NearSmall, PairBehind, PairsAt, PairsKept, SkipsAt, SkipsKept, SpacedAt, SpacedKept, WordsAt, WordsKept, base_import, far_pairs_run, pairs_run, rest_of, second_of, sections_of, words_run}
+use Rattle.pef_plan.specs.Runs.Ends.{Brought, BroughtMaybe, EndRows, EndsAt, EndsOf, FarAt, FarKept, FarPairsAt, FarPairsKept, Holding, HoldingTwo, NearKept, NearSmall, PairAfter, PairsAt, PairsKept, SkipsAt, SkipsKept, SpacedAt, SpacedKept, WordsAt, WordsKept, base_import, far_pairs_run, pairs_run, rest_of, second_of, sections_of, words_run}
 use Rattle.pef_plan.specs.Runs.Tables.{Agrees, place_of}
 use Rattle.pef_plan.specs.Windows.Windows.{WindowOf, Windowed}
 
@@ -95,7 +95,7 @@ spaced_go l f rest count k rows row w kept far br = λ c d under_c is_d.
     (subst (λ (fs : List Fixup). SpacedKept l fs rows) there kept c d under_c is_d))
     (λ left parts. far c d under_c is_d ∙ ap (λ fs. extension l fs (f.offset + 8) c d) (tail_same f (added f.offset (Section k)) rest left parts))
 
-pairs_go : (l : Labels) (f : Fixup) (rest : List Fixup) (count j k v : ℕ) (rows : List (List ℕ)) (w : Windowed) → PairsKept l (rest_of rest) rows → PairBehind l 4 rest (Some (j, k)) v → (br : Brought (Pairs j k) count 512 (f ∷ rest) f.offset 0 rows (v ∷ []) w) → (c d : ℕ) → c ≡ class_of l.registers j → d ≡ class_of l.registers k → EndRows l (Pairs j k) 512 (f ∷ rest) f.offset 0 c d 0 br.now
+pairs_go : (l : Labels) (f : Fixup) (rest : List Fixup) (count j k v : ℕ) (rows : List (List ℕ)) (w : Windowed) → PairsKept l (rest_of rest) rows → PairAfter l 4 rest (Some (j, k)) v → (br : Brought (Pairs j k) count 512 (f ∷ rest) f.offset 0 rows (v ∷ []) w) → (c d : ℕ) → c ≡ class_of l.registers j → d ≡ class_of l.registers k → EndRows l (Pairs j k) 512 (f ∷ rest) f.offset 0 c d 0 br.now
 pairs_go l f rest count j k v rows w kept behind br c d is_c is_d =
     br.ends l c d 0
     (λ left more parts on.
@@ -106,10 +106,10 @@ pairs_go l f rest count j k v rows w kept behind br c d is_c is_d =
     (λ left parts.
     let same = tail_two f (added f.offset (Section j)) (added (f.offset + 4) (Section k)) rest left parts in
     let end : f.offset + 4 + 4 ≡ f.offset + 8 = omega arith in
-    let value : v ≡ extension l left (f.offset + 4 + 4) (class_of l.registers j) (class_of l.registers k) = subst (λ (fs : List Fixup). PairBehind l 4 fs (Some (j, k)) v) same behind in
+    let value : v ≡ extension l left (f.offset + 4 + 4) (class_of l.registers j) (class_of l.registers k) = subst (λ (fs : List Fixup). PairAfter l 4 fs (Some (j, k)) v) same behind in
     value ∙ (ap (λ p. extension l left p (class_of l.registers j) (class_of l.registers k)) end ∙ ap₂ (λ x y. extension l left (f.offset + 8) x y) (sym is_c) (sym is_d)))
 
-far_pairs_go : (l : Labels) (f : Fixup) (rest : List Fixup) (count j k v : ℕ) (rows : List (List ℕ)) (w : Windowed) → FarPairsKept l (rest_of rest) rows → PairBehind l 8 rest (Some (j, k)) v → (br : Brought (SpacedPairs j k) count 512 (f ∷ rest) f.offset 0 rows (v ∷ []) w) → (c d : ℕ) → c ≡ class_of l.registers j → d ≡ class_of l.registers k → EndRows l (SpacedPairs j k) 512 (f ∷ rest) f.offset 0 c d 0 br.now
+far_pairs_go : (l : Labels) (f : Fixup) (rest : List Fixup) (count j k v : ℕ) (rows : List (List ℕ)) (w : Windowed) → FarPairsKept l (rest_of rest) rows → PairAfter l 8 rest (Some (j, k)) v → (br : Brought (SpacedPairs j k) count 512 (f ∷ rest) f.offset 0 rows (v ∷ []) w) → (c d : ℕ) → c ≡ class_of l.registers j → d ≡ class_of l.registers k → EndRows l (SpacedPairs j k) 512 (f ∷ rest) f.offset 0 c d 0 br.now
 far_pairs_go l f rest count j k v rows w kept behind br c d is_c is_d =
     br.ends l c d 0
     (λ left more parts on.
@@ -120,7 +120,7 @@ far_pairs_go l f rest count j k v rows w kept behind br c d is_c is_d =
     (λ left parts.
     let same = tail_two f (added f.offset (Section j)) (added (f.offset + 4) (Section k)) rest left parts in
     let end : f.offset + 4 + 8 ≡ f.offset + 12 = omega arith in
-    let value : v ≡ extension l left (f.offset + 4 + 8) (class_of l.registers j) (class_of l.registers k) = subst (λ (fs : List Fixup). PairBehind l 8 fs (Some (j, k)) v) same behind in
+    let value : v ≡ extension l left (f.offset + 4 + 8) (class_of l.registers j) (class_of l.registers k) = subst (λ (fs : List Fixup). PairAfter l 8 fs (Some (j, k)) v) same behind in
     value ∙ (ap (λ p. extension l left p (class_of l.registers j) (class_of l.registers k)) end ∙ ap₂ (λ x y. extension l left (f.offset + 12) x y) (sym is_c) (sym is_d)))
 
 -- the windows of words, and of those of one section
@@ -161,22 +161,22 @@ second_is : (j : ℕ) (b : Base) (s : ℕ × ℕ) → second_of j b ≡ Some s �
 second_is j (Section k) s e = (cc, cc)
 second_is j (Import i) s e = absurd (cc)
 
-pub pair_near : (l : Labels) (b : Base) (others : List Fixup) (s : ℕ × ℕ) (near : List ℕ) (v : ℕ) → NearKept l others near → sections_of b others ≡ Some s → v ≡ slice_index near (place_of (classes l) (class_of l.registers s.0) (class_of l.registers s.1)) → PairBehind l 4 others (sections_of b others) v
+pub pair_near : (l : Labels) (b : Base) (others : List Fixup) (s : ℕ × ℕ) (near : List ℕ) (v : ℕ) → NearKept l others near → sections_of b others ≡ Some s → v ≡ slice_index near (place_of (classes l) (class_of l.registers s.0) (class_of l.registers s.1)) → PairAfter l 4 others (sections_of b others) v
 pair_near l b [] s near v kept is value = tt
 pair_near l b (g ∷ rest) s near v kept is value =
-    subst (λ (o : Option (ℕ × ℕ)). PairBehind l 4 (g ∷ rest) o v) (sym is)
+    subst (λ (o : Option (ℕ × ℕ)). PairAfter l 4 (g ∷ rest) o v) (sym is)
     (value ∙ kept (class_of l.registers s.0) (class_of l.registers s.1) (class_of-below l s.0) (class_of-below l s.1))
 
-pub pair_far : (l : Labels) (b : Base) (others : List Fixup) (s : ℕ × ℕ) (far : List ℕ) (v : ℕ) → FarKept l others far → sections_of b others ≡ Some s → v ≡ slice_index far (class_of l.registers s.0) → PairBehind l 8 others (sections_of b others) v
+pub pair_far : (l : Labels) (b : Base) (others : List Fixup) (s : ℕ × ℕ) (far : List ℕ) (v : ℕ) → FarKept l others far → sections_of b others ≡ Some s → v ≡ slice_index far (class_of l.registers s.0) → PairAfter l 8 others (sections_of b others) v
 pair_far l b [] s far v kept is value = tt
 pair_far l (Import i) (g ∷ rest) s far v kept is value = absurd (cc)
 pair_far l (Section j) (g ∷ rest) s far v kept is value =
     let base = (second_is j g.base s is).1 in
-    subst (λ (o : Option (ℕ × ℕ)). PairBehind l 8 (g ∷ rest) o v) (sym is)
+    subst (λ (o : Option (ℕ × ℕ)). PairAfter l 8 (g ∷ rest) o v) (sym is)
     (value ∙ subst (λ (x : Base). FarAt l g.offset rest far x) base kept (class_of l.registers s.0) (class_of l.registers s.1) (class_of-below l s.0) refl)
 
 -- the windows of pairs
-pairs_here : (P : Labels → Type 0) (count v : ℕ) (f : Fixup) (rest : List Fixup) (b : Base) (rows : List (List ℕ)) (w : Windowed) → f.base ≡ b → ((l : Labels) → P l → PairsKept l (rest_of rest) rows) → ((l : Labels) → P l → PairBehind l 4 rest (sections_of b rest) v) → BroughtMaybe (pairs_run (sections_of b rest)) count 512 (f ∷ rest) f.offset (base_import b) rows (v ∷ []) w → Holding P count 512 (λ l now. PairsKept l (f ∷ rest) now) w
+pairs_here : (P : Labels → Type 0) (count v : ℕ) (f : Fixup) (rest : List Fixup) (b : Base) (rows : List (List ℕ)) (w : Windowed) → f.base ≡ b → ((l : Labels) → P l → PairsKept l (rest_of rest) rows) → ((l : Labels) → P l → PairAfter l 4 rest (sections_of b rest) v) → BroughtMaybe (pairs_run (sections_of b rest)) count 512 (f ∷ rest) f.offset (base_import b) rows (v ∷ []) w → Holding P count 512 (λ l now. PairsKept l (f ∷ rest) now) w
 pairs_here P count v f [] (Section j) rows w base kept behind br = record { rows = rows; is = br; kept = λ l holds. tt }
 pairs_here P count v f [] (Import i) rows w base kept behind br = record { rows = rows; is = br; kept = λ l holds. tt }
 pairs_here P count v f (g ∷ rest) (Import i) rows w base kept behind br = record {
@@ -186,7 +186,7 @@ pairs_here P count v f (g ∷ rest) (Import i) rows w base kept behind br = reco
 }
 pairs_here P count v f (g ∷ rest) (Section j) rows w base kept behind br = go g.base refl behind br
   where
-    go : (x : Base) → g.base ≡ x → ((l : Labels) → P l → PairBehind l 4 (g ∷ rest) (second_of j x) v) → BroughtMaybe (pairs_run (second_of j x)) count 512 (f ∷ g ∷ rest) f.offset 0 rows (v ∷ []) w → Holding P count 512 (λ l now. PairsKept l (f ∷ g ∷ rest) now) w
+    go : (x : Base) → g.base ≡ x → ((l : Labels) → P l → PairAfter l 4 (g ∷ rest) (second_of j x) v) → BroughtMaybe (pairs_run (second_of j x)) count 512 (f ∷ g ∷ rest) f.offset 0 rows (v ∷ []) w → Holding P count 512 (λ l now. PairsKept l (f ∷ g ∷ rest) now) w
     go (Import i) next value b = record {
       rows = rows;
       is = b;
@@ -199,7 +199,7 @@ pairs_here P count v f (g ∷ rest) (Section j) rows w base kept behind br = go 
           (pairs_go l f (g ∷ rest) count j k v rows w (kept l holds) (value l holds) b));
     }
 
-far_pairs_here : (P : Labels → Type 0) (count v : ℕ) (f : Fixup) (rest : List Fixup) (b : Base) (rows : List (List ℕ)) (w : Windowed) → f.base ≡ b → ((l : Labels) → P l → FarPairsKept l (rest_of rest) rows) → ((l : Labels) → P l → PairBehind l 8 rest (sections_of b rest) v) → BroughtMaybe (far_pairs_run (sections_of b rest)) count 512 (f ∷ rest) f.offset (base_import b) rows (v ∷ []) w → Holding P count 512 (λ l now. FarPairsKept l (f ∷ rest) now) w
+far_pairs_here : (P : Labels → Type 0) (count v : ℕ) (f : Fixup) (rest : List Fixup) (b : Base) (rows : List (List ℕ)) (w : Windowed) → f.base ≡ b → ((l : Labels) → P l → FarPairsKept l (rest_of rest) rows) → ((l : Labels) → P l → PairAfter l 8 rest (sections_of b rest) v) → BroughtMaybe (far_pairs_run (sections_of b rest)) count 512 (f ∷ rest) f.offset (base_import b) rows (v ∷ []) w → Holding P count 512 (λ l now. FarPairsKept l (f ∷ rest) now) w
 far_pairs_here P count v f [] (Section j) rows w base kept behind br = record { rows = rows; is = br; kept = λ l holds. tt }
 far_pairs_here P count v f [] (Import i) rows w base kept behind br = record { rows = rows; is = br; kept = λ l holds. tt }
 far_pairs_here P count v f (g ∷ rest) (Import i) rows w base kept behind br = record {
@@ -209,7 +209,7 @@ far_pairs_here P count v f (g ∷ rest) (Import i) rows w base kept behind br = 
 }
 far_pairs_here P count v f (g ∷ rest) (Section j) rows w base kept behind br = go g.base refl behind br
   where
-    go : (x : Base) → g.base ≡ x → ((l : Labels) → P l → PairBehind l 8 (g ∷ rest) (second_of j x) v) → BroughtMaybe (far_pairs_run (second_of j x)) count 512 (f ∷ g ∷ rest) f.offset 0 rows (v ∷ []) w → Holding P count 512 (λ l now. FarPairsKept l (f ∷ g ∷ rest) now) w
+    go : (x : Base) → g.base ≡ x → ((l : Labels) → P l → PairAfter l 8 (g ∷ rest) (second_of j x) v) → BroughtMaybe (far_pairs_run (second_of j x)) count 512 (f ∷ g ∷ rest) f.offset 0 rows (v ∷ []) w → Holding P count 512 (λ l now. FarPairsKept l (f ∷ g ∷ rest) now) w
     go (Import i) next value b = record {
       rows = rows;
       is = b;
@@ -226,14 +226,14 @@ started_maybe : (f : Fixup) (rest : List Fixup) (start : PlanState) (r : Option 
 started_maybe f rest start None count limit rows row w at b = b
 started_maybe f rest start (Some r) count limit rows row w at b = started f rest start r count limit rows row w at b
 
-pub pairs_brought : (P : Labels → Type 0) (v : ℕ) (f : Fixup) (rest : List Fixup) (start : PlanState) (old new : AlternatingWindows) → StartAt f rest start → HoldingTwo P PairsKept rest old → ((l : Labels) → P l → PairBehind l 4 rest (sections_of f.base rest) v) → new.next ≡ old.here → BringsMaybe (pairs_run (sections_of f.base rest)) start (v ∷ []) old.next new.here → HoldingTwo P PairsKept (f ∷ rest) new
+pub pairs_brought : (P : Labels → Type 0) (v : ℕ) (f : Fixup) (rest : List Fixup) (start : PlanState) (old new : AlternatingWindows) → StartAt f rest start → HoldingTwo P PairsKept rest old → ((l : Labels) → P l → PairAfter l 4 rest (sections_of f.base rest) v) → new.next ≡ old.here → BringsMaybe (pairs_run (sections_of f.base rest)) start (v ∷ []) old.next new.here → HoldingTwo P PairsKept (f ∷ rest) new
 pairs_brought P v f rest start old new at held behind same brings = record {
   here = pairs_here P 1 v f rest f.base held.next.rows new.here refl held.next.kept behind
       (started_maybe f rest start (pairs_run (sections_of f.base rest)) 1 512 held.next.rows (v ∷ []) new.here at (brings 1 512 held.next.rows held.next.is));
   next = subst (λ (w : Windowed). Holding P 1 512 (λ l rows. PairsKept l rest rows) w) (sym same) held.here;
 }
 
-pub far_pairs_brought : (P : Labels → Type 0) (v : ℕ) (f : Fixup) (rest : List Fixup) (start : PlanState) (old new : AlternatingWindows) → StartAt f rest start → HoldingTwo P FarPairsKept rest old → ((l : Labels) → P l → PairBehind l 8 rest (sections_of f.base rest) v) → new.next ≡ old.here → BringsMaybe (far_pairs_run (sections_of f.base rest)) start (v ∷ []) old.next new.here → HoldingTwo P FarPairsKept (f ∷ rest) new
+pub far_pairs_brought : (P : Labels → Type 0) (v : ℕ) (f : Fixup) (rest : List Fixup) (start : PlanState) (old new : AlternatingWindows) → StartAt f rest start → HoldingTwo P FarPairsKept rest old → ((l : Labels) → P l → PairAfter l 8 rest (sections_of f.base rest) v) → new.next ≡ old.here → BringsMaybe (far_pairs_run (sections_of f.base rest)) start (v ∷ []) old.next new.here → HoldingTwo P FarPairsKept (f ∷ rest) new
 far_pairs_brought P v f rest start old new at held behind same brings = record {
   here = far_pairs_here P 1 v f rest f.base held.next.rows new.here refl held.next.kept behind
       (started_maybe f rest start (far_pairs_run (sections_of f.base rest)) 1 512 held.next.rows (v ∷ []) new.here at (brings 1 512 held.next.rows held.next.is));
@@ -244,8 +244,8 @@ far_pairs_brought P v f rest start old new at held behind same brings = record {
 pub record Passed (k : SolvedSuffix) (a : FixupState) (start : PlanState) (old new : RunEnds) (pair far_pair : ℕ) : Type 0 where
   pub at : StartAt a.first a.others.now start
   pub ends : EndsAt k a.others.now a.others.now old
-  pub near_is : (l : Labels) → Agrees l k a.others.now → PairBehind l 4 a.others.now (sections_of a.first.base a.others.now) pair
-  pub far_is : (l : Labels) → Agrees l k a.others.now → PairBehind l 8 a.others.now (sections_of a.first.base a.others.now) far_pair
+  pub near_is : (l : Labels) → Agrees l k a.others.now → PairAfter l 4 a.others.now (sections_of a.first.base a.others.now) pair
+  pub far_is : (l : Labels) → Agrees l k a.others.now → PairAfter l 8 a.others.now (sections_of a.first.base a.others.now) far_pair
   pub pairs_next : new.pairs.next ≡ old.pairs.here
   pub pairs : BringsMaybe (pairs_run (sections_of a.first.base a.others.now)) start (pair ∷ []) old.pairs.next new.pairs.here
   pub far_next : new.far_pairs.next ≡ old.far_pairs.here

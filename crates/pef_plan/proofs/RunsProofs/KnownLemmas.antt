@@ -81,10 +81,10 @@ same_fewer l registers labels most m same low = record {
   label_is = λ left c d under. same.label_is left c d (omega (arith, under, low));
 }
 
-pub agrees-behind : (l : Labels) (k : SolvedSuffix) (made left : List Fixup) → Agrees l k (made ++ left) → Agrees l k left
-agrees-behind l k [] left a = a
-agrees-behind l k (f ∷ made) left a =
-    agrees-behind l k made left (record {
+pub agrees-after : (l : Labels) (k : SolvedSuffix) (made left : List Fixup) → Agrees l k (made ++ left) → Agrees l k left
+agrees-after l k [] left a = a
+agrees-after l k (f ∷ made) left a =
+    agrees-after l k made left (record {
       same = same_fewer l k.registers.now k.labels.now.rows (length (f ∷ (made ++ left))) (length (made ++ left)) a.same (omega arith);
       offers = a.offers.1;
     })
@@ -94,7 +94,7 @@ pub agrees-left : (l : Labels) (k : SolvedSuffix) (f : Fixup) (others made left 
 agrees-left l k f others [] left a parts fewer = let e = ap length parts in absurd (omega (arith, e))
 agrees-left l k f others (g ∷ made) left a parts fewer =
     let same : others ≡ made ++ left = cc in
-    agrees-behind l k made left (subst (λ (fs : List Fixup). Agrees l k fs) same a)
+    agrees-after l k made left (subst (λ (fs : List Fixup). Agrees l k fs) same a)
 
 pub shaped_fewer : (k : SolvedSuffix) (most m : ℕ) → Shaped k most → m ≤ most → Shaped k m
 shaped_fewer k most m s low = record {

@@ -147,7 +147,7 @@ abbrev pub step_of : Run → ℕ → PlanState → Step
 step_of r n q = record { instr = run_instr r n; next = q }
 
 -- the place after at least one unit
-pub record Behind (k : SolvedSuffix) (h : OpenState) (r : Run) (from n : ℕ) (q : PlanState) : Type 0 where
+pub record Following (k : SolvedSuffix) (h : OpenState) (r : Run) (from n : ℕ) (q : PlanState) : Type 0 where
   pub along : Along r h.place from n q
   pub parts : h.place.left.now ≡ units r n from h.place.import_index ++ q.left.now
   pub fewer : length q.left.now < length (h.first ∷ h.others.now)
@@ -178,8 +178,8 @@ along-parts r start q from n a =
     a.behind 0 q.left.now (ap (λ fs. fs ++ q.left.now) (sym (units-none r q.position q.import_index)))
     ∙ ap (λ m. units r m from start.import_index ++ q.left.now) none
 
-pub along-behind : (k : SolvedSuffix) (h : OpenState) (r : Run) (from n : ℕ) (q : PlanState) → HereOf k h → Along r h.place from (n + 1) q → Behind k h r from (n + 1) q
-along-behind k h r from n q here a =
+pub along-after : (k : SolvedSuffix) (h : OpenState) (r : Run) (from n : ℕ) (q : PlanState) → HereOf k h → Along r h.place from (n + 1) q → Following k h r from (n + 1) q
+along-after k h r from n q here a =
     let parts = along-parts r h.place q from (n + 1) a in
     let count : n + 1 ≡ suc n = omega arith in
     let some = some_units r n from h.place.import_index in
@@ -187,18 +187,18 @@ along-behind k h r from n q here a =
     let sum = sym (ap length here.parts) ∙ (ap length parts ∙ length-append (units r (n + 1) from h.place.import_index) q.left.now) in
     record { along = a; parts = parts; fewer = omega (arith, sum, some, same) }
 
-pub behind-goes : (k : SolvedSuffix) (h : OpenState) (r : Run) (from n : ℕ) (q : PlanState) → RunOf k.registers.now r h.place from → Behind k h r from n q → 1 ≤ n → n ≤ limit r → GoesOn k.registers.now h.place (step_of r n q)
-behind-goes k h r from n q of b some few = λ s at. record {
+pub after-goes : (k : SolvedSuffix) (h : OpenState) (r : Run) (from n : ℕ) (q : PlanState) → RunOf k.registers.now r h.place from → Following k h r from n q → 1 ≤ n → n ≤ limit r → GoesOn k.registers.now h.place (step_of r n q)
+after-goes k h r from n q of b some few = λ s at. record {
   flat = run-flat k.registers.now r h.place from n of some few;
   delivers = record { is = b.parts ∙ ap (λ fs. fs ++ q.left.now) (sym (run-adds k.registers.now r h.place from n s of at)) };
   next = run-next k.registers.now r h.place q from n s of at b.along.position b.along.import_index b.along.c b.along.d;
 }
 
-pub behind-agrees : (l : Labels) (k : SolvedSuffix) (h : OpenState) (r : Run) (from n : ℕ) (q : PlanState) → HereOf k h → Behind k h r from n q → Agrees l k h.others.now → Agrees l k q.left.now
-behind-agrees l k h r from n q here b agrees = agrees-left l k h.first h.others.now (units r n from h.place.import_index) q.left.now agrees (sym here.parts ∙ b.parts) b.fewer
+pub after-agrees : (l : Labels) (k : SolvedSuffix) (h : OpenState) (r : Run) (from n : ℕ) (q : PlanState) → HereOf k h → Following k h r from n q → Agrees l k h.others.now → Agrees l k q.left.now
+after-agrees l k h r from n q here b agrees = agrees-left l k h.first h.others.now (units r n from h.place.import_index) q.left.now agrees (sym here.parts ∙ b.parts) b.fewer
 
-pub behind-shaped : (k : SolvedSuffix) (h : OpenState) (r : Run) (from n : ℕ) (q : PlanState) → HereOf k h → Behind k h r from n q → Shaped k (length q.left.now)
-behind-shaped k h r from n q here b = let low = b.fewer in shaped_fewer k (length h.others.now) (length q.left.now) here.shaped (omega (arith, low))
+pub after-shaped : (k : SolvedSuffix) (h : OpenState) (r : Run) (from n : ℕ) (q : PlanState) → HereOf k h → Following k h r from n q → Shaped k (length q.left.now)
+after-shaped k h r from n q here b = let low = b.fewer in shaped_fewer k (length h.others.now) (length q.left.now) here.shaped (omega (arith, low))
 
 -- the first end, and later ones
 ends-step : (l : Labels) (r : Run) (value m : ℕ) (p q : PlanState) → Next r p q → value ≤ 1 + extension_in l q → EndsFrom l r value m q.left.now q.position q.import_index q.c q.d → EndsFrom l r value (suc m) p.left.now p.position p.import_index p.c p.d

@@ -133,10 +133,10 @@ FarKept l [] row = Unit {0}
 FarKept l (f ∷ rest) row = FarAt l f.offset rest row f.base
 
 -- the extension so many bytes after the second of two fixups with sections, in their classes
-abbrev pub PairBehind : Labels → ℕ → List Fixup → Option (ℕ × ℕ) → ℕ → Type 0
-PairBehind l w [] s v = Unit {0}
-PairBehind l w (g ∷ rest) None v = Unit {0}
-PairBehind l w (g ∷ rest) (Some s) v = v ≡ extension l rest (g.offset + w) (class_of l.registers s.0) (class_of l.registers s.1)
+abbrev pub PairAfter : Labels → ℕ → List Fixup → Option (ℕ × ℕ) → ℕ → Type 0
+PairAfter l w [] s v = Unit {0}
+PairAfter l w (g ∷ rest) None v = Unit {0}
+PairAfter l w (g ∷ rest) (Some s) v = v ≡ extension l rest (g.offset + w) (class_of l.registers s.0) (class_of l.registers s.1)
 
 -- a window with the rows of some runs, for labels with the property P
 pub record Holding (P : Labels → Type 0) (width limit : ℕ) (Kept : Labels → List (List ℕ) → Type 0) (w : Windowed) : Type 0 where

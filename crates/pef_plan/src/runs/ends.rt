@@ -3,7 +3,7 @@ ghost use Rattle.pef_cert.specs.Extension.{extension};
 ghost use Rattle.pef_cert.specs.Labels.{Labels};
 ghost use Rattle.pef_plan.specs.Runs.Places.{AtOf, HereOf, Led};
 ghost use Rattle.pef_plan.specs.Runs.Runs.{EndOf, Ends, RunBegins, RunOf};
-ghost use Rattle.pef_plan.specs.Runs.Ends.{Brought, BroughtMaybe, EndsAt, EndsOf, FarAt, Holding, NearKept, PairBehind, SkipsKept, SpacedKept, base_import, far_pairs_run, pairs_run, place_in, sections_of, window_of, words_run};
+ghost use Rattle.pef_plan.specs.Runs.Ends.{Brought, BroughtMaybe, EndsAt, EndsOf, FarAt, Holding, NearKept, PairAfter, SkipsKept, SpacedKept, base_import, far_pairs_run, pairs_run, place_in, sections_of, window_of, words_run};
 ghost use Rattle.pef_plan.specs.Runs.Tables.{Agrees};
 ghost use Rattle.pef_plan.specs.Windows.Windows.{WindowOf};
 ghost use Rattle.pef_reloc.specs.declared.fixup.Base.TheVariants.{Section};
@@ -107,10 +107,10 @@ impl RunEnds {
     {
         let start = at.start();
         let looks = known.looks;
-        let (near, far) = self.behind_pair(known, at);
+        let (near, far) = self.after_pair(known, at);
         self.pairs.pass(pairs_at(at), start, &[near], looks)?;
         self.far_pairs.pass(far_pairs_at(at), start, &[far], looks)?;
-        known.fill_behind(at, &mut self.near);
+        known.fill_after(at, &mut self.near);
         bring(
             &mut self.words,
             words_at(at.first.base),
@@ -179,11 +179,11 @@ impl RunEnds {
 
     /// Returns the extensions right after the pair of a fixup and the next one, and one word further on. The
     /// registers hold the two sections.
-    fn behind_pair(&self, known: SolvedSuffix<'_>, at: FixupState<'_>) -> (u32, u32)
+    fn after_pair(&self, known: SolvedSuffix<'_>, at: FixupState<'_>) -> (u32, u32)
         requires at { AtOf known at }
         requires ends { EndsAt known at.others.now at.others.now self.now }
-        ensures near { (l : Labels) → Agrees l known.entry at.entry.others.now → PairBehind l 4 at.entry.others.now (sections_of at.entry.first.base at.entry.others.now) result.0 }
-        ensures far { (l : Labels) → Agrees l known.entry at.entry.others.now → PairBehind l 8 at.entry.others.now (sections_of at.entry.first.base at.entry.others.now) result.1 }
+        ensures near { (l : Labels) → Agrees l known.entry at.entry.others.now → PairAfter l 4 at.entry.others.now (sections_of at.entry.first.base at.entry.others.now) result.0 }
+        ensures far { (l : Labels) → Agrees l known.entry at.entry.others.now → PairAfter l 8 at.entry.others.now (sections_of at.entry.first.base at.entry.others.now) result.1 }
     {
         match sections_at(at) {
             Some((first, second)) => {

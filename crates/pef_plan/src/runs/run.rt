@@ -12,7 +12,7 @@ ghost use Rattle.pef_reloc.specs.declared.fixup.Fixup.{Fixup};
 
 use crate::runs::state::{Choice, OpenState, PlanState, Step};
 use crate::runs::suffix::SolvedSuffix;
-use pef_cert::{WORD, behind_first, behind_import};
+use pef_cert::{WORD, after_first, after_import};
 use pef_reloc::{Base, Fixup, Instr};
 
 /// The maximum number of words, pairs or imports in a run.
@@ -116,16 +116,16 @@ impl Run {
     {
         match self {
             Run::WordsOfC(section) | Run::WordsOfD(section) => {
-                behind_first(fixups, position, Base::Section(section))
+                after_first(fixups, position, Base::Section(section))
             }
             Run::Spaced(section) | Run::Skip { section, .. } => {
-                behind_first(fixups, position, Base::Section(section))
+                after_first(fixups, position, Base::Section(section))
             }
             Run::Pairs { first, second } | Run::SpacedPairs { first, second } => {
-                let rest = behind_first(fixups, position, Base::Section(first))?;
-                behind_first(rest, position + WORD, Base::Section(second))
+                let rest = after_first(fixups, position, Base::Section(first))?;
+                after_first(rest, position + WORD, Base::Section(second))
             }
-            Run::Imports => behind_import(fixups, position, import),
+            Run::Imports => after_import(fixups, position, import),
         }
     }
 }

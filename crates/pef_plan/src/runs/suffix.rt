@@ -123,7 +123,7 @@ impl<'a> SolvedSuffix<'a> {
     }
 
     /// Fills in the extension right after a fixup, for each pair of classes.
-    pub fn fill_behind(self, at: FixupState<'_>, near: &mut [u32])
+    pub fn fill_after(self, at: FixupState<'_>, near: &mut [u32])
         requires at { AtOf self at }
         requires len { length near.old ≡ (length self.registers.now + 1) * (length self.registers.now + 1) }
         ensures len { length near.new ≡ length near.old }

@@ -54,20 +54,20 @@ pub instrs-done : (a : Addresses) (instrs : List Instr) (s : State) (memory : Li
 instrs-done a instrs s memory names inside = applied-trace a instrs s memory names ∙ additions-done a (trace instrs s) memory inside
 
 -- an addition after a prefix leaves the prefix unchanged
-added_behind : (front memory : List ℕ) (gap x : ℕ) → added_at (front ++ memory) (length front + gap) x
+added_after : (front memory : List ℕ) (gap x : ℕ) → added_at (front ++ memory) (length front + gap) x
     ≡ (front ++ (take gap memory ++ big_bytes 4 ((big_number 4 (drop gap memory) + x) % 2 ^ 32))) ++ drop (gap + 4) memory
 unfolding added_at
-added_behind front memory gap x =
+added_after front memory gap x =
     let behind : length front + gap + 4 ≡ length front + (gap + 4) = omega arith in
     rw (take-append-add front memory gap, drop-append-add front memory gap, behind, drop-append-add front memory (gap + 4)) (simp append_assoc)
 
 -- the additions of fixups in address order after a prefix leave the prefix unchanged, and add to the words
 -- of the rest
-described_behind : (a : Addresses) (fixups : List Fixup) (from : ℕ) (front memory : List ℕ) → length front ≡ from → fixups_from from fixups ≡ true → AreInside a (from + length memory) fixups
+described_after : (a : Addresses) (fixups : List Fixup) (from : ℕ) (front memory : List ℕ) → length front ≡ from → fixups_from from fixups ≡ true → AreInside a (from + length memory) fixups
     → all_added a fixups (front ++ memory) ≡ front ++ with_bases (address_of a) from fixups memory
 unfolding with_bases
-described_behind a [] from front memory is apart inside = refl
-described_behind a (fixup ∷ fixups) from front memory is apart inside =
+described_after a [] from front memory is apart inside = refl
+described_after a (fixup ∷ fixups) from front memory is apart inside =
     let first = fixups_from-first from fixup fixups apart in
     let after = first.after in
     let within = inside.0.word in
@@ -76,13 +76,13 @@ described_behind a (fixup ∷ fixups) from front memory is apart inside =
     let offset_is : fixup.offset ≡ length front + gap = omega arith in
     let word_len : length word ≡ 4 = length-bytes_high_first 4 ((big_number 4 (drop gap memory) + address_of a fixup.base) % 2 ^ 32) in
     let added : added_at (front ++ memory) fixup.offset (address_of a fixup.base) ≡ (front ++ (take gap memory ++ word)) ++ drop (gap + 4) memory =
-    ap (λ (o : ℕ). added_at (front ++ memory) o (address_of a fixup.base)) offset_is ∙ added_behind front memory gap (address_of a fixup.base) in
+    ap (λ (o : ℕ). added_at (front ++ memory) o (address_of a fixup.base)) offset_is ∙ added_after front memory gap (address_of a fixup.base) in
     let front_len : length (front ++ (take gap memory ++ word)) ≡ fixup.offset + 4 =
     rw (length-append front (take gap memory ++ word), length-append (take gap memory) word, length-take gap memory, word_len) (omega arith) in
     let left : from + length memory ≡ fixup.offset + 4 + length (drop (gap + 4) memory) = rw (length-drop (gap + 4) memory) (omega arith) in
     let P : ℕ → Type 0 = λ len. AreInside a len fixups in
     ap (all_added a fixups) added
-    ∙ described_behind a fixups (fixup.offset + 4) (front ++ (take gap memory ++ word)) (drop (gap + 4) memory) front_len first.others (subst P left inside.1)
+    ∙ described_after a fixups (fixup.offset + 4) (front ++ (take gap memory ++ word)) (drop (gap + 4) memory) front_len first.others (subst P left inside.1)
     ∙ append_assoc front (take gap memory ++ word) _ ∙ ap (λ (m : List ℕ). front ++ m) (append_assoc (take gap memory) word _)
 
 -- the additions of fixups in address order turn memory into what the fixups describe
@@ -91,15 +91,15 @@ pub additions-described : (a : Addresses) (fixups : List Fixup) (memory : List �
 additions-described a fixups memory apart inside =
     let whole : length memory ≡ 0 + length memory = omega arith in
     let P : ℕ → Type 0 = λ len. AreInside a len fixups in
-    described_behind a fixups 0 [] memory refl apart (subst P whole inside)
+    described_after a fixups 0 [] memory refl apart (subst P whole inside)
 
 -- the last word of fixups in order ends at or after the given end
-end_behind : (from : ℕ) (fixups : List Fixup) → fixups_from from fixups ≡ true → from ≤ fixups_end from fixups
-end_behind from [] apart = omega arith
-end_behind from (fixup ∷ fixups) apart =
+end_after : (from : ℕ) (fixups : List Fixup) → fixups_from from fixups ≡ true → from ≤ fixups_end from fixups
+end_after from [] apart = omega arith
+end_after from (fixup ∷ fixups) apart =
     let first = fixups_from-first from fixup fixups apart in
     let after = first.after in
-    let others = end_behind (fixup.offset + 4) fixups first.others in
+    let others = end_after (fixup.offset + 4) fixups first.others in
     omega arith
 
 -- fixups in address order lie inside memory if the last one does and the bases exist
@@ -107,5 +107,5 @@ pub fixups-inside : (a : Addresses) (from len : ℕ) (fixups : List Fixup) → f
 fixups-inside a from len [] apart ends bases = tt
 fixups-inside a from len (fixup ∷ fixups) apart ends bases =
     let first = fixups_from-first from fixup fixups apart in
-    let others = end_behind (fixup.offset + 4) fixups first.others in
+    let others = end_after (fixup.offset + 4) fixups first.others in
     (record { word = omega arith; base = bases.0 }, fixups-inside a (fixup.offset + 4) len fixups first.others ends bases.1)

@@ -54,14 +54,14 @@ last_name_and_word line = do
   Ok (name.0, word)
 
 -- the part after a leading 0: nothing, or `x` and hex digits
-abbrev pub number_behind_zero : List ℕ → Option ℕ
-number_behind_zero [] = Some 0
-number_behind_zero (b ∷ bytes) = if b == 0x78 then hex_number bytes else None
+abbrev pub number_after_zero : List ℕ → Option ℕ
+number_after_zero [] = Some 0
+number_after_zero (b ∷ bytes) = if b == 0x78 then hex_number bytes else None
 
 -- the number that a word spells
 abbrev pub number_spelled : List ℕ → Option ℕ
 number_spelled [] = None
-number_spelled (b ∷ bytes) = if b == 0x30 then number_behind_zero bytes else decimal_number (b ∷ bytes)
+number_spelled (b ∷ bytes) = if b == 0x30 then number_after_zero bytes else decimal_number (b ∷ bytes)
 
 -- the number that a word spells, at most a greatest one
 unfoldable pub number_up_to : ℕ → List ℕ → Result ℕ LineFault

@@ -59,53 +59,53 @@ refusal_text refusal = refused_text (number_of refusal) (name_of refusal) ++ pla
 
 -- the names that the refusal of a closure gives: of a fragment, of a library, of a symbol
 
-abbrev pub told_fragment : BindFault → Option (List ℕ)
-told_fragment (bind_fault.Container f v) = Some f.now
-told_fragment (bind_fault.Loader f v) = Some f.now
-told_fragment (bind_fault.LibraryMissing f l) = Some f.now
-told_fragment (bind_fault.SymbolMissing f l s) = Some f.now
-told_fragment (bind_fault.ImplementationTooOld f l) = Some f.now
-told_fragment (bind_fault.ImplementationTooNew f l) = Some f.now
-told_fragment (bind_fault.ReexportLoop f s) = Some f.now
-told_fragment (bind_fault.InitLoop f) = Some f.now
-told_fragment bind_fault.OutOfMemory = None
+abbrev pub reported_fragment : BindFault → Option (List ℕ)
+reported_fragment (bind_fault.Container f v) = Some f.now
+reported_fragment (bind_fault.Loader f v) = Some f.now
+reported_fragment (bind_fault.LibraryMissing f l) = Some f.now
+reported_fragment (bind_fault.SymbolMissing f l s) = Some f.now
+reported_fragment (bind_fault.ImplementationTooOld f l) = Some f.now
+reported_fragment (bind_fault.ImplementationTooNew f l) = Some f.now
+reported_fragment (bind_fault.ReexportLoop f s) = Some f.now
+reported_fragment (bind_fault.InitLoop f) = Some f.now
+reported_fragment bind_fault.OutOfMemory = None
 
-abbrev pub told_library : BindFault → Option (List ℕ)
-told_library (bind_fault.LibraryMissing f l) = Some l.now
-told_library (bind_fault.SymbolMissing f l s) = Some l.now
-told_library (bind_fault.ImplementationTooOld f l) = Some l.now
-told_library (bind_fault.ImplementationTooNew f l) = Some l.now
-told_library _ = None
+abbrev pub reported_library : BindFault → Option (List ℕ)
+reported_library (bind_fault.LibraryMissing f l) = Some l.now
+reported_library (bind_fault.SymbolMissing f l s) = Some l.now
+reported_library (bind_fault.ImplementationTooOld f l) = Some l.now
+reported_library (bind_fault.ImplementationTooNew f l) = Some l.now
+reported_library _ = None
 
-abbrev pub told_symbol : BindFault → Option (List ℕ)
-told_symbol (bind_fault.SymbolMissing f l s) = Some s.now
-told_symbol (bind_fault.ReexportLoop f s) = Some s.now
-told_symbol _ = None
+abbrev pub reported_symbol : BindFault → Option (List ℕ)
+reported_symbol (bind_fault.SymbolMissing f l s) = Some s.now
+reported_symbol (bind_fault.ReexportLoop f s) = Some s.now
+reported_symbol _ = None
 
 -- a word and then a name, if there is a name
-abbrev pub told_text : List ℕ → Option (List ℕ) → List ℕ
-told_text word None = []
-told_text word (Some name) = word ++ name_text name
+abbrev pub reported_text : List ℕ → Option (List ℕ) → List ℕ
+reported_text word None = []
+reported_text word (Some name) = word ++ name_text name
 
 -- the line of the refusal of a closure
 abbrev pub bind_refusal_text : BindFault → List ℕ
 bind_refusal_text fault =
     refused_text (bind.fault_number fault) (bind.fault_name fault)
-    ++ told_text (codes " in ") (told_fragment fault)
-    ++ told_text (codes " library ") (told_library fault)
-    ++ told_text (codes " symbol ") (told_symbol fault)
+    ++ reported_text (codes " in ") (reported_fragment fault)
+    ++ reported_text (codes " library ") (reported_library fault)
+    ++ reported_text (codes " symbol ") (reported_symbol fault)
     ++ 10 ∷ []
 
 -- the name of the fragment that isn't prepared, if its closure isn't the reason
-abbrev pub told_unprepared : PrepareFault → Option (List ℕ)
-told_unprepared (prepare_fault.Fragment (fragment_fault.NoRoom f)) = Some f.now
-told_unprepared (prepare_fault.Fragment (fragment_fault.Pack f k)) = Some f.now
-told_unprepared (prepare_fault.Fragment (fragment_fault.Reloc f k)) = Some f.now
-told_unprepared _ = None
+abbrev pub reported_unprepared : PrepareFault → Option (List ℕ)
+reported_unprepared (prepare_fault.Fragment (fragment_fault.NoRoom f)) = Some f.now
+reported_unprepared (prepare_fault.Fragment (fragment_fault.Pack f k)) = Some f.now
+reported_unprepared (prepare_fault.Fragment (fragment_fault.Reloc f k)) = Some f.now
+reported_unprepared _ = None
 
 -- the line of a fragment that isn't prepared, if its closure isn't the reason
 abbrev pub unprepared_text : PrepareFault → List ℕ
-unprepared_text fault = refused_text (prepare.fault_number fault) (prepare.fault_name fault) ++ told_text (codes " in ") (told_unprepared fault) ++ 10 ∷ []
+unprepared_text fault = refused_text (prepare.fault_number fault) (prepare.fault_name fault) ++ reported_text (codes " in ") (reported_unprepared fault) ++ 10 ∷ []
 
 -- the line of a fragment that isn't prepared
 abbrev pub prepare_refusal_text : PrepareFault → List ℕ

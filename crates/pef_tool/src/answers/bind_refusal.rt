@@ -3,7 +3,7 @@ ghost use Rattle.cfm_closure.specs.Faults.{fault_name, fault_number};
 ghost use Rattle.pef_ports.specs.Names.{name_text};
 ghost use Rattle.pef_ports.specs.Sent.{Sends};
 ghost use Rattle.pef_tool.specs.Answers.Answers.{answer_refused};
-ghost use Rattle.pef_tool.specs.Answers.Refusals.{bind_refusal_text, refused_text, told_fragment, told_library, told_symbol, told_text};
+ghost use Rattle.pef_tool.specs.Answers.Refusals.{bind_refusal_text, refused_text, reported_fragment, reported_library, reported_symbol, reported_text};
 
 use crate::answers::outcome::Outcome;
 use crate::answers::refusal::refused_line;
@@ -20,9 +20,9 @@ impl<'a> Reply for BindFault<'a> {
 
     fn print<W: Sink>(&self, out: &mut W, page: &mut Page) -> Result<(), StreamFault> {
         send(out, page, start(self).as_slice())?;
-        print_told(out, page, b" in ", told_fragment(self))?;
-        print_told(out, page, b" library ", told_library(self))?;
-        print_told(out, page, b" symbol ", told_symbol(self))?;
+        print_reported(out, page, b" in ", reported_fragment(self))?;
+        print_reported(out, page, b" library ", reported_library(self))?;
+        print_reported(out, page, b" symbol ", reported_symbol(self))?;
         send(out, page, b"\n")
     }
 }
@@ -36,8 +36,8 @@ fn start(fault: &BindFault<'_>) -> Line
 }
 
 /// Returns the fragment that the line names.
-fn told_fragment<'a>(fault: &BindFault<'a>) -> Option<&'a [u8]>
-    ensures { option_map (λ name. name.now) result ≡ told_fragment fault.now }
+fn reported_fragment<'a>(fault: &BindFault<'a>) -> Option<&'a [u8]>
+    ensures { option_map (λ name. name.now) result ≡ reported_fragment fault.now }
 {
     match fault {
         BindFault::Container { fragment, .. }
@@ -53,8 +53,8 @@ fn told_fragment<'a>(fault: &BindFault<'a>) -> Option<&'a [u8]>
 }
 
 /// Returns the library of that fragment that the line names.
-fn told_library<'a>(fault: &BindFault<'a>) -> Option<&'a [u8]>
-    ensures { option_map (λ name. name.now) result ≡ told_library fault.now }
+fn reported_library<'a>(fault: &BindFault<'a>) -> Option<&'a [u8]>
+    ensures { option_map (λ name. name.now) result ≡ reported_library fault.now }
 {
     match fault {
         BindFault::LibraryMissing { library, .. }
@@ -70,8 +70,8 @@ fn told_library<'a>(fault: &BindFault<'a>) -> Option<&'a [u8]>
 }
 
 /// Returns the symbol that the line names.
-fn told_symbol<'a>(fault: &BindFault<'a>) -> Option<&'a [u8]>
-    ensures { option_map (λ name. name.now) result ≡ told_symbol fault.now }
+fn reported_symbol<'a>(fault: &BindFault<'a>) -> Option<&'a [u8]>
+    ensures { option_map (λ name. name.now) result ≡ reported_symbol fault.now }
 {
     match fault {
         BindFault::SymbolMissing { symbol, .. } | BindFault::ReexportLoop { symbol, .. } => {
@@ -88,22 +88,22 @@ fn told_symbol<'a>(fault: &BindFault<'a>) -> Option<&'a [u8]>
 }
 
 /// Prints a word and then a name, if there is a name.
-pub fn print_told<W: Sink>(
+pub fn print_reported<W: Sink>(
     out: &mut W,
     page: &mut Page,
     word: &[u8],
     name: Option<&[u8]>,
 ) -> Result<(), StreamFault>
-    ensures { Sends result (W.stream out.old) (W.stream out.new) page.old.items page.new.items (told_text word.now (option_map (λ name. name.now) name.entry)) }
+    ensures { Sends result (W.stream out.old) (W.stream out.new) page.old.items page.new.items (reported_text word.now (option_map (λ name. name.now) name.entry)) }
 {
     match name {
-        Some(name) => print_behind(out, page, word, name),
+        Some(name) => print_after(out, page, word, name),
         None => Ok(()),
     }
 }
 
 /// Prints a word and then a name.
-pub fn print_behind<W: Sink>(
+pub fn print_after<W: Sink>(
     out: &mut W,
     page: &mut Page,
     word: &[u8],

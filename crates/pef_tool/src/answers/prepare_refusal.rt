@@ -2,9 +2,9 @@ ghost use Rattle.std.specs.Prelude.{◌≡◌, option_map};
 ghost use Rattle.cfm_prepare.specs.Faults.{fault_name, fault_number};
 ghost use Rattle.pef_ports.specs.Sent.{Sends};
 ghost use Rattle.pef_tool.specs.Answers.Answers.{answer_refused};
-ghost use Rattle.pef_tool.specs.Answers.Refusals.{prepare_refusal_text, refused_text, told_unprepared, unprepared_text};
+ghost use Rattle.pef_tool.specs.Answers.Refusals.{prepare_refusal_text, refused_text, reported_unprepared, unprepared_text};
 
-use crate::answers::bind_refusal::print_told;
+use crate::answers::bind_refusal::print_reported;
 use crate::answers::outcome::Outcome;
 use crate::answers::refusal::refused_line;
 use crate::answers::reply::Reply;
@@ -38,7 +38,7 @@ fn print_unprepared<W: Sink>(
     ensures { Sends result (W.stream out.old) (W.stream out.new) page.old.items page.new.items (unprepared_text fault.now) }
 {
     send(out, page, start(fault).as_slice())?;
-    print_told(out, page, b" in ", told_unprepared(fault))?;
+    print_reported(out, page, b" in ", reported_unprepared(fault))?;
     send(out, page, b"\n")
 }
 
@@ -51,8 +51,8 @@ fn start(fault: &PrepareFault<'_>) -> Line
 }
 
 /// Returns the name of the fragment that isn't prepared, if its closure isn't the reason.
-fn told_unprepared<'a>(fault: &PrepareFault<'a>) -> Option<&'a [u8]>
-    ensures { option_map (λ name. name.now) result ≡ told_unprepared fault.now }
+fn reported_unprepared<'a>(fault: &PrepareFault<'a>) -> Option<&'a [u8]>
+    ensures { option_map (λ name. name.now) result ≡ reported_unprepared fault.now }
 {
     match fault {
         PrepareFault::Fragment(

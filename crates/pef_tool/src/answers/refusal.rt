@@ -2,7 +2,7 @@ ghost use Rattle.std.specs.Prelude.{◌≡◌, ◌≤◌, ◌+◌, ◌++◌, len
 ghost use Rattle.arrayvec.specs.ArrayVec.{array_vec_len};
 ghost use Rattle.pef_ports.specs.Sent.{Sends};
 ghost use Rattle.pef_tool.specs.Answers.Answers.{answer_refused};
-ghost use Rattle.pef_tool.specs.Answers.Told.{certificate_refusal, input_refusal, script_refusal};
+ghost use Rattle.pef_tool.specs.Answers.Reported.{certificate_refusal, input_refusal, script_refusal};
 ghost use Rattle.pef_tool.specs.Answers.Refusals.{file_name_of, file_number_of, file_refusal_start, file_refusal_text, name_end, name_of, number_of, path_of, place_of, refusal_text, refused_text};
 
 use crate::answers::outcome::Outcome;

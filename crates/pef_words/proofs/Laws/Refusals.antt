@@ -98,8 +98,8 @@ unless_ok None r x ok = (refl, ok)
 unless_ok (Some fault) r x ok = absurd (cc)
 
 -- tests after tests that don't hold
-pub first_met-behind : {F : Type 0} (tests others : List (Bool × F)) → first_met tests ≡ None → first_met (tests ++ others) ≡ first_met others
-first_met-behind [] others none = refl
-first_met-behind (test ∷ tests) others none =
+pub first_met-after : {F : Type 0} (tests others : List (Bool × F)) → first_met tests ≡ None → first_met (tests ++ others) ≡ first_met others
+first_met-after [] others none = refl
+first_met-after (test ∷ tests) others none =
     let p = first_unmet test.0 test.1 (first_met tests) none in
-    rw p.0 (first_met-behind tests others p.1)
+    rw p.0 (first_met-after tests others p.1)

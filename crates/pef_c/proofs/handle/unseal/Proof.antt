@@ -29,7 +29,7 @@ use Rattle.std.proofs.alloc.Global.TheLaws as heap_laws
 use Rattle.std.specs.contracts.impls.GlobalAllocator.TheImpl.{ghosts}
 use Rattle.cfm_prepare.specs.contracts.context.Context as context
 use Rattle.pef_c.specs.contracts.handle.Handle as handle
-use Rattle.pef_c.proofs.HandleValues.{al, both, loose_good, loose_in, handle_val, handle_good, handle_told, held_out}
+use Rattle.pef_c.proofs.HandleValues.{al, both, loose_good, loose_in, handle_val, handle_good, handle_reported, held_out}
 use Rattle.pef_c.specs.contracts.handle.unseal.{ended, clauses}
 use Rattle.pef_c.specs.contracts.handle.unseal.Key.{name as #self}
 use Rattle.pef_c.proofs.handle.unseal.Statement.{statement}
@@ -45,8 +45,8 @@ unseal_spec 𝓤 𝓛 𝓜 𝓡 wired =
     qed 𝓛 ((raw (alive 𝓛 En.signature z.0.0 z.0.1) ⊛ ‵ (owns (types_at En.signature.params z.0.0) z.0.3 z.0.4)) ∷ raw (fact 𝓤 (is_some d.value ≡ true)) ∷ []) ∵ move ! (1 ∷ []) $ heard ! (is_some d.value ≡ true) (λ full. split ! $ move ! (1 ∷ []) $ fsplit ! $
     handle_tells A ! a z.0.4.0 (λ h ea fits. move ! (1 ∷ []) $ fsplit ! $ fsplit ! $ drop ! $ move ! (1 ∷ []) $ drop ! $
     held_out ! d.at d.value full (λ heap x is. in_a_block ! d.at (λ p. box_owns (ghosts.dealloc_token heap) R p x) (fst∗ 𝓤 (never 𝓤) (sem 𝓛 (ghosts.dealloc_token heap (bare (lone R.mir)) null_ptr))) (λ b o e.
-    let p : Ptr = block_ptr b o in let w : Val = handle_val p in let Told : Type 0 = Some x ≡ d.value in
-    let ws : z.0.4.1.0 ≡ w ∷ [] = handle_told d.at z.0.4.1.0 are.1.0.0 ∙ ap (λ (q : Ptr). handle_val q ∷ []) e in
+    let p : Ptr = block_ptr b o in let w : Val = handle_val p in let Reported : Type 0 = Some x ≡ d.value in
+    let ws : z.0.4.1.0 ≡ w ∷ [] = handle_reported d.at z.0.4.1.0 are.1.0.0 ∙ ap (λ (q : Ptr). handle_val q ∷ []) e in
     suffices ! (Run (h ∷ w ∷ [])) (subst (λ (us : List Val). ent 𝓤 (Run (h ∷ w ∷ [])) (Run us)) (sym (λ i. ea i ++ (ws i ++ []))) (id⊢ 𝓤 (Run (h ∷ w ∷ [])))) $
     enter ! 𝓣.C 𝓣.Λ fn (h ∷ w ∷ []) Post $ alloc_all ! (λ l. pass_all ! refl (fits, (handle_good p, tt)) $
     sets ! (of_opd ! (get_in ! (fld ! refl (stop !)) (sub ! 0 refl (whole !)))) refl (tt, tt) $
@@ -54,5 +54,5 @@ unseal_spec 𝓤 𝓛 𝓜 𝓡 wired =
     sets ! (agg ! (and_then ! (get ! refl) (and_then ! (get ! refl) (no_more !)))) refl (loose_good R Z LZ ghosts b o h fits) $
     returns ! (look_at ! 0 refl) $ free_all ! refl $
     loose_in R Z LZ ghosts ! b o h a x $
-    use0 𝓛 (raw (fact 𝓤 Told)) (fact_i 𝓤 Told (emp 𝓤) is) $ nothing ! $ nothing ! $ fjoin ! $ nothing ! $ fjoin ! $ keep ! (3 ∷ 0 ∷ 2 ∷ 1 ∷ []) $
+    use0 𝓛 (raw (fact 𝓤 Reported)) (fact_i 𝓤 Reported (emp 𝓤) is) $ nothing ! $ nothing ! $ fjoin ! $ nothing ! $ fjoin ! $ keep ! (3 ∷ 0 ∷ 2 ∷ 1 ∷ []) $
     by ! (leaves 𝓛 En hs c z (both (vptr b o) h) (record { at = p; alloc = a; value = x }) (tt, (tt, tt)) (tt, (tt, tt)))))))))

@@ -8,9 +8,9 @@ pub returns-clause-chosen : goal.returns-clause-chosen
 returns-clause-chosen c =
     let a = c.args in
     let r = c.requires in
-    let n = c.place_behind-next.ensures in
+    let n = c.place_after-next.ensures in
     record {
-      goes = one_goes a.known a.here (Skip a.words a.section) a.here.first.offset c.place_behind-next.result r.here ((r.holds, r.words), r.from) (skip_unit a.here a.words a.section r.base) n.left n.position
+      goes = one_goes a.known a.here (Skip a.words a.section) a.here.first.offset c.place_after-next.result r.here ((r.holds, r.words), r.from) (skip_unit a.here a.words a.section r.base) n.left n.position
           (let e = n.import_index in omega (arith, e)) n.c n.d;
-      worth = λ l agrees. skip_worth l a.here c.place_behind-next.result c.value_behind-value.result n.left n.position n.c n.d (c.value_behind-value.ensures.is l agrees);
+      worth = λ l agrees. skip_worth l a.here c.place_after-next.result c.value_after-value.result n.left n.position n.c n.d (c.value_after-value.ensures.is l agrees);
     }

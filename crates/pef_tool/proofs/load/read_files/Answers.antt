@@ -7,7 +7,7 @@ use Rattle.pef_ports.specs.Ports.{FilesPort, Reads}
 use Rattle.pef_tool.specs.Request.Requests.{named_path}
 use Rattle.pef_tool.specs.Kept.Loading.{StopsFile}
 use Rattle.pef_tool.specs.Load.{WereRead}
-use Rattle.pef_tool.proofs.LoadLemmas.{lacks-behind, read-next, stops}
+use Rattle.pef_tool.proofs.LoadLemmas.{lacks-after, read-next, stops}
 use Rattle.pef_tool.proofs.load.read_files.Goals as goal
 
 pub returns-in-Err-clause-refused : goal.returns-in-Err-clause-refused
@@ -35,4 +35,4 @@ returns-in_default-clause-refused g c =
     let P : List ℕ → Type 0 = λ path. Reads port at.files c.read_file.new.files path (Ok c.in-Ok.bytes.items) in
     let contents = map items at.contents.items in
     let more = read-next port c.args.files.now at.files c.read_file.new.files c.args.named.now at.file-index _ contents c.in-Ok.bytes.items c.loop-file-test.true at.invariant (subst P c.as_bytes.ensures.value c.in-Ok.ensures.read) in
-    lacks-behind port c.args.files.now c.read_file.new.files c.args.named.now (at.file-index + 1) (contents ++ c.in-Ok.bytes.items ∷ []) more
+    lacks-after port c.args.files.now c.read_file.new.files c.args.named.now (at.file-index + 1) (contents ++ c.in-Ok.bytes.items ∷ []) more

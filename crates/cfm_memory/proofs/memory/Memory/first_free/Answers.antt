@@ -11,7 +11,7 @@ use Rattle.cfm_memory.specs.Placement.{end_of, taken}
 use Rattle.cfm_memory.proofs.Changes.{laid_out_to}
 use Rattle.cfm_memory.proofs.Entries.{entries_from, free_among, free_of_all, instances, laid_out_among}
 use Rattle.cfm_memory.proofs.Fronts.{front_below}
-use Rattle.cfm_memory.proofs.Placing.{no_multiple_between, first_before, first_behind, first_from, within_taken}
+use Rattle.cfm_memory.proofs.Placing.{no_multiple_between, first_before, first_after, first_from, within_taken}
 use Rattle.cfm_memory.proofs.memory.Memory.first_free.Goals as goal
 
 max_aligned : (a b r n : ℕ) → r ≡ max a b → a % n ≡ 0 → b % n ≡ 0 → r % n ≡ 0
@@ -74,7 +74,7 @@ loop-start-preserved c =
       aligned = max_aligned _ _ _ _ c.max-address.ensures c.loop-start.invariant.aligned next.multiple;
       bound = omega (arith, laid.1, takes, c.from-start.ensures, next.upper_bound, c.max-address.ensures, c.loop-start.invariant.bound);
       laid_out = (end_of x, laid.2);
-      rest = λ r h. c.loop-start.invariant.rest r (rw e (first_behind c.args.taken c.args.step c.loop-start.address c.max-address.result x _ r over (omega (arith, c.max-address.ensures)) behind
+      rest = λ r h. c.loop-start.invariant.rest r (rw e (first_after c.args.taken c.args.step c.loop-start.address c.max-address.result x _ r over (omega (arith, c.max-address.ensures)) behind
           (λ b low past aligned.
           let near = no_multiple_between c.next_multiple_of.result b c.args.step (omega arith) next.multiple aligned (omega (arith, takes, c.from-start.ensures, next.upper_bound, past)) in
           omega (arith, near, low, c.max-address.ensures)) h));

@@ -3,7 +3,7 @@ use Rattle.std.proofs.Common.{length, ap, ◌∙◌, arith}
 use Rattle.cfm_memory.specs.Limits.{first_address}
 use Rattle.cfm_memory.specs.Placement.{taken}
 use Rattle.cfm_memory.proofs.Entries.{bytes_found, instances}
-use Rattle.cfm_memory.proofs.Fronts.{ends_below, front_behind}
+use Rattle.cfm_memory.proofs.Fronts.{ends_below, front_after}
 use Rattle.cfm_memory.proofs.Placing.{some_taken, within_taken}
 use Rattle.cfm_memory.proofs.memory.Memory.next_front.Goals as goal
 
@@ -42,5 +42,5 @@ loop-bytes-smaller c =
 pub loop-bytes-preserved : goal.loop-bytes-preserved
 loop-bytes-preserved c =
     let here = bytes_found c.self.inside.instances.entries c.loop-bytes.front c.in-Some.bytes.now c.in-Some.ensures.value in
-    let is = front_behind c.self.inside.limit (instances c.self.inside.instances.entries) c.loop-bytes.front c.in-Some.bytes.now.items c.self.invariant.laid_out here (rw (← c.self.view_is) at c.loop-bytes.invariant) in
+    let is = front_after c.self.inside.limit (instances c.self.inside.instances.entries) c.loop-bytes.front c.in-Some.bytes.now.items c.self.invariant.laid_out here (rw (← c.self.view_is) at c.loop-bytes.invariant) in
     rw (← c.self.view_is, c.from.ensures, c.taken_by.ensures, c.len.ensures, c.in-Some.bytes.now.ok.0) is

@@ -1,6 +1,6 @@
 use Rattle.std.proofs.Common.{◌+◌, ◌-◌, refl, sym, arith}
 use Rattle.pef_reloc.specs.declared.fixup.Base.TheVariants.{Import}
-use Rattle.pef_cert.specs.Kept.Claims.{label_behind, labels_claimed}
+use Rattle.pef_cert.specs.Kept.Claims.{label_after, labels_claimed}
 use Rattle.pef_cert.proofs.ClaimLemmas.{knows-sees}
 use Rattle.pef_cert.proofs.CoverLemmas.{imports-met, index-added, numbered-covered}
 use Rattle.pef_cert.proofs.StepLemmas.{adds_inside, numbered-end, numbered-fail, numbered-next, numbered-stop, word_end-added}
@@ -17,7 +17,7 @@ returns-then-covers c =
     let b = c.args.self in
     let t = c.args.tested in
     let cover = c.if-covers.ensures refl in
-    numbered-covered (labels_claimed b.claim) t.label (label_behind b t c.imports.at) t.c t.d (512 - c.imports.counter) c.imports.from c.imports.import c.imports.at b.claim.fixups.now _ cover.low (omega arith) c.imports.invariant.left
+    numbered-covered (labels_claimed b.claim) t.label (label_after b t c.imports.at) t.c t.d (512 - c.imports.counter) c.imports.from c.imports.import c.imports.at b.claim.fixups.now _ cover.low (omega arith) c.imports.invariant.left
     (imports-met b t c.imports.at c.imports.from c.imports.import c.requires.tests cover.after c.imports.invariant.index (sym c.if-not-adds.ensures))
 
 pub follows-requires-clause-sees : goal.follows-requires-clause-sees

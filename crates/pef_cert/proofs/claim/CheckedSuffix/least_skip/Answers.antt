@@ -9,7 +9,7 @@ use Rattle.pef_cert.proofs.ClaimLemmas.{get_under, knows-sees}
 use Rattle.pef_cert.proofs.ClassLemmas.{class_of-below}
 use Rattle.pef_cert.proofs.FeasibleLemmas.{section-counts}
 use Rattle.pef_cert.proofs.SkipLemmas.{skip-end, skip-first, skip-next, skip-stop}
-use Rattle.pef_cert.proofs.StepLemmas.{adds_inside, word_end-added, word_end-behind}
+use Rattle.pef_cert.proofs.StepLemmas.{adds_inside, word_end-added, word_end-after}
 use Rattle.pef_cert.proofs.claim.CheckedSuffix.least_skip.Goals as goal
 
 pub value-least-requires-clause-sees : goal.value-least-requires-clause-sees
@@ -20,7 +20,7 @@ value-least-requires-clause-sees c =
 
 pub value-least-requires-clause-after : goal.value-least-requires-clause-after
 value-least-requires-clause-after c =
-    let end = word_end-behind c.args.self.claim.fixups.now c.args.at c.args.fixup c.requires.skips.here in
+    let end = word_end-after c.args.self.claim.fixups.now c.args.at c.args.fixup c.requires.skips.here in
     omega (arith, end, c.from-position.ensures)
 
 pub value-least-requires-clause-d : goal.value-least-requires-clause-d

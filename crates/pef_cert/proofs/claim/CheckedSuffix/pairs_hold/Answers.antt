@@ -1,5 +1,5 @@
 use Rattle.std.proofs.Common.{◌+◌, ◌-◌, refl, sym, arith}
-use Rattle.pef_cert.specs.Kept.Claims.{label_behind, labels_claimed}
+use Rattle.pef_cert.specs.Kept.Claims.{label_after, labels_claimed}
 use Rattle.pef_cert.proofs.ClaimLemmas.{knows-sees}
 use Rattle.pef_cert.proofs.CoverLemmas.{pairs-covered}
 use Rattle.pef_cert.proofs.StepLemmas.{pair_inside, pairs-end, pairs-fail, pairs-next, pairs-stop, word_end-pair}
@@ -16,7 +16,7 @@ returns-then-covers c =
     let b = c.args.self in
     let t = c.args.tested in
     let cover = c.if-covers.ensures refl in
-    pairs-covered (labels_claimed b.claim) t.label (label_behind b t c.pairs.at) c.args.stride c.args.first c.args.second t.c t.d (512 - c.pairs.counter) c.pairs.from c.pairs.at b.claim.fixups.now _ cover.low (omega arith) c.pairs.invariant.left
+    pairs-covered (labels_claimed b.claim) t.label (label_after b t c.pairs.at) c.args.stride c.args.first c.args.second t.c t.d (512 - c.pairs.counter) c.pairs.from c.pairs.at b.claim.fixups.now _ cover.low (omega arith) c.pairs.invariant.left
     (c.requires.met c.pairs.at c.pairs.from cover.after (sym c.if-not-adds_pair.ensures))
 
 pub follows-requires-clause-sees : goal.follows-requires-clause-sees

@@ -1,5 +1,5 @@
 use Rattle.std.proofs.Common.{◌+◌, ◌-◌, refl, sym, arith}
-use Rattle.pef_cert.specs.Kept.Claims.{label_behind, labels_claimed}
+use Rattle.pef_cert.specs.Kept.Claims.{label_after, labels_claimed}
 use Rattle.pef_cert.proofs.ClaimLemmas.{knows-sees}
 use Rattle.pef_cert.proofs.CoverLemmas.{row-covered}
 use Rattle.pef_cert.proofs.StepLemmas.{adds_inside, row-end, row-fail, row-next, row-stop, word_end-added}
@@ -16,7 +16,7 @@ returns-then-covers c =
     let b = c.args.self in
     let t = c.args.tested in
     let cover = c.if-covers.ensures refl in
-    row-covered (labels_claimed b.claim) t.label (label_behind b t c.words.at) c.args.stride c.args.base t.c t.d (512 - c.words.counter) c.words.from c.words.at b.claim.fixups.now _ cover.low (omega arith) c.words.invariant.left
+    row-covered (labels_claimed b.claim) t.label (label_after b t c.words.at) c.args.stride c.args.base t.c t.d (512 - c.words.counter) c.words.from c.words.at b.claim.fixups.now _ cover.low (omega arith) c.words.invariant.left
     (c.requires.met c.words.at c.words.from cover.after (sym c.if-not-adds.ensures))
 
 pub follows-requires-clause-sees : goal.follows-requires-clause-sees

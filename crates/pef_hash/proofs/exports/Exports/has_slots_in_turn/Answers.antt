@@ -3,7 +3,7 @@ use Rattle.std.proofs.Common.{◌≡◌, ℕ, ◌+◌, ◌<◌, ◌^◌, Some, s
 use Rattle.pef_hash.specs.Exports.{slot_count, slot_first, slot_word_of}
 use Rattle.pef_hash.specs.Views.{table_of}
 use Rattle.pef_hash.specs.Kept.Searches.{AreInTurnTo, IsEndOf}
-use Rattle.pef_hash.proofs.FoundLemmas.{begins_behind, end_kept, end_moved, ends_inside, slot_there}
+use Rattle.pef_hash.proofs.FoundLemmas.{begins_after, end_kept, end_moved, ends_inside, slot_there}
 use Rattle.pef_hash.proofs.SearchLemmas.{turn_all, turn_empty, turn_more}
 use Rattle.pef_hash.proofs.Tables.{words_small}
 use Rattle.pef_hash.proofs.exports.Exports.has_slots_in_turn.Goals.{then-places+else-places-end+else-places-self, else-places, then-places-end-via-then-places-end, then-places-end-via-else-places-end+then-places-self}
@@ -60,7 +60,7 @@ returns-then-places-end-clause-found c = λ sought.
     let starts = c.places_in-places.ensures.start in
     let ends = c.places_in-places.ensures.end in
     let counts : 0 < slot_count c.in-Some.word = omega (arith, starts, ends, c.if-places.true) in
-    let behind = begins_behind t c.loop-s.s c.in-Some.word c.loop-s.end sought c.loop-s.invariant.last there counts in
+    let behind = begins_after t c.loop-s.s c.in-Some.word c.loop-s.end sought c.loop-s.invariant.last there counts in
     let within = ends_inside t c.loop-s.s c.in-Some.word sought there counts in
     elim c.then-places-end.branch [
       | then-places-end-via-then-places-end w ↦ absurd (let before = w.if-places-end in omega (arith, starts, behind, before))

@@ -1,7 +1,7 @@
 -- The number and the name, then the names that the refusal gives, and the end of the line.
 use Rattle.std.proofs.Common.{◌∷◌, [], codes, ap, ◌∙◌}
 use Rattle.pef_ports.proofs.Laws.Sending.{Prints-then, Sends-short, Sends-then, StopsShort-longer, StopsShort-then}
-use Rattle.pef_tool.specs.Answers.Refusals.{told_fragment, told_library, told_symbol, told_text}
+use Rattle.pef_tool.specs.Answers.Refusals.{reported_fragment, reported_library, reported_symbol, reported_text}
 use Rattle.pef_tool.proofs.AnswersProofs.PieceLemmas.{same_printed, same_short}
 use Rattle.pef_tool.proofs.answers.bind_refusal.BindFaultReply.print.Goals as goal
 
@@ -9,35 +9,35 @@ pub returns-in_err-send : goal.returns-in_err-send
 returns-in_err-send g c =
     let f = c.args.self.now in
     let short = same_short (c.as_slice.ensures.value ∙ c.start.ensures) c.in_err-send.ensures in
-    Sends-short _ c.from_residual.result _ c.from_residual.ensures.1 (StopsShort-longer (10 ∷ []) (StopsShort-longer (told_text (codes " symbol ") (told_symbol f)) (StopsShort-longer (told_text (codes " library ") (told_library f)) (StopsShort-longer (told_text (codes " in ") (told_fragment f)) short))))
+    Sends-short _ c.from_residual.result _ c.from_residual.ensures.1 (StopsShort-longer (10 ∷ []) (StopsShort-longer (reported_text (codes " symbol ") (reported_symbol f)) (StopsShort-longer (reported_text (codes " library ") (reported_library f)) (StopsShort-longer (reported_text (codes " in ") (reported_fragment f)) short))))
 
-pub returns-in_err-print_told : goal.returns-in_err-print_told
-returns-in_err-print_told g c =
+pub returns-in_err-print_reported : goal.returns-in_err-print_reported
+returns-in_err-print_reported g c =
     let f = c.args.self.now in
     let start = same_printed (c.as_slice.ensures.value ∙ c.start.ensures) c.in_ok-send.ensures in
-    let short = StopsShort-then start (same_short (ap (told_text (codes " in ")) c.told_fragment.ensures) c.in_err-print_told.ensures) in
-    Sends-short _ c.from_residual-in_err-print_told.result _ c.from_residual-in_err-print_told.ensures.1 (StopsShort-longer (10 ∷ []) (StopsShort-longer (told_text (codes " symbol ") (told_symbol f)) (StopsShort-longer (told_text (codes " library ") (told_library f)) short)))
+    let short = StopsShort-then start (same_short (ap (reported_text (codes " in ")) c.reported_fragment.ensures) c.in_err-print_reported.ensures) in
+    Sends-short _ c.from_residual-in_err-print_reported.result _ c.from_residual-in_err-print_reported.ensures.1 (StopsShort-longer (10 ∷ []) (StopsShort-longer (reported_text (codes " symbol ") (reported_symbol f)) (StopsShort-longer (reported_text (codes " library ") (reported_library f)) short)))
 
-pub returns-in_err-print_told-2 : goal.returns-in_err-print_told-2
-returns-in_err-print_told-2 g c =
+pub returns-in_err-print_reported-2 : goal.returns-in_err-print_reported-2
+returns-in_err-print_reported-2 g c =
     let f = c.args.self.now in
     let start = same_printed (c.as_slice.ensures.value ∙ c.start.ensures) c.in_ok-send.ensures in
-    let named = Prints-then start (same_printed (ap (told_text (codes " in ")) c.told_fragment.ensures) c.in_ok-print_told.ensures) in
-    let short = StopsShort-then named (same_short (ap (told_text (codes " library ")) c.told_library.ensures) c.in_err-print_told-2.ensures) in
-    Sends-short _ c.from_residual-in_err-print_told-2.result _ c.from_residual-in_err-print_told-2.ensures.1 (StopsShort-longer (10 ∷ []) (StopsShort-longer (told_text (codes " symbol ") (told_symbol f)) short))
+    let named = Prints-then start (same_printed (ap (reported_text (codes " in ")) c.reported_fragment.ensures) c.in_ok-print_reported.ensures) in
+    let short = StopsShort-then named (same_short (ap (reported_text (codes " library ")) c.reported_library.ensures) c.in_err-print_reported-2.ensures) in
+    Sends-short _ c.from_residual-in_err-print_reported-2.result _ c.from_residual-in_err-print_reported-2.ensures.1 (StopsShort-longer (10 ∷ []) (StopsShort-longer (reported_text (codes " symbol ") (reported_symbol f)) short))
 
-pub returns-in_err-print_told-3 : goal.returns-in_err-print_told-3
-returns-in_err-print_told-3 g c =
+pub returns-in_err-print_reported-3 : goal.returns-in_err-print_reported-3
+returns-in_err-print_reported-3 g c =
     let start = same_printed (c.as_slice.ensures.value ∙ c.start.ensures) c.in_ok-send.ensures in
-    let named = Prints-then start (same_printed (ap (told_text (codes " in ")) c.told_fragment.ensures) c.in_ok-print_told.ensures) in
-    let bound = Prints-then named (same_printed (ap (told_text (codes " library ")) c.told_library.ensures) c.in_ok-print_told-2.ensures) in
-    let short = StopsShort-then bound (same_short (ap (told_text (codes " symbol ")) c.told_symbol.ensures) c.in_err-print_told-3.ensures) in
-    Sends-short _ c.from_residual-in_err-print_told-3.result _ c.from_residual-in_err-print_told-3.ensures.1 (StopsShort-longer (10 ∷ []) short)
+    let named = Prints-then start (same_printed (ap (reported_text (codes " in ")) c.reported_fragment.ensures) c.in_ok-print_reported.ensures) in
+    let bound = Prints-then named (same_printed (ap (reported_text (codes " library ")) c.reported_library.ensures) c.in_ok-print_reported-2.ensures) in
+    let short = StopsShort-then bound (same_short (ap (reported_text (codes " symbol ")) c.reported_symbol.ensures) c.in_err-print_reported-3.ensures) in
+    Sends-short _ c.from_residual-in_err-print_reported-3.result _ c.from_residual-in_err-print_reported-3.ensures.1 (StopsShort-longer (10 ∷ []) short)
 
 pub returns : goal.returns
 returns g c =
     let start = same_printed (c.as_slice.ensures.value ∙ c.start.ensures) c.in_ok-send.ensures in
-    let named = Prints-then start (same_printed (ap (told_text (codes " in ")) c.told_fragment.ensures) c.in_ok-print_told.ensures) in
-    let bound = Prints-then named (same_printed (ap (told_text (codes " library ")) c.told_library.ensures) c.in_ok-print_told-2.ensures) in
-    let whole = Prints-then bound (same_printed (ap (told_text (codes " symbol ")) c.told_symbol.ensures) c.in_ok-print_told-3.ensures) in
+    let named = Prints-then start (same_printed (ap (reported_text (codes " in ")) c.reported_fragment.ensures) c.in_ok-print_reported.ensures) in
+    let bound = Prints-then named (same_printed (ap (reported_text (codes " library ")) c.reported_library.ensures) c.in_ok-print_reported-2.ensures) in
+    let whole = Prints-then bound (same_printed (ap (reported_text (codes " symbol ")) c.reported_symbol.ensures) c.in_ok-print_reported-3.ensures) in
     Sends-then c.send-2.result (g.W.Sink.stream c.send-2.new.out) c.send-2.new.page.items (10 ∷ []) whole c.send-2.ensures

@@ -1,0 +1,33 @@
+-- The first fragment that is left is refused.
+use Rattle.std.proofs.Common.{◌≡◌, ◌<◌, List, ℕ, true, false, Ok, Err, length, get_or, sym, subst, ap, arith, ◌∙◌}
+use Rattle.std.proofs.lemmas.List.{get_or_default}
+use Rattle.cfm_closure.specs.Faults.{init_loop}
+use Rattle.cfm_closure.specs.Fragments.{fragment_of}
+use Rattle.cfm_closure.specs.Walk.{is_marked}
+use Rattle.cfm_closure.specs.Views.{fragment_seen}
+use Rattle.cfm_closure.specs.Initialization.{taken_all}
+use Rattle.cfm_closure.specs.Kept.Taken.{taken_of}
+use Rattle.cfm_closure.proofs.HopFacts.{fragment-name}
+use Rattle.cfm_closure.proofs.InitLemmas.{first_left-here, place_in_order}
+use Rattle.cfm_closure.proofs.init_order.InitState.end.Goals as goal
+
+pub index-requires : goal.index-requires
+index-requires c =
+    let place = place_in_order c.args.bindings.now.pairs c.args.bindings.now.order c.order-p-items.result.now c.loop-p.p-index c.requires.complete c.order-p-items.ensures.order c.loop-p-test.true in
+    let size = c.requires.taken_size in let long = c.args.self.taken.ok.0 in omega arith
+
+pub returns-then-not-index : goal.returns-then-not-index
+returns-then-not-index c =
+    let pairs = c.args.bindings.now.pairs in
+    let order = c.args.bindings.now.order in
+    let ps = c.order-p-items.result.now in
+    let same = c.order-p-items.ensures.order in
+    let s = taken_of c.args.self in
+    let i = c.loop-p.p-index in
+    let place = place_in_order pairs order ps i c.requires.complete same c.loop-p-test.true in
+    let inside : get_or ps i 0 < length c.args.self.taken.items = let size = c.requires.taken_size in omega arith in
+    let unmet : is_marked s (get_or ps i 0) ≡ false = get_or_default c.args.self.taken.items (get_or ps i 0) true c.index.result.now inside ∙ sym c.index.ensures ∙ c.if-not-index.true in
+    let P : List ℕ → Type 0 = λ ps. (i < length ps) × (is_marked s (get_or ps i 0) ≡ false) × (fragment_of pairs (get_or ps i 0) ≡ Ok (fragment_seen c.fragment.result)) in
+    let all = subst P same (c.loop-p-test.true, unmet, c.fragment.ensures) in
+    ap (taken_all pairs s) (sym c.loop-p.invariant ∙ first_left-here pairs s order i all.0 all.1)
+    ∙ ap (λ name. Err (init_loop name)) (sym (fragment-name pairs (get_or order i 0) (fragment_seen c.fragment.result) all.2))
