@@ -189,6 +189,16 @@ uint32_t pef_link(const uint8_t *script, size_t script_length, uint8_t *room, si
 uint32_t pef_list(const uint8_t *container, size_t container_length, uint8_t *room, size_t room_length, size_t *written);
 
 /*
+ * Lists a container in parts: writes the lines that `pef list` prints, from byte `from` on, to the front of `room`, as many
+ * bytes as it has room for.
+ *
+ * Returns PEF_OK, and stores the number of bytes in `*written`: it is less than `room_length` only at the end of the lines, and
+ * 0 after it. Or returns the first refusal, 1 to 20 or 31 to 36; or PEF_OUT_OF_MEMORY. Then `room` and `*written` are left
+ * unchanged. Each call makes all lines, so take a large room.
+ */
+uint32_t pef_list_part(const uint8_t *container, size_t container_length, size_t from, uint8_t *room, size_t room_length, size_t *written);
+
+/*
  * Gives the name of a number that a call returned, as "BadTag". PEF_OK has none.
  *
  * Returns PEF_OK, and stores the name in `*name`: it is valid until the program ends. Or returns PEF_NOT_THERE, if nothing

@@ -177,6 +177,7 @@ _OF_FRAGMENT = _IN_CONTEXT + [ctypes.c_uint32, ctypes.c_size_t]
 _CALLS = {
     "pef_link": _IN + _ROOM + _SIZE * 2,
     "pef_list": _IN + _ROOM + _SIZE,
+    "pef_list_part": _IN + [ctypes.c_size_t] + _ROOM + _SIZE,
     "pef_name": [ctypes.c_uint32, ctypes.POINTER(_Bytes)],
     "pef_help": [ctypes.c_uint32, ctypes.POINTER(_Bytes)],
     "pef_header": _IN + [ctypes.POINTER(_Header)],

@@ -1,6 +1,6 @@
 //! The numbers that calls return, and copying into the caller's room.
-ghost use Rattle.std.specs.Prelude.{◌≡◌, ◌==◌, false};
-ghost use Rattle.pef_c.specs.Rooms.{IsCopied};
+ghost use Rattle.std.specs.Prelude.{◌≡◌, ◌==◌, drop, false, take};
+ghost use Rattle.pef_c.specs.Rooms.{FillsPart, IsCopied};
 ghost use Rattle.pef_listing.specs.Faults as listing;
 ghost use Rattle.pef_loader.specs.Faults as loader;
 ghost use Rattle.pef_pidata.specs.Faults as pidata;
@@ -33,6 +33,28 @@ pub(crate) fn copy_out<T: Copy>(items: &[T], room: &mut [T], written: &mut usize
     let (front, _) = room.split_at_mut_checked(items.len())?;
     front.copy_from_slice(items);
     Some(())
+}
+
+/// Copies the items from a place on to the front of the caller's room, as many as fit. Writes how many they are.
+pub(crate) fn copy_part<T: Copy>(items: &[T], from: usize, room: &mut [T], written: &mut usize)
+    ensures { FillsPart items.now from room.old room.new written.new }
+{
+    let part = part_of(items, from, room.len());
+    let _ = copy_out(part, room, written);
+}
+
+/// Returns the items from a place on, and no more than `most` of them.
+fn part_of<T>(items: &[T], from: usize, most: usize) -> &[T]
+    ensures { result.now ≡ take most (drop from items.now) }
+{
+    let rest = match items.split_at_checked(from) {
+        Some((_, rest)) => rest,
+        None => return &[],
+    };
+    match rest.split_at_checked(most) {
+        Some((part, _)) => part,
+        None => rest,
+    }
 }
 
 /// Returns the number of a line's refusal. It is none of this crate's own.

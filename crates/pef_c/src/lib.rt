@@ -34,7 +34,7 @@ pub use fragments::{
 };
 pub use handle::PefContext;
 pub use link::pef_link;
-pub use list::pef_list;
+pub use list::{pef_list, pef_list_part};
 pub use loader::pef_loader;
 pub use names::{pef_help, pef_name};
 pub use rows::{pef_export_named, pef_exports, pef_imports, pef_libraries, pef_relocations};

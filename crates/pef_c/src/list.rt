@@ -1,6 +1,6 @@
-ghost use Rattle.pef_c.specs.List.{ListAnswers};
+ghost use Rattle.pef_c.specs.List.{ListAnswers, PartAnswers};
 
-use crate::answers::{OUT_OF_MEMORY, ROOM_TOO_SMALL, copy_out, list_number};
+use crate::answers::{OUT_OF_MEMORY, ROOM_TOO_SMALL, copy_out, copy_part, list_number};
 use crate::text::listing_text;
 use pef_listing::Listing;
 use std::alloc::Global;
@@ -29,4 +29,29 @@ pub extern "C" fn pef_list(
         Some(()) => 0,
         None => ROOM_TOO_SMALL,
     }
+}
+
+/// Lists a container, and copies the lines from byte `from` on to the front of `room`, as many bytes as it has.
+///
+/// Returns 0, and writes the number of bytes to `written`: 0 after the last line; or the number of the first refusal;
+/// or 99.
+#[unsafe(no_mangle)]
+pub extern "C" fn pef_list_part(
+    alloc: Global,
+    container: &[u8],
+    from: usize,
+    room: &mut [u8],
+    written: &mut usize,
+) -> u32
+    ensures { PartAnswers container.now from room.old room.new written.old written.new result }
+{
+    let listing = match Listing::read(container) {
+        Ok(listing) => listing,
+        Err(fault) => return list_number(fault),
+    };
+    let Ok(text) = listing_text(alloc, &listing) else {
+        return OUT_OF_MEMORY;
+    };
+    copy_part(text.as_slice(), from, room, written);
+    0
 }

@@ -1,7 +1,7 @@
 //! Each call once, on a container and a listing that docs/FORMATS.md shows.
 use crate::{
     PefExport, PefHeader, PefRelocation, PefSection, pef_expand, pef_export_named, pef_exports,
-    pef_header, pef_help, pef_imports, pef_libraries, pef_link, pef_list, pef_name,
+    pef_header, pef_help, pef_imports, pef_libraries, pef_link, pef_list, pef_list_part, pef_name,
     pef_relocations, pef_section, pef_section_name,
 };
 use std::alloc::Global;
@@ -60,6 +60,17 @@ fn linked_and_listed(rt: HostRuntime) {
     assert!(rt; listed == 0 && written == LINES.len());
     let (lines, _) = text.split_at(LINES.len());
     assert!(rt; lines == LINES);
+
+    // a part in the middle, the last part, and one after the end
+    let mut part = *b"-------";
+    assert!(rt; pef_list_part(rt.alloc(), container, 10, &mut part, &mut written) == 0);
+    assert!(rt; written == 7 && part == *b"current");
+    let last = LINES.len() - 3;
+    assert!(rt; pef_list_part(rt.alloc(), container, last, &mut part, &mut written) == 0);
+    assert!(rt; written == 3 && part == *b"00\nrent");
+    let after = LINES.len() + 1;
+    assert!(rt; pef_list_part(rt.alloc(), container, after, &mut part, &mut written) == 0);
+    assert!(rt; written == 0 && part == *b"00\nrent");
 }
 
 /// A container is read part by part.
@@ -167,6 +178,8 @@ fn refusals(rt: HostRuntime) {
     assert!(rt; linked == 41 && line == 2 && written == 3);
     let listed = pef_list(rt.alloc(), SCRIPT, &mut room, &mut written);
     assert!(rt; listed == 2 && written == 3);
+    let listed_part = pef_list_part(rt.alloc(), SCRIPT, 0, &mut room, &mut written);
+    assert!(rt; listed_part == 2 && written == 3);
     let mut name: &'static [u8] = b"";
     assert!(rt; pef_name(listed, &mut name) == 0);
     assert!(rt; name == b"BadTag".as_slice());
