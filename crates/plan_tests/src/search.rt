@@ -3,10 +3,10 @@ use pef_reloc::{Base, Fixup};
 use std::alloc::Global;
 use std::process::Abort;
 
-/// Positions up to this one are told apart. It lies after all fixups.
+/// The last position that is distinguished. It lies after all fixups.
 const LAST_POSITION: u32 = 31;
 
-/// Import indices up to this one are told apart. No import here has it.
+/// The last import index that is distinguished. No import here has it.
 const LAST_INDEX: u32 = 2;
 
 /// The class of a register with a section that no fixup has.
