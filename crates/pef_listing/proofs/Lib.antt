@@ -1,1 +1,1 @@
-mod PieceLemmas
+mod PartLemmas

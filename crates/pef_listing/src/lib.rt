@@ -9,7 +9,6 @@ mod fault;
 mod instructions;
 mod lines;
 mod listing;
-mod pieces;
 
 pub use fault::ListFault;
 pub use listing::Listing;

@@ -7,13 +7,12 @@ ghost use Rattle.pef_loader.specs.Views.{loaded};
 ghost use Rattle.pef_ports.specs.Sent.{Sends};
 ghost use Rattle.pef_listing.specs.Listed.{programs_fault};
 ghost use Rattle.pef_listing.specs.Listing.{container_text, each_text, entry_text, export_lines, import_lines, library_lines, magnitude, reloc_lines, section_lines, section_name_text, sign_text, strength_text};
-ghost use Rattle.pef_listing.specs.Pieces.{piece_text};
+ghost use Rattle.pef_ports.specs.Pieces.{piece_text};
 
 use crate::instructions::print_program;
-use crate::pieces::{Piece, print_pieces};
 use pef_format::{ExportView, ImportView};
 use pef_loader::{ImportReader, Loader};
-use pef_ports::{Page, Sink, StreamFault};
+use pef_ports::{Page, Piece, Sink, StreamFault, print_pieces};
 use pef_reloc::Program;
 use pef_views::{Container, Header};
 

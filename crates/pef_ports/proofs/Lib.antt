@@ -1,4 +1,5 @@
 mod InputLemmas
 pub mod Laws
 mod NameLemmas
+mod PieceLemmas
 mod TextLemmas

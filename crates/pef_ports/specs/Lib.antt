@@ -2,6 +2,7 @@ pub mod Faults
 pub mod Input
 pub mod Kept
 pub mod Names
+pub mod Pieces
 pub mod Ports
 pub mod Sent
 pub mod Text

@@ -7,6 +7,7 @@ mod input;
 mod line;
 mod name;
 mod page;
+mod pieces;
 mod ports;
 pub mod system;
 
@@ -15,4 +16,5 @@ pub use input::{InputFault, read_input};
 pub use line::{Line, push_hex, push_number, push_text, push_word};
 pub use name::print_name;
 pub use page::{Page, flush, send};
+pub use pieces::{Piece, print_pieces};
 pub use ports::{FileFault, Files, Sink, Source, StreamFault};

@@ -1,7 +1,7 @@
 -- Each thing sends its lines.
 use Rattle.std.proofs.Common.{◌≡◌, ◌-◌, arith}
 use Rattle.pef_listing.specs.Listing.{each_text}
-use Rattle.pef_listing.proofs.PieceLemmas.{each_text-more, each_text-none}
+use Rattle.pef_listing.proofs.PartLemmas.{each_text-more, each_text-none}
 use Rattle.pef_ports.proofs.Laws.Sending.{Sends-short, sent-all, sent-nothing, sent-piece, sent-short}
 use Rattle.pef_listing.proofs.lines.print_each.Goals as goal
 

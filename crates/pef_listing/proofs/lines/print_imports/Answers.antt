@@ -2,7 +2,7 @@
 use Rattle.std.proofs.Common.{◌≡◌, ◌-◌, ◌∙◌, ℕ, arith}
 use Rattle.pef_loader.specs.Views.{loaded}
 use Rattle.pef_listing.specs.Listing.{each_text, import_lines}
-use Rattle.pef_listing.proofs.PieceLemmas.{each_text-more, each_text-none}
+use Rattle.pef_listing.proofs.PartLemmas.{each_text-more, each_text-none}
 use Rattle.pef_ports.proofs.Laws.Sending.{Sends-short, sent-all, sent-nothing, sent-piece, sent-short}
 use Rattle.pef_listing.proofs.lines.print_imports.Goals as goal
 

@@ -9,7 +9,7 @@ use Rattle.pef_listing.specs.Listed.{program_refusal}
 use Rattle.pef_listing.specs.Listing.{reloc_lines, reloc_text}
 use Rattle.pef_ports.specs.Sent.{Sends}
 use Rattle.pef_ports.proofs.Laws.Sending.{Sends-short, Sends-then, StopsShort-longer}
-use Rattle.pef_listing.proofs.PieceLemmas.{reads_program, reads_program_bytes}
+use Rattle.pef_listing.proofs.PartLemmas.{reads_program, reads_program_bytes}
 use Rattle.pef_listing.proofs.lines.RelocationsLines.print_at.Goals as goal
 
 pub unreachable-requires-in_default-read : goal.unreachable-requires-in_default-read

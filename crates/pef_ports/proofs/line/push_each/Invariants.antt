@@ -1,7 +1,7 @@
 use Rattle.std.proofs.Common.{◌≡◌, ◌+◌, ◌*◌, ◌++◌, take}
 use Rattle.arrayvec.specs.ArrayVec.{array_vec_len}
 use Rattle.pef_ports.specs.Text.{hex_text}
-use Rattle.pef_ports.proofs.line.push_hex.Given as goal
+use Rattle.pef_ports.proofs.line.push_each.Given as goal
 
 abbrev pub invariant-loop-b : goal.invariant-loop-b
 invariant-loop-b l = record {

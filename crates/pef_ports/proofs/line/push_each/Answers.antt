@@ -1,7 +1,7 @@
 -- Each byte adds its two digits.
 use Rattle.std.proofs.Common.{append_assoc, arith}
 use Rattle.pef_ports.proofs.TextLemmas.{hex_text-more}
-use Rattle.pef_ports.proofs.line.push_hex.Goals as goal
+use Rattle.pef_ports.proofs.line.push_each.Goals as goal
 
 pub loop-b-preserved : goal.loop-b-preserved
 loop-b-preserved c = record {

@@ -1,8 +1,11 @@
-ghost use Rattle.pef_listing.specs.Pieces.{piece_text, pieces_text};
+ghost use Rattle.pef_ports.specs.Pieces.{piece_text, pieces_text};
 ghost use Rattle.pef_ports.specs.Sent.{Sends};
 
+use crate::line::{Line, push_hex, push_word};
+use crate::name::print_name;
+use crate::page::{Page, send};
+use crate::ports::{Sink, StreamFault};
 use itoa::Buffer;
-use pef_ports::{Line, Page, Sink, StreamFault, print_name, push_hex, push_word, send};
 
 /// A piece of a line.
 #[derive(Clone, Copy)]

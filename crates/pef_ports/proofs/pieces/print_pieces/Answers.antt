@@ -1,11 +1,11 @@
 -- Each piece sends its text.
 use Rattle.std.proofs.Common.{◌+◌, drop, get_or, ap, ◌∙◌}
 use Rattle.std.proofs.lemmas.List.{at_drop_more, drop_all}
-use Rattle.pef_listing.specs.Pieces.{pieces_text}
-use Rattle.pef_listing.specs.declared.pieces.Piece.TheVariants.{Number}
-use Rattle.pef_listing.proofs.PieceLemmas.{pieces-more}
+use Rattle.pef_ports.specs.Pieces.{pieces_text}
+use Rattle.pef_ports.specs.declared.pieces.Piece.TheVariants.{Number}
+use Rattle.pef_ports.proofs.PieceLemmas.{pieces-more}
 use Rattle.pef_ports.proofs.Laws.Sending.{Sends-short, sent-all, sent-nothing, sent-piece, sent-short}
-use Rattle.pef_listing.proofs.pieces.print_pieces.Goals as goal
+use Rattle.pef_ports.proofs.pieces.print_pieces.Goals as goal
 
 pub loop-piece-init : goal.loop-piece-init
 loop-piece-init g c = sent-nothing (g.W.Sink.stream c.args.out.now) c.args.page.now.items (pieces_text c.args.pieces.now)

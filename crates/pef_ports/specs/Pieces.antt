@@ -1,7 +1,7 @@
--- A line of a listing as its pieces (docs/FORMATS.md, "Listings").
+-- A line as its pieces (docs/FORMATS.md, "Listings"; docs/USAGE.md).
 use Rattle.std.specs.Prelude.{ℕ, List, [], ◌∷◌, ◌++◌, decimal}
-use Rattle.pef_listing.specs.declared.pieces.Piece.{Piece}
-use Rattle.pef_listing.specs.declared.pieces.Piece.TheVariants.{Text, Name, Number, Word, Byte}
+use Rattle.pef_ports.specs.declared.pieces.Piece.{Piece}
+use Rattle.pef_ports.specs.declared.pieces.Piece.TheVariants.{Text, Name, Number, Word, Byte}
 use Rattle.pef_ports.specs.Names.{name_text}
 use Rattle.pef_ports.specs.Text.{hex_text, word_text}
 

@@ -1,25 +1,12 @@
--- Pieces one after the other.
-use Rattle.std.proofs.Common.{◌≡◌, ℕ, suc, ◌+◌, ◌-◌, ◌<◌, ◌≤◌, List, [], ◌∷◌, ◌++◌, refl, sym, ap, ◌∙◌, append_assoc, arith}
-use Rattle.std.proofs.lemmas.List.{append-nil}
+-- Parts that are listed by their numbers, and the programs among them.
+use Rattle.std.proofs.Common.{◌≡◌, ℕ, suc, ◌+◌, ◌-◌, ◌<◌, ◌≤◌, List, [], ◌++◌, refl, arith}
 use Rattle.std.specs.Prelude.{None, Result, Ok, Err}
 use Rattle.pef_words.specs.Refusals.{result_map, unless}
 use Rattle.pef_reloc.specs.declared.fault.RelocFault.{RelocFault}
 use Rattle.pef_reloc.specs.declared.program.Program.{Program}
 use Rattle.pef_reloc.specs.Unrolled.{program_fault}
 use Rattle.pef_reloc.specs.Views.{program_bytes}
-use Rattle.pef_listing.specs.declared.pieces.Piece.{Piece}
 use Rattle.pef_listing.specs.Listing.{each_text}
-use Rattle.pef_listing.specs.Pieces.{piece_text, pieces_after, pieces_text}
-
--- a text in front of pieces
-after-text : (text : List ℕ) (pieces : List Piece) → pieces_after text pieces ≡ text ++ pieces_text pieces
-after-text text [] = sym (append-nil text)
-after-text text (piece ∷ pieces) =
-    after-text (text ++ piece_text piece) pieces ∙ append_assoc text (piece_text piece) (pieces_text pieces) ∙ ap (λ (t : List ℕ). text ++ t) (sym (after-text (piece_text piece) pieces))
-
--- a piece in front of others
-pub pieces-more : (piece : Piece) (pieces : List Piece) → pieces_text (piece ∷ pieces) ≡ piece_text piece ++ pieces_text pieces
-pieces-more piece pieces = after-text (piece_text piece) pieces
 
 -- the texts of the parts from one on begin with its own
 pub each_text-more : (text : ℕ → List ℕ) (i n : ℕ) → i < n → each_text text i (n - i) ≡ text i ++ each_text text (i + 1) (n - (i + 1))
