@@ -1,13 +1,12 @@
-ghost use Rattle.std.specs.Prelude.{◌≡◌, ◌≤◌, ◌+◌, [], ◌∷◌, ◌++◌, length, true};
+ghost use Rattle.std.specs.Prelude.{◌≡◌, [], ◌∷◌, true};
 ghost use Rattle.std.specs.Option.{option_to_list};
-ghost use Rattle.arrayvec.specs.ArrayVec.{array_vec_len};
 ghost use Rattle.pef_reloc.specs.Instrs.{instr_fits};
 ghost use Rattle.pef_reloc.specs.Unrolled.{instrs_of};
 ghost use Rattle.pef_reloc.specs.Views.{program_bytes};
 ghost use Rattle.pef_listing.specs.Instructions.{halfwords_text, instr_text, kind_name, numbers_of, numbers_text, program_text};
 ghost use Rattle.pef_ports.specs.Sent.{Sends};
 
-use pef_ports::{Line, Page, Sink, StreamFault, push_hex, push_number, push_text, send};
+use pef_ports::{Page, Piece, Sink, StreamFault, print_pieces, send};
 use pef_reloc::{Instr, Program, Spelling};
 
 /// Prints the lines of a program's instructions. Repeats aren't unrolled.
@@ -20,52 +19,41 @@ pub fn print_program<W: Sink>(
 {
     let mut instrs = program.instrs();
     while let Some(instr) = instrs.next_instr() {
-        send(out, page, instr_line(instr).as_slice())?;
+        print_instr(out, page, instr)?;
     }
     Ok(())
 }
 
-/// Returns the line of an instruction.
+/// Prints the line of an instruction.
 #[tactic(auto, unfolding(crate::specs::Instructions::instr_text))]
-fn instr_line(instr: Instr) -> Line
+fn print_instr<W: Sink>(out: &mut W, page: &mut Page, instr: Instr) -> Result<(), StreamFault>
     requires { instr_fits instr ≡ true }
-    ensures { result.items ≡ instr_text instr }
+    ensures { Sends result (W.stream out.old) (W.stream out.new) page.old.items page.new.items (instr_text instr) }
 {
-    let mut line = Line::new();
-    push_halfwords(&mut line, instr.spelling());
-    push_text(&mut line, kind_name(instr));
-    push_numbers(&mut line, instr);
-    push_text(&mut line, b"\n");
-    line
+    print_halfwords(out, page, instr.spelling())?;
+    send(out, page, kind_name(instr))?;
+    print_numbers(out, page, instr)?;
+    send(out, page, b"\n")
 }
 
-/// Appends one or two halfwords.
-fn push_halfwords(line: &mut Line, spelling: Spelling)
-    requires { array_vec_len line.old ≡ 0 }
-    ensures text { line.new.items ≡ line.old.items ++ halfwords_text (spelling.first ∷ option_to_list spelling.second) }
-    ensures len { array_vec_len line.new ≤ 10 }
+/// Prints one or two halfwords, each before a space.
+fn print_halfwords<W: Sink>(
+    out: &mut W,
+    page: &mut Page,
+    spelling: Spelling,
+) -> Result<(), StreamFault>
+    ensures { Sends result (W.stream out.old) (W.stream out.new) page.old.items page.new.items (halfwords_text (spelling.first ∷ option_to_list spelling.second)) }
 {
-    push_halfword(line, spelling.first);
-    if let Some(second) = spelling.second {
-        push_halfword(line, second);
+    let (first, space) = (Piece::Halfword(spelling.first), Piece::Text(b" "));
+    match spelling.second {
+        None => print_pieces(out, page, &[first, space]),
+        Some(second) => print_pieces(out, page, &[first, space, Piece::Halfword(second), space]),
     }
 }
 
-/// Appends a halfword and a space.
-fn push_halfword(line: &mut Line, halfword: u16)
-    requires { array_vec_len line.old ≤ 5 }
-    ensures text { line.new.items ≡ line.old.items ++ halfwords_text (halfword ∷ []) }
-    ensures len { array_vec_len line.new ≡ array_vec_len line.old + 5 }
-{
-    push_hex(line, &halfword.to_be_bytes());
-    push_text(line, b" ");
-}
-
-/// Appends the numbers of an instruction, by their meanings.
-fn push_numbers(line: &mut Line, instr: Instr)
-    requires { array_vec_len line.old ≤ 25 }
-    ensures text { line.new.items ≡ line.old.items ++ numbers_text (numbers_of instr) }
-    ensures len { array_vec_len line.new ≤ 67 }
+/// Prints the numbers of an instruction, by their meanings.
+fn print_numbers<W: Sink>(out: &mut W, page: &mut Page, instr: Instr) -> Result<(), StreamFault>
+    ensures { Sends result (W.stream out.old) (W.stream out.new) page.old.items page.new.items (numbers_text (numbers_of instr)) }
 {
     match instr {
         Instr::BySectDWithSkip {
@@ -79,10 +67,7 @@ fn push_numbers(line: &mut Line, instr: Instr)
         | Instr::LgRepeat {
             blocks: first,
             count: second,
-        } => {
-            push_count(line, first);
-            push_count(line, second);
-        }
+        } => print_two(out, page, first, second),
         Instr::BySectC(n)
         | Instr::BySectD(n)
         | Instr::TVector12(n)
@@ -98,24 +83,37 @@ fn push_numbers(line: &mut Line, instr: Instr)
         | Instr::LgByImport(n)
         | Instr::LgBySection(n)
         | Instr::LgSetSectC(n)
-        | Instr::LgSetSectD(n) => push_count(line, n),
+        | Instr::LgSetSectD(n) => print_one(out, page, n),
     }
 }
 
-/// Appends a number after a space.
-fn push_count(line: &mut Line, n: u32)
-    requires { array_vec_len line.old ≤ 46 }
-    ensures text { line.new.items ≡ line.old.items ++ numbers_text (n ∷ []) }
-    ensures len { array_vec_len line.new ≤ array_vec_len line.old + 21 }
+/// Prints a number after a space.
+fn print_one<W: Sink>(out: &mut W, page: &mut Page, n: u32) -> Result<(), StreamFault>
+    ensures { Sends result (W.stream out.old) (W.stream out.new) page.old.items page.new.items (numbers_text (n ∷ [])) }
 {
-    push_text(line, b" ");
-    push_number(line, u64::from(n));
+    print_pieces(out, page, &[Piece::Text(b" "), Piece::Number(u64::from(n))])
+}
+
+/// Prints two numbers, each after a space.
+fn print_two<W: Sink>(
+    out: &mut W,
+    page: &mut Page,
+    first: u32,
+    second: u32,
+) -> Result<(), StreamFault>
+    ensures { Sends result (W.stream out.old) (W.stream out.new) page.old.items page.new.items (numbers_text (first ∷ second ∷ [])) }
+{
+    let space = Piece::Text(b" ");
+    let (first, second) = (
+        Piece::Number(u64::from(first)),
+        Piece::Number(u64::from(second)),
+    );
+    print_pieces(out, page, &[space, first, space, second])
 }
 
 /// Returns the name of an instruction's kind.
 fn kind_name(instr: Instr) -> &'static [u8]
-    ensures name { result.now ≡ kind_name instr }
-    ensures short { length result.now ≤ 15 }
+    ensures { result.now ≡ kind_name instr }
 {
     match instr {
         Instr::BySectDWithSkip { .. } => b"BySectDWithSkip",

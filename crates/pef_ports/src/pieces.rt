@@ -1,7 +1,9 @@
+ghost use Rattle.std.specs.Prelude.{◌≤◌, length};
 ghost use Rattle.pef_ports.specs.Pieces.{piece_text, pieces_text};
 ghost use Rattle.pef_ports.specs.Sent.{Sends};
+ghost use Rattle.pef_ports.specs.Text.{hex_text};
 
-use crate::line::{Line, push_hex, push_word};
+use crate::line::{Line, push_hex};
 use crate::name::print_name;
 use crate::page::{Page, send};
 use crate::ports::{Sink, StreamFault};
@@ -18,6 +20,8 @@ pub enum Piece<'a> {
     Name(&'a [u8]),
     /// A number of 32 bits in eight hex digits.
     Word(u32),
+    /// A number of 16 bits in four hex digits.
+    Halfword(u16),
     /// A number of 8 bits in two hex digits.
     Byte(u8),
 }
@@ -47,15 +51,18 @@ fn print_piece<W: Sink>(out: &mut W, page: &mut Page, piece: Piece<'_>) -> Resul
             let mut buffer = Buffer::new();
             send(out, page, buffer.format(n).as_bytes())
         }
-        Piece::Word(n) => {
-            let mut line = Line::new();
-            push_word(&mut line, n);
-            send(out, page, line.as_slice())
-        }
-        Piece::Byte(n) => {
-            let mut line = Line::new();
-            push_hex(&mut line, &[n]);
-            send(out, page, line.as_slice())
-        }
+        Piece::Word(n) => print_hex(out, page, &n.to_be_bytes()),
+        Piece::Halfword(n) => print_hex(out, page, &n.to_be_bytes()),
+        Piece::Byte(n) => print_hex(out, page, &[n]),
     }
+}
+
+/// Prints the two digits of each byte.
+fn print_hex<W: Sink>(out: &mut W, page: &mut Page, bytes: &[u8]) -> Result<(), StreamFault>
+    requires { length bytes.now ≤ 48 }
+    ensures { Sends result (W.stream out.old) (W.stream out.new) page.old.items page.new.items (hex_text bytes.now) }
+{
+    let mut line = Line::new();
+    push_hex(&mut line, bytes);
+    send(out, page, line.as_slice())
 }
