@@ -12,7 +12,7 @@ use crate::answers::{
 };
 use crate::details::script_detail;
 use pef_cert::{Certificate, check};
-use pef_ports::{FileFault, Files, Line, Page, Sink, StreamFault, push_number, push_text, send};
+use pef_ports::{FileFault, Files, Page, Piece, Sink, StreamFault, print_pieces};
 use pef_reloc::Fixup;
 use pef_script::Script;
 use std::alloc::{AllocFailed, Global};
@@ -193,27 +193,34 @@ fn print_verdicts<W: Sink>(
     ensures { Sends result (W.stream out.old) (W.stream out.new) page.old.items page.new.items (verdicts_text 0 verdicts.now) }
 {
     for (k, verdict) in verdicts.iter().enumerate() {
-        let line = verdict_line(k, *verdict);
-        send(out, page, line.as_slice())?;
+        print_verdict(out, page, k, *verdict)?;
     }
     Ok(())
 }
 
-/// Returns the line of the verdict on section k's certificate.
+/// Prints the line of the verdict on section k's certificate.
 #[tactic(auto, unfolding(crate::specs::Check::verdict_text))]
-fn verdict_line(k: usize, verdict: Verdict) -> Line
-    ensures { result.items ≡ verdict_text k verdict }
+fn print_verdict<W: Sink>(
+    out: &mut W,
+    page: &mut Page,
+    k: usize,
+    verdict: Verdict,
+) -> Result<(), StreamFault>
+    ensures { Sends result (W.stream out.old) (W.stream out.new) page.old.items page.new.items (verdict_text k verdict) }
 {
-    let mut line = Line::new();
-    push_text(&mut line, b"section ");
-    push_number(&mut line, k as u64);
+    let (section, number) = (Piece::Text(b"section "), Piece::Number(k as u64));
     match verdict {
-        Verdict::Yes { halfwords } => {
-            push_text(&mut line, b" yes ");
-            push_number(&mut line, halfwords);
-            push_text(&mut line, b"\n");
-        }
-        Verdict::No => push_text(&mut line, b" no\n"),
+        Verdict::Yes { halfwords } => print_pieces(
+            out,
+            page,
+            &[
+                section,
+                number,
+                Piece::Text(b" yes "),
+                Piece::Number(halfwords),
+                Piece::Text(b"\n"),
+            ],
+        ),
+        Verdict::No => print_pieces(out, page, &[section, number, Piece::Text(b" no\n")]),
     }
-    line
 }

@@ -3,7 +3,7 @@ ghost use Rattle.pef_ports.specs.Sent.{Sends};
 ghost use Rattle.pef_tool.specs.Fragment.{entry_text, heading_text, section_text};
 
 use pef_ports::{
-    Line, Page, Sink, StreamFault, print_memory, push_number, push_text, push_word, send,
+    Line, Page, Piece, Sink, StreamFault, print_memory, print_pieces, push_text, push_word,
 };
 
 /// Prints a section with its number: its address and its bytes.
@@ -17,24 +17,34 @@ pub fn print_bytes<W: Sink>(
     requires { address + length bytes.now ≤ 2 ^ 32 }
     ensures { Sends result (W.stream out.old) (W.stream out.new) page.old.items page.new.items (section_text i (record { address = address; bytes = bytes.now })) }
 {
-    send(out, page, heading(i, address, bytes.len()).as_slice())?;
+    print_heading(out, page, i, address, bytes.len())?;
     print_memory(out, page, address, bytes)
 }
 
-/// Returns the line above a section's memory.
+/// Prints the line above a section's memory.
 #[tactic(auto, unfolding(crate::specs::Fragment::heading_text))]
-fn heading(i: usize, address: u32, size: usize) -> Line
-    ensures { result.items ≡ heading_text i address size }
+fn print_heading<W: Sink>(
+    out: &mut W,
+    page: &mut Page,
+    i: usize,
+    address: u32,
+    size: usize,
+) -> Result<(), StreamFault>
+    ensures { Sends result (W.stream out.old) (W.stream out.new) page.old.items page.new.items (heading_text i address size) }
 {
-    let mut line = Line::new();
-    push_text(&mut line, b"section ");
-    push_number(&mut line, i as u64);
-    push_text(&mut line, b" at ");
-    push_word(&mut line, address);
-    push_text(&mut line, b" size ");
-    push_number(&mut line, size as u64);
-    push_text(&mut line, b"\n");
-    line
+    print_pieces(
+        out,
+        page,
+        &[
+            Piece::Text(b"section "),
+            Piece::Number(i as u64),
+            Piece::Text(b" at "),
+            Piece::Word(address),
+            Piece::Text(b" size "),
+            Piece::Number(size as u64),
+            Piece::Text(b"\n"),
+        ],
+    )
 }
 
 /// Returns the line of an entry point, if there is one.

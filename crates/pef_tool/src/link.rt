@@ -6,7 +6,7 @@ ghost use Rattle.pef_tool.specs.Link.{LinkAnswers, length_text, lengths_text, li
 use crate::answers::{FileRefusal, Outcome, Refusal, Reply, deliver, deliver_detailed};
 use crate::details::script_detail;
 use crate::linking::link_text;
-use pef_ports::{FileFault, Files, Line, Page, Sink, StreamFault, push_number, push_text, send};
+use pef_ports::{FileFault, Files, Page, Piece, Sink, StreamFault, print_pieces};
 use pef_write::Linked;
 use std::alloc::Global;
 
@@ -65,8 +65,7 @@ impl<'a> Reply for LinkedReply<'a> {
 fn print_linked<W: Sink>(out: &mut W, page: &mut Page, linked: &Linked) -> Result<(), StreamFault>
     ensures { Sends result (W.stream out.old) (W.stream out.new) page.old.items page.new.items (linked_text linked.now) }
 {
-    let size = linked.bytes().len();
-    send(out, page, size_line(size).as_slice())?;
+    print_size(out, page, linked.bytes().len())?;
     print_lengths(out, page, linked)
 }
 
@@ -78,34 +77,46 @@ fn print_lengths<W: Sink>(out: &mut W, page: &mut Page, linked: &Linked) -> Resu
         let Some(length) = linked.length(k) else {
             unreachable!()
         };
-        let line = length_line(k, length);
-        send(out, page, line.as_slice())?;
+        print_length(out, page, k, length)?;
     }
     Ok(())
 }
 
-/// Returns the line of a container's size.
+/// Prints the line of a container's size.
 #[tactic(auto, unfolding(crate::specs::Link::size_text))]
-fn size_line(size: usize) -> Line
-    ensures { result.items ≡ size_text size }
+fn print_size<W: Sink>(out: &mut W, page: &mut Page, size: usize) -> Result<(), StreamFault>
+    ensures { Sends result (W.stream out.old) (W.stream out.new) page.old.items page.new.items (size_text size) }
 {
-    let mut line = Line::new();
-    push_text(&mut line, b"linked ");
-    push_number(&mut line, size as u64);
-    push_text(&mut line, b" bytes\n");
-    line
+    print_pieces(
+        out,
+        page,
+        &[
+            Piece::Text(b"linked "),
+            Piece::Number(size as u64),
+            Piece::Text(b" bytes\n"),
+        ],
+    )
 }
 
-/// Returns the line of the length of section k's program.
+/// Prints the line of the length of section k's program.
 #[tactic(auto, unfolding(crate::specs::Link::length_text))]
-fn length_line(k: usize, length: u32) -> Line
-    ensures { result.items ≡ length_text k length }
+fn print_length<W: Sink>(
+    out: &mut W,
+    page: &mut Page,
+    k: usize,
+    length: u32,
+) -> Result<(), StreamFault>
+    ensures { Sends result (W.stream out.old) (W.stream out.new) page.old.items page.new.items (length_text k length) }
 {
-    let mut line = Line::new();
-    push_text(&mut line, b"section ");
-    push_number(&mut line, k as u64);
-    push_text(&mut line, b" length ");
-    push_number(&mut line, u64::from(length));
-    push_text(&mut line, b"\n");
-    line
+    print_pieces(
+        out,
+        page,
+        &[
+            Piece::Text(b"section "),
+            Piece::Number(k as u64),
+            Piece::Text(b" length "),
+            Piece::Number(u64::from(length)),
+            Piece::Text(b"\n"),
+        ],
+    )
 }

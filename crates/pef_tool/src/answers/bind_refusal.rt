@@ -1,15 +1,14 @@
 ghost use Rattle.std.specs.Prelude.{◌≡◌, ◌++◌, option_map};
-ghost use Rattle.cfm_closure.specs.Faults.{fault_name, fault_number};
 ghost use Rattle.pef_ports.specs.Names.{name_text};
 ghost use Rattle.pef_ports.specs.Sent.{Sends};
 ghost use Rattle.pef_tool.specs.Answers.Answers.{answer_refused};
-ghost use Rattle.pef_tool.specs.Answers.Refusals.{bind_refusal_text, refused_text, reported_fragment, reported_library, reported_symbol, reported_text};
+ghost use Rattle.pef_tool.specs.Answers.Refusals.{bind_refusal_text, reported_fragment, reported_library, reported_symbol, reported_text};
 
 use crate::answers::outcome::Outcome;
-use crate::answers::refusal::refused_line;
+use crate::answers::refusal::print_refused;
 use crate::answers::reply::Reply;
 use cfm_closure::BindFault;
-use pef_ports::{Line, Page, Sink, StreamFault, print_name, send};
+use pef_ports::{Page, Piece, Sink, StreamFault, print_pieces, send};
 
 impl<'a> Reply for BindFault<'a> {
     ghost answer = { λ fault. answer_refused (bind_refusal_text fault) };
@@ -19,20 +18,12 @@ impl<'a> Reply for BindFault<'a> {
     }
 
     fn print<W: Sink>(&self, out: &mut W, page: &mut Page) -> Result<(), StreamFault> {
-        send(out, page, start(self).as_slice())?;
+        print_refused(out, page, self.number(), self.name())?;
         print_reported(out, page, b" in ", reported_fragment(self))?;
         print_reported(out, page, b" library ", reported_library(self))?;
         print_reported(out, page, b" symbol ", reported_symbol(self))?;
         send(out, page, b"\n")
     }
-}
-
-/// Returns the start of the refusal's line: its number and its name.
-#[tactic(auto, using(crate::proofs::AnswersProofs::RefusalLemmas::short_bind_name))]
-fn start(fault: &BindFault<'_>) -> Line
-    ensures { result.items ≡ refused_text (fault_number fault.now) (fault_name fault.now) }
-{
-    refused_line(fault.number(), fault.name())
 }
 
 /// Returns the fragment that the line names.
@@ -111,6 +102,5 @@ pub fn print_after<W: Sink>(
 ) -> Result<(), StreamFault>
     ensures { Sends result (W.stream out.old) (W.stream out.new) page.old.items page.new.items (word.now ++ name_text name.now) }
 {
-    send(out, page, word)?;
-    print_name(out, page, name)
+    print_pieces(out, page, &[Piece::Text(word), Piece::Name(name)])
 }

@@ -1,15 +1,14 @@
 ghost use Rattle.std.specs.Prelude.{◌≡◌, option_map};
-ghost use Rattle.cfm_prepare.specs.Faults.{fault_name, fault_number};
 ghost use Rattle.pef_ports.specs.Sent.{Sends};
 ghost use Rattle.pef_tool.specs.Answers.Answers.{answer_refused};
-ghost use Rattle.pef_tool.specs.Answers.Refusals.{prepare_refusal_text, refused_text, reported_unprepared, unprepared_text};
+ghost use Rattle.pef_tool.specs.Answers.Refusals.{prepare_refusal_text, reported_unprepared, unprepared_text};
 
 use crate::answers::bind_refusal::print_reported;
 use crate::answers::outcome::Outcome;
-use crate::answers::refusal::refused_line;
+use crate::answers::refusal::print_refused;
 use crate::answers::reply::Reply;
 use cfm_prepare::{FragmentFault, PrepareFault};
-use pef_ports::{Line, Page, Sink, StreamFault, send};
+use pef_ports::{Page, Sink, StreamFault, send};
 
 impl<'a> Reply for PrepareFault<'a> {
     ghost answer = { λ fault. answer_refused (prepare_refusal_text fault) };
@@ -37,17 +36,9 @@ fn print_unprepared<W: Sink>(
 ) -> Result<(), StreamFault>
     ensures { Sends result (W.stream out.old) (W.stream out.new) page.old.items page.new.items (unprepared_text fault.now) }
 {
-    send(out, page, start(fault).as_slice())?;
+    print_refused(out, page, fault.number(), fault.name())?;
     print_reported(out, page, b" in ", reported_unprepared(fault))?;
     send(out, page, b"\n")
-}
-
-/// Returns the start of the refusal's line: its number and its name.
-#[tactic(auto, using(crate::proofs::AnswersProofs::RefusalLemmas::short_prepare_name))]
-fn start(fault: &PrepareFault<'_>) -> Line
-    ensures { result.items ≡ refused_text (fault_number fault.now) (fault_name fault.now) }
-{
-    refused_line(fault.number(), fault.name())
 }
 
 /// Returns the name of the fragment that isn't prepared, if its closure isn't the reason.

@@ -1,17 +1,14 @@
-ghost use Rattle.std.specs.Prelude.{◌≡◌, ◌≤◌, ◌+◌, ◌++◌, length};
-ghost use Rattle.arrayvec.specs.ArrayVec.{array_vec_len};
+ghost use Rattle.std.specs.Prelude.{◌≡◌};
 ghost use Rattle.pef_ports.specs.Sent.{Sends};
 ghost use Rattle.pef_tool.specs.Answers.Answers.{answer_refused};
 ghost use Rattle.pef_tool.specs.Answers.Reported.{certificate_refusal, input_refusal, script_refusal};
-ghost use Rattle.pef_tool.specs.Answers.Refusals.{file_name_of, file_number_of, file_refusal_start, file_refusal_text, name_end, name_of, number_of, path_of, place_of, refusal_text, refused_text};
+ghost use Rattle.pef_tool.specs.Answers.Refusals.{file_name_of, file_number_of, file_refusal_text, name_end, name_of, number_of, path_of, place_of, refusal_text, refused_text};
 
 use crate::answers::outcome::Outcome;
 use crate::answers::reply::Reply;
 use pef_cert::CertFault;
 use pef_listing::ListFault;
-use pef_ports::{
-    InputFault, Line, Page, Sink, StreamFault, print_name, push_number, push_text, send,
-};
+use pef_ports::{InputFault, Page, Piece, Sink, StreamFault, print_pieces, send};
 use pef_script::{LineFault, ScriptFault};
 
 /// The reason why a run is refused.
@@ -50,10 +47,8 @@ impl Refusal {
     }
 
     /// Returns the name of the refusal.
-    #[tactic(auto, using(crate::proofs::AnswersProofs::RefusalLemmas::short_name))]
     fn name(&self) -> &'static str
-        ensures name { result.now ≡ name_of self.now }
-        ensures short { length result.now ≤ 16 }
+        ensures { result.now ≡ name_of self.now }
     {
         match self {
             Refusal::Script { fault, .. } => fault.name(),
@@ -66,48 +61,44 @@ impl Refusal {
         }
     }
 
-    /// Appends the rest of the line, after the name.
-    fn push_place(&self, line: &mut Line)
-        requires { array_vec_len line.old ≤ 60 }
-        ensures text { line.new.items ≡ line.old.items ++ place_of self.now }
-        ensures len { array_vec_len line.new ≤ array_vec_len line.old + 26 }
+    /// Prints the rest of the line, after the name.
+    fn print_place<W: Sink>(&self, out: &mut W, page: &mut Page) -> Result<(), StreamFault>
+        ensures { Sends result (W.stream out.old) (W.stream out.new) page.old.items page.new.items (place_of self.now) }
     {
         match self {
-            Refusal::Script { line: number, .. } | Refusal::BadCertificate { line: number } => {
-                push_text(line, b" line ");
-                push_number(line, *number as u64);
-            }
+            Refusal::Script { line, .. } | Refusal::BadCertificate { line } => print_pieces(
+                out,
+                page,
+                &[Piece::Text(b" line "), Piece::Number(*line as u64)],
+            ),
             Refusal::Listing(_)
             | Refusal::SectionsDiffer
             | Refusal::InputUnreadable
             | Refusal::InputTooLong
-            | Refusal::OutOfMemory => {}
+            | Refusal::OutOfMemory => Ok(()),
         }
-    }
-
-    /// Returns the line that ends the run.
-    fn line(&self) -> Line
-        ensures { result.items ≡ refusal_text self.now }
-    {
-        let mut line = refused_line(self.number(), self.name());
-        self.push_place(&mut line);
-        push_text(&mut line, b"\n");
-        line
     }
 }
 
-/// Returns the start of a refusal's line.
-pub fn refused_line(number: u32, name: &str) -> Line
-    requires { length name.now ≤ 20 }
-    ensures text { result.items ≡ refused_text number name.now }
-    ensures len { array_vec_len result ≤ 49 }
+/// Prints the start of a refusal's line: its number and its name.
+pub fn print_refused<W: Sink>(
+    out: &mut W,
+    page: &mut Page,
+    number: u32,
+    name: &str,
+) -> Result<(), StreamFault>
+    ensures { Sends result (W.stream out.old) (W.stream out.new) page.old.items page.new.items (refused_text number name.now) }
 {
-    let mut line = Line::new();
-    push_text(&mut line, b"refused ");
-    push_number(&mut line, u64::from(number));
-    push_text(&mut line, b" ");
-    push_text(&mut line, name.as_bytes());
-    line
+    print_pieces(
+        out,
+        page,
+        &[
+            Piece::Text(b"refused "),
+            Piece::Number(u64::from(number)),
+            Piece::Text(b" "),
+            Piece::Text(name.as_bytes()),
+        ],
+    )
 }
 
 impl Reply for Refusal {
@@ -118,7 +109,9 @@ impl Reply for Refusal {
     }
 
     fn print<W: Sink>(&self, out: &mut W, page: &mut Page) -> Result<(), StreamFault> {
-        send(out, page, self.line().as_slice())
+        print_refused(out, page, self.number(), self.name())?;
+        self.print_place(out, page)?;
+        send(out, page, b"\n")
     }
 }
 
@@ -175,8 +168,7 @@ impl<'a> FileRefusal<'a> {
 
     /// Returns the name of the refusal.
     fn name(&self) -> &'static str
-        ensures name { result.now ≡ file_name_of self.now }
-        ensures short { length result.now ≤ 16 }
+        ensures { result.now ≡ file_name_of self.now }
     {
         match self {
             FileRefusal::Unreadable(_) => "FileUnreadable",
@@ -192,15 +184,6 @@ impl<'a> FileRefusal<'a> {
             FileRefusal::Unreadable(path) | FileRefusal::Unwritable(path) => path,
         }
     }
-
-    /// Returns the start of the refusal's line.
-    fn start(&self) -> Line
-        ensures { result.items ≡ file_refusal_start (file_number_of self.now) (file_name_of self.now) }
-    {
-        let mut line = refused_line(self.number(), self.name());
-        push_text(&mut line, b" ");
-        line
-    }
 }
 
 impl<'a> Reply for FileRefusal<'a> {
@@ -211,7 +194,8 @@ impl<'a> Reply for FileRefusal<'a> {
     }
 
     fn print<W: Sink>(&self, out: &mut W, page: &mut Page) -> Result<(), StreamFault> {
-        send(out, page, self.start().as_slice())?;
+        print_refused(out, page, self.number(), self.name())?;
+        send(out, page, b" ")?;
         print_name_end(out, page, self.path())
     }
 }
@@ -220,6 +204,5 @@ impl<'a> Reply for FileRefusal<'a> {
 pub fn print_name_end<W: Sink>(out: &mut W, page: &mut Page, name: &[u8]) -> Result<(), StreamFault>
     ensures { Sends result (W.stream out.old) (W.stream out.new) page.old.items page.new.items (name_end name.now) }
 {
-    print_name(out, page, name)?;
-    send(out, page, b"\n")
+    print_pieces(out, page, &[Piece::Name(name), Piece::Text(b"\n")])
 }

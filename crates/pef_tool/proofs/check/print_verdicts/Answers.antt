@@ -1,5 +1,5 @@
 -- Each verdict sends its line.
-use Rattle.std.proofs.Common.{◌≡◌, ◌+◌, ◌++◌, drop, sym, ap, ◌∙◌}
+use Rattle.std.proofs.Common.{◌+◌, drop, ap}
 use Rattle.std.proofs.lemmas.List.{at_drop_more, drop_all}
 use Rattle.pef_ports.proofs.Laws.Sending.{Sends-short, sent-all, sent-nothing, sent-piece, sent-short}
 use Rattle.pef_tool.specs.Check.{verdicts_text}
@@ -14,18 +14,14 @@ loop-k-preserved g c =
     let at = c.loop-k in
     let verdicts = c.args.verdicts.now in
     let rest = verdicts_text (at.k + 1) (drop (at.k + 1) verdicts) in
-    let text = c.as_slice.ensures.value ∙ c.verdict_line-line.ensures in
-    let next : verdicts_text at.k (drop at.k verdicts) ≡ c.as_slice.result.now ++ rest = at_drop_more (verdicts_text at.k) verdicts at.k (Yes 0) c.loop-k-test.true ∙ ap (λ t. t ++ rest) (sym text) in
-    sent-piece rest at.invariant next c.in_ok-send.ensures
+    sent-piece rest at.invariant (at_drop_more (verdicts_text at.k) verdicts at.k (Yes 0) c.loop-k-test.true) c.in_ok-print_verdict.ensures
 
-pub returns-in_err-send : goal.returns-in_err-send
-returns-in_err-send g c =
+pub returns-in_err-print_verdict : goal.returns-in_err-print_verdict
+returns-in_err-print_verdict g c =
     let at = c.loop-k in
     let verdicts = c.args.verdicts.now in
     let rest = verdicts_text (at.k + 1) (drop (at.k + 1) verdicts) in
-    let text = c.as_slice.ensures.value ∙ c.verdict_line-line.ensures in
-    let next : verdicts_text at.k (drop at.k verdicts) ≡ c.as_slice.result.now ++ rest = at_drop_more (verdicts_text at.k) verdicts at.k (Yes 0) c.loop-k-test.true ∙ ap (λ t. t ++ rest) (sym text) in
-    Sends-short _ c.from_residual.result _ c.from_residual.ensures.1 (sent-short rest at.invariant next c.in_err-send.ensures)
+    Sends-short _ c.from_residual.result _ c.from_residual.ensures.1 (sent-short rest at.invariant (at_drop_more (verdicts_text at.k) verdicts at.k (Yes 0) c.loop-k-test.true) c.in_err-print_verdict.ensures)
 
 pub returns : goal.returns
 returns g c = sent-all c.loop-k.invariant (ap (verdicts_text c.loop-k.k) (drop_all c.loop-k.k c.args.verdicts.now c.loop-k-test.false))
