@@ -18,4 +18,4 @@ pub use containers::container_detail;
 pub use detail::{Detail, Disorder, Oddity, Table};
 pub use preparation::{Shelf, prepare_detail};
 pub use scripts::script_detail;
-pub use sentence::line_end;
+pub use sentence::print_detail;

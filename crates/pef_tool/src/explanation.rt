@@ -1,10 +1,10 @@
 ghost use Rattle.std.specs.Prelude.{◌++◌, ℕ, List, option_map};
-ghost use Rattle.pef_ports.specs.Sent.{Sends};
 ghost use Rattle.pef_tool.specs.Answers.Answers.{answer_done};
+ghost use Rattle.pef_tool.specs.Details.{end_text};
 ghost use Rattle.pef_tool.specs.Explain.{Explains, IsNoted, NotesHelp};
 
 use crate::answers::{Outcome, Reply, deliver};
-use crate::details::{Detail, line_end};
+use crate::details::{Detail, print_detail};
 use crate::request::words_help;
 use pef_ports::{Page, Sink, StreamFault, send};
 use pef_refusals::help;
@@ -27,7 +27,7 @@ pub fn explain<W: Sink>(alloc: Global, words: &[String], outcome: Outcome, notes
         Outcome::Done | Outcome::SaidNo => {}
         Outcome::Refused { number, detail } => note_help(notes, help(number), detail),
         Outcome::Usage => note_usage(alloc, words, notes),
-        Outcome::OutputFailed => write_note(notes, OUTPUT_FAILED.as_bytes(), b""),
+        Outcome::OutputFailed => write_note(notes, OUTPUT_FAILED.as_bytes()),
     }
 }
 
@@ -36,7 +36,15 @@ fn note_help<W: Sink>(notes: &mut W, text: Option<&'static str>, detail: Option<
     ensures { NotesHelp (option_map (λ text. text.now) text.entry) detail (W.stream notes.old) (W.stream notes.new) }
 {
     match text {
-        Some(text) => write_note(notes, text.as_bytes(), line_end(detail).as_slice()),
+        Some(text) => {
+            deliver(
+                notes,
+                &HelpNote {
+                    text: text.as_bytes(),
+                    detail,
+                },
+            );
+        }
         None => {}
     }
 }
@@ -46,46 +54,52 @@ fn note_usage<W: Sink>(alloc: Global, words: &[String], notes: &mut W)
     ensures { (text : List ℕ) × IsNoted (W.stream notes.old) (W.stream notes.new) text }
 {
     match words_help(alloc, words) {
-        Ok(text) => write_note(notes, text.as_bytes(), b""),
-        Err(_) => write_note(notes, NO_HELP.as_bytes(), b""),
+        Ok(text) => write_note(notes, text.as_bytes()),
+        Err(_) => write_note(notes, NO_HELP.as_bytes()),
     }
 }
 
-/// Writes a text and then its end.
-fn write_note<W: Sink>(notes: &mut W, text: &[u8], end: &[u8])
-    ensures { IsNoted (W.stream notes.old) (W.stream notes.new) (text.now ++ end.now) }
+/// Writes a text.
+fn write_note<W: Sink>(notes: &mut W, text: &[u8])
+    ensures { IsNoted (W.stream notes.old) (W.stream notes.new) text.now }
 {
-    deliver(notes, &Note { text, end });
+    deliver(notes, &Note { text });
 }
 
-/// A text and its end.
+/// A text.
 #[derive(Clone, Copy)]
 struct Note<'a> {
     text: &'a [u8],
-    end: &'a [u8],
 }
 
 impl<'a> Reply for Note<'a> {
-    ghost answer = { λ note. answer_done (note.text.now ++ note.end.now) };
+    ghost answer = { λ note. answer_done note.text.now };
 
     fn outcome(&self) -> Outcome {
         Outcome::Done
     }
 
     fn print<W: Sink>(&self, out: &mut W, page: &mut Page) -> Result<(), StreamFault> {
-        send_both(out, page, self.text, self.end)
+        send(out, page, self.text)
     }
 }
 
-/// Prints two texts, one after the other.
-fn send_both<W: Sink>(
-    out: &mut W,
-    page: &mut Page,
-    first: &[u8],
-    second: &[u8],
-) -> Result<(), StreamFault>
-    ensures { Sends result (W.stream out.old) (W.stream out.new) page.old.items page.new.items (first.now ++ second.now) }
-{
-    send(out, page, first)?;
-    send(out, page, second)
+/// The help for a refusal, and the detail that is known.
+#[derive(Clone, Copy)]
+struct HelpNote<'a> {
+    text: &'a [u8],
+    detail: Option<Detail>,
+}
+
+impl<'a> Reply for HelpNote<'a> {
+    ghost answer = { λ note. answer_done (note.text.now ++ end_text note.detail) };
+
+    fn outcome(&self) -> Outcome {
+        Outcome::Done
+    }
+
+    fn print<W: Sink>(&self, out: &mut W, page: &mut Page) -> Result<(), StreamFault> {
+        send(out, page, self.text)?;
+        print_detail(out, page, self.detail)
+    }
 }

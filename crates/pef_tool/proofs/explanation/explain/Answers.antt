@@ -1,5 +1,4 @@
--- Nothing follows the text that says so.
-use Rattle.std.proofs.Common.{List, ℕ, subst, append-nil, ◌∙◌}
+use Rattle.std.proofs.Common.{List, ℕ, subst}
 use Rattle.pef_tool.specs.Explain.{IsNoted}
 use Rattle.pef_tool.proofs.explanation.explain.Goals as goal
 
@@ -7,4 +6,4 @@ pub returns-in-OutputFailed : goal.returns-in-OutputFailed
 returns-in-OutputFailed g c =
     let stream = g.W.Sink.stream in
     let P : List ℕ → Type 0 = λ text. IsNoted (stream c.args.notes.now) (stream c.write_note.new.notes) text in
-    rw (c.in-OutputFailed.is) (subst P (append-nil c.as_bytes.result.now ∙ c.as_bytes.ensures.value) c.write_note.ensures)
+    rw (c.in-OutputFailed.is) (subst P c.as_bytes.ensures.value c.write_note.ensures)
