@@ -5,8 +5,8 @@ ghost use Rattle.pef_hash.specs.Build.{BuiltTable, built, in_slot, keys_at, name
 ghost use Rattle.pef_hash.specs.Limits.{most_written_power, names_limit};
 
 use crate::fault::HashFault;
-use crate::layout::SLOT_COUNT_SHIFT;
 use crate::word::{hash_word, power_for, slot};
+use pef_format::layout::SLOT_COUNT_SHIFT;
 use std::alloc::{AllocError, Global};
 use std::marker::Model;
 

@@ -5,8 +5,8 @@ ghost use Rattle.pef_hash.specs.Regular.{IsRegular, IsSearchable};
 ghost use Rattle.pef_hash.specs.Kept.Searches.{AreSlotsInTurn, IsHashed, LeadsToAll};
 
 use crate::exports::Exports;
-use crate::layout::SLOT_COUNT_SHIFT;
 use crate::word::{hash_word, slot};
+use pef_format::layout::SLOT_COUNT_SHIFT;
 use std::ops::Range;
 
 /// Returns the exports that a slot word counts.

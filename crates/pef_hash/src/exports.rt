@@ -8,17 +8,13 @@ ghost use Rattle.pef_hash.specs.Word.{hash_word};
 ghost use Rattle.pef_hash.specs.Kept.Searches.{LeadsToAll};
 
 use crate::chain::places_in;
-use crate::layout::{
-    EXPORT_CLASS_AND_NAME_AT, EXPORT_SECTION_AT, EXPORT_SIZE, EXPORT_VALUE_AT, KEY_LENGTH_SHIFT,
-    KEY_SIZE, MOST_NAME_LENGTH, SLOT_SIZE,
-};
 use crate::word::{hash_word, slot};
-use pef_format::layout::{CLASS_COUNT, CLASS_SHIFT};
+use pef_format::layout::{
+    CLASS_COUNT, CLASS_SHIFT, EXPORT_CLASS_AND_NAME_AT, EXPORT_SECTION_AT, EXPORT_SIZE,
+    EXPORT_VALUE_AT, KEY_LENGTH_SHIFT, KEY_SIZE, MAX_HASH_TABLE_POWER, MAX_NAME_LENGTH, SLOT_SIZE,
+};
 use pef_words::Cut;
 use std::ops::Range;
-
-/// A table that can be read has at most two to this power of slots.
-const MOST_POWER: u32 = 30;
 
 /// An export without its name.
 #[derive(Clone, Copy, Debug, PartialEq, Eq)]
@@ -62,7 +58,7 @@ impl<'a> Exports<'a> {
         if count == 0 {
             return true;
         }
-        if power > MOST_POWER {
+        if power > MAX_HASH_TABLE_POWER {
             return false;
         }
         let size = (SLOT_SIZE << power) + (KEY_SIZE + EXPORT_SIZE) * count as usize;
@@ -165,7 +161,7 @@ impl<'a> Exports<'a> {
         requires leads { LeadsToAll (table_of self.now) }
         ensures { result ≡ export_named (table_of self.now) name.now }
     {
-        if name.len() > MOST_NAME_LENGTH {
+        if name.len() > MAX_NAME_LENGTH {
             return None;
         }
         let word = hash_word(name);

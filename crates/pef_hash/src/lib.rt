@@ -6,7 +6,6 @@ mod builder;
 mod chain;
 mod exports;
 mod fault;
-mod layout;
 mod regular;
 mod word;
 

@@ -1,7 +1,7 @@
 ghost use Rattle.std.specs.Prelude.{◌≡◌, ◌^◌, ◌<◌, length};
 ghost use Rattle.pef_hash.specs.Word.{hash_step, hash_value, hash_word, power_of, slot};
 
-use crate::layout::KEY_LENGTH_SHIFT;
+use pef_format::layout::KEY_LENGTH_SHIFT;
 
 /// How far the running value is shifted right, so that its high bits count too.
 const HASH_SHIFT: u32 = 16;

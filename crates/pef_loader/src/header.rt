@@ -1,14 +1,13 @@
 ghost use Rattle.std.specs.Prelude.{◌≡◌, ◌+◌, ◌<◌, ◌^◌};
 ghost use Rattle.pef_loader.specs.Header.{header_of, imports_from, is_entry, relocs_from, tables_end};
 
-use crate::layout::{
+use pef_format::layout::{
     EXPORT_HASH_OFFSET_AT, EXPORT_HASH_TABLE_POWER_AT, EXPORTED_SYMBOL_COUNT_AT, IMPORT_SIZE,
-    IMPORTED_LIBRARY_COUNT_AT, INIT_OFFSET_AT, INIT_SECTION_AT, LIBRARY_SIZE,
+    IMPORTED_LIBRARY_COUNT_AT, INIT_OFFSET_AT, INIT_SECTION_AT, LIBRARY_SIZE, LOADER_HEADER_SIZE,
     LOADER_STRINGS_OFFSET_AT, MAIN_OFFSET_AT, MAIN_SECTION_AT, RELOC_INSTR_OFFSET_AT,
     RELOC_SECTION_COUNT_AT, RELOCATION_HEADER_SIZE, TERM_OFFSET_AT, TERM_SECTION_AT,
     TOTAL_IMPORTED_SYMBOL_COUNT_AT,
 };
-use pef_format::layout::LOADER_HEADER_SIZE;
 use pef_format::{EntryPoint, is_entry_section};
 use pef_words::Cut;
 

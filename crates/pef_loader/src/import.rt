@@ -5,8 +5,7 @@ ghost use Rattle.pef_loader.specs.Import.{import_at, import_refusal, import_test
 
 use crate::fault::LoaderFault;
 use crate::header::LoaderTables;
-use crate::layout::IMPORT_SIZE;
-use pef_format::layout::{CLASS_COUNT, CLASS_SHIFT, WEAK_IMPORT};
+use pef_format::layout::{CLASS_COUNT, CLASS_SHIFT, IMPORT_SIZE, WEAK_IMPORT};
 use pef_words::Cut;
 
 /// An imported symbol, field by field (PEFImportedSymbol).

@@ -12,7 +12,6 @@ mod fault;
 mod header;
 mod import;
 mod import_reader;
-mod layout;
 mod library;
 mod names;
 mod painting;

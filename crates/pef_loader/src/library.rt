@@ -6,12 +6,12 @@ ghost use Rattle.pef_loader.specs.Library.{library_at, library_refusal, library_
 
 use crate::fault::LoaderFault;
 use crate::header::LoaderTables;
-use crate::layout::{
-    CURRENT_VERSION_AT, FIRST_IMPORTED_SYMBOL_AT, IMPORTED_SYMBOL_COUNT_AT, LIBRARY_NAME_OFFSET_AT,
-    LIBRARY_OPTIONS_AT, LIBRARY_SIZE, OLD_IMP_VERSION_AT,
-};
 use pef_format::LibraryOptions;
-use pef_format::layout::LOADER_HEADER_SIZE;
+use pef_format::layout::{
+    FIRST_IMPORTED_SYMBOL_AT, IMPORTED_SYMBOL_COUNT_AT, LIBRARY_CURRENT_VERSION_AT,
+    LIBRARY_NAME_OFFSET_AT, LIBRARY_OLD_IMP_VERSION_AT, LIBRARY_OPTIONS_AT, LIBRARY_SIZE,
+    LOADER_HEADER_SIZE,
+};
 use pef_words::Cut;
 
 /// An imported library, field by field (PEFImportedLibrary).
@@ -59,8 +59,8 @@ pub(crate) fn read_library(cut: Cut<'_>, i: usize) -> Option<LibraryEntry>
     let at = LOADER_HEADER_SIZE + LIBRARY_SIZE * i;
     Some(LibraryEntry {
         name_offset: cut.u32_at(at + LIBRARY_NAME_OFFSET_AT)?,
-        old_imp: cut.u32_at(at + OLD_IMP_VERSION_AT)?,
-        current: cut.u32_at(at + CURRENT_VERSION_AT)?,
+        old_imp: cut.u32_at(at + LIBRARY_OLD_IMP_VERSION_AT)?,
+        current: cut.u32_at(at + LIBRARY_CURRENT_VERSION_AT)?,
         count: cut.u32_at(at + IMPORTED_SYMBOL_COUNT_AT)?,
         first: cut.u32_at(at + FIRST_IMPORTED_SYMBOL_AT)?,
         options: cut.u8_at(at + LIBRARY_OPTIONS_AT)?,

@@ -3,10 +3,10 @@ ghost use Rattle.pef_loader.specs.Library.{library_at};
 ghost use Rattle.pef_loader.specs.Kept.Ranges.{AreInOrder, end_of, first_of};
 
 use crate::header::LoaderTables;
-use crate::layout::{
+use pef_format::layout::{
     FIRST_IMPORTED_SYMBOL_AT, IMPORTED_SYMBOL_COUNT_AT, LIBRARY_OPTIONS_AT, LIBRARY_SIZE,
+    LOADER_HEADER_SIZE,
 };
-use pef_format::layout::LOADER_HEADER_SIZE;
 use pef_words::Cut;
 use std::ops::Range;
 

@@ -5,10 +5,9 @@ ghost use Rattle.pef_loader.specs.Reloc.{instructions_of, reloc_at, reloc_refusa
 
 use crate::fault::LoaderFault;
 use crate::header::LoaderTables;
-use crate::layout::{
-    FIRST_RELOC_OFFSET_AT, RELOC_COUNT_AT, RELOCATION_HEADER_SIZE, SECTION_INDEX_AT,
+use pef_format::layout::{
+    FIRST_RELOC_OFFSET_AT, HALFWORD_SIZE, RELOC_COUNT_AT, RELOCATION_HEADER_SIZE, SECTION_INDEX_AT,
 };
-use pef_format::layout::HALFWORD_SIZE;
 use pef_words::Cut;
 
 /// A relocation header, field by field (PEFLoaderRelocationHeader).

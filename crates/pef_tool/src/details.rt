@@ -7,7 +7,6 @@
 
 mod containers;
 mod detail;
-mod layout;
 mod preparation;
 mod programs;
 mod scripts;

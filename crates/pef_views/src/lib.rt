@@ -8,7 +8,6 @@
 mod container;
 mod fault;
 mod header;
-mod layout;
 mod section;
 
 pub use container::Container;

@@ -6,11 +6,11 @@ ghost use Rattle.pef_views.specs.Section.{is_inside, raw_of, section_at, section
 
 use crate::fault::ViewFault;
 use crate::header::section_header_at;
-use crate::layout::{
-    ALIGNMENT_AT, CONTAINER_OFFSET_AT, DEFAULT_ADDRESS_AT, NAME_OFFSET_AT, PACKED_SIZE_AT,
-    SECTION_KIND_AT, SECTION_RESERVED_AT, SHARE_KIND_AT, TOTAL_SIZE_AT, UNPACKED_SIZE_AT,
+use pef_format::layout::{
+    ALIGNMENT_AT, CONTAINER_OFFSET_AT, DEFAULT_ADDRESS_AT, MAX_ALIGNMENT, NAME_OFFSET_AT,
+    PACKED_SIZE_AT, SECTION_KIND_AT, SECTION_RESERVED_AT, SHARE_KIND_AT, TOTAL_SIZE_AT,
+    UNPACKED_SIZE_AT,
 };
-use pef_format::layout::MAX_ALIGNMENT;
 use pef_format::{SectionKind, Share};
 use pef_words::Cut;
 

@@ -1,15 +1,15 @@
 //! Finds the part of a container that is refused.
 ghost use Rattle.std.specs.Prelude.{◌<◌, ◌^◌};
 
-use crate::details::layout::{
-    ALIGNMENT_AT, CONTAINER_OFFSET_AT, INSTANTIATED_SECTION_COUNT_AT, PACKED_SIZE_AT,
-    SECTION_COUNT_AT, SECTION_KIND_AT, TOTAL_SIZE_AT, UNPACKED_SIZE_AT,
-};
 use crate::details::programs::{applied_detail, image_detail, program_detail};
 use crate::details::tables::table_detail;
 use crate::details::{Detail, Table};
 use pef_format::SectionKind;
-use pef_format::layout::{CONTAINER_HEADER_SIZE, MAX_ALIGNMENT, SECTION_HEADER_SIZE};
+use pef_format::layout::{
+    ALIGNMENT_AT, CONTAINER_HEADER_SIZE, CONTAINER_OFFSET_AT, INSTANTIATED_SECTION_COUNT_AT,
+    MAX_ALIGNMENT, PACKED_SIZE_AT, SECTION_COUNT_AT, SECTION_HEADER_SIZE, SECTION_KIND_AT,
+    TOTAL_SIZE_AT, UNPACKED_SIZE_AT,
+};
 use pef_views::Container;
 use pef_words::Cut;
 use std::alloc::Global;

@@ -1,15 +1,15 @@
 //! Finds the refused row of a loader section.
 ghost use Rattle.std.specs.Prelude.{◌<◌, ◌^◌};
 
-use crate::details::layout::{
-    EXPORT_COUNT_AT, EXPORT_HASH_OFFSET_AT, EXPORT_POWER_AT, EXPORT_SECTION_AT, EXPORT_SIZE,
-    EXPORT_VALUE_AT, IMPORT_COUNT_AT, IMPORT_SIZE, KEY_SIZE, LIBRARY_COUNT_AT,
-    LIBRARY_FIRST_IMPORT_AT, LIBRARY_IMPORT_COUNT_AT, LIBRARY_SIZE, MOST_POWER, RELOC_COUNT_AT,
-    RELOC_FIRST_AT, RELOC_HALFWORDS_AT, RELOC_HEADER_SIZE, RELOC_INSTR_OFFSET_AT, RELOC_SECTION_AT,
-    SLOT_SIZE,
-};
 use crate::details::{Detail, Table};
-use pef_format::layout::{HALFWORD_SIZE, LOADER_HEADER_SIZE};
+use pef_format::layout::{
+    EXPORT_HASH_OFFSET_AT, EXPORT_HASH_TABLE_POWER_AT, EXPORT_SECTION_AT, EXPORT_SIZE,
+    EXPORT_VALUE_AT, EXPORTED_SYMBOL_COUNT_AT, FIRST_IMPORTED_SYMBOL_AT, FIRST_RELOC_OFFSET_AT,
+    HALFWORD_SIZE, IMPORT_SIZE, IMPORTED_LIBRARY_COUNT_AT, IMPORTED_SYMBOL_COUNT_AT, KEY_SIZE,
+    LIBRARY_SIZE, LOADER_HEADER_SIZE, MAX_HASH_TABLE_POWER, RELOC_COUNT_AT, RELOC_INSTR_OFFSET_AT,
+    RELOC_SECTION_COUNT_AT, RELOCATION_HEADER_SIZE, SECTION_INDEX_AT, SLOT_SIZE,
+    TOTAL_IMPORTED_SYMBOL_COUNT_AT,
+};
 use pef_format::{ExportValue, is_export_section};
 use pef_views::Container;
 use pef_words::Cut;
@@ -34,7 +34,7 @@ pub fn table_detail(container: &Container<'_>, number: u32) -> Option<Detail> {
     let tables = read_tables(container)?;
     match number {
         12 => Some(Detail::Space {
-            taken: tables.relocs_from() + RELOC_HEADER_SIZE * tables.relocs as usize,
+            taken: tables.relocs_from() + RELOCATION_HEADER_SIZE * tables.relocs as usize,
             there: tables.cut.len(),
         }),
         14 => library_detail(tables),
@@ -57,13 +57,13 @@ fn read_tables<'a>(container: &Container<'a>) -> Option<Tables<'a>> {
     Some(Tables {
         cut,
         sections: container.header().instantiated_section_count,
-        libraries: cut.u32_at(LIBRARY_COUNT_AT)?,
-        imports: cut.u32_at(IMPORT_COUNT_AT)?,
-        relocs: cut.u32_at(RELOC_COUNT_AT)?,
+        libraries: cut.u32_at(IMPORTED_LIBRARY_COUNT_AT)?,
+        imports: cut.u32_at(TOTAL_IMPORTED_SYMBOL_COUNT_AT)?,
+        relocs: cut.u32_at(RELOC_SECTION_COUNT_AT)?,
         instructions: cut.u32_at(RELOC_INSTR_OFFSET_AT)?,
         export_table: cut.u32_at(EXPORT_HASH_OFFSET_AT)?,
-        power: cut.u32_at(EXPORT_POWER_AT)?,
-        exports: cut.u32_at(EXPORT_COUNT_AT)?,
+        power: cut.u32_at(EXPORT_HASH_TABLE_POWER_AT)?,
+        exports: cut.u32_at(EXPORTED_SYMBOL_COUNT_AT)?,
     })
 }
 
@@ -79,7 +79,7 @@ impl<'a> Tables<'a> {
 
     /// Returns the offset of the exports, which follow the slots and the keys.
     fn exports_from(self) -> Option<usize> {
-        if self.power > MOST_POWER {
+        if self.power > MAX_HASH_TABLE_POWER {
             return None;
         }
         let slots = SLOT_SIZE.checked_mul(1 << self.power)?;
@@ -92,8 +92,8 @@ impl<'a> Tables<'a> {
 fn library_detail(tables: Tables<'_>) -> Option<Detail> {
     for index in 0..tables.libraries as usize {
         let at = LOADER_HEADER_SIZE + LIBRARY_SIZE * index;
-        let count = tables.cut.u32_at(at + LIBRARY_IMPORT_COUNT_AT)?;
-        let first = tables.cut.u32_at(at + LIBRARY_FIRST_IMPORT_AT)?;
+        let count = tables.cut.u32_at(at + IMPORTED_SYMBOL_COUNT_AT)?;
+        let first = tables.cut.u32_at(at + FIRST_IMPORTED_SYMBOL_AT)?;
         if u64::from(first) + u64::from(count) > u64::from(tables.imports) {
             return Some(Detail::Row {
                 table: Table::Libraries,
@@ -107,10 +107,10 @@ fn library_detail(tables: Tables<'_>) -> Option<Detail> {
 /// Returns the first relocation header whose section or program isn't there.
 fn header_detail(tables: Tables<'_>, program: bool) -> Option<Detail> {
     for header in 0..tables.relocs as usize {
-        let at = tables.relocs_from() + RELOC_HEADER_SIZE * header;
-        let section = tables.cut.u16_at(at + RELOC_SECTION_AT)?;
-        let count = tables.cut.u32_at(at + RELOC_HALFWORDS_AT)?;
-        let first = tables.cut.u32_at(at + RELOC_FIRST_AT)?;
+        let at = tables.relocs_from() + RELOCATION_HEADER_SIZE * header;
+        let section = tables.cut.u16_at(at + SECTION_INDEX_AT)?;
+        let count = tables.cut.u32_at(at + RELOC_COUNT_AT)?;
+        let first = tables.cut.u32_at(at + FIRST_RELOC_OFFSET_AT)?;
         let refused = if program {
             lacks_program(tables, first, count)
         } else {

@@ -6,8 +6,8 @@ use Rattle.pef_hash.specs.Word.{hash_word, slot}
 use Rattle.pef_hash.proofs.SearchLemmas.{chain_found, long_none, slotless_none}
 use Rattle.pef_hash.proofs.exports.Exports.find_in_chain.Goals as goal
 
-pub returns-then-name-gt-MOST_NAME_LENGTH : goal.returns-then-name-gt-MOST_NAME_LENGTH
-returns-then-name-gt-MOST_NAME_LENGTH c = sym (long_none (table_of c.args.self.now) c.args.name.now c.requires.leads (omega arith))
+pub returns-then-name-gt-MAX_NAME_LENGTH : goal.returns-then-name-gt-MAX_NAME_LENGTH
+returns-then-name-gt-MAX_NAME_LENGTH c = sym (long_none (table_of c.args.self.now) c.args.name.now c.requires.leads (omega arith))
 
 pub returns-in-Some : goal.returns-in-Some
 returns-in-Some c =
