@@ -13,7 +13,15 @@ ghost use Rattle.pef_reloc.specs.declared.fixup.Base.TheVariants.{Section, Impor
 use crate::decode::instr_from;
 use crate::fault::RelocFault;
 use crate::instr::Instr;
-use crate::words::{NEXT, add_pairs, add_row, add_word};
+use crate::words::{NEXT, Row, add_pairs, add_row, add_word};
+
+/// A part of a program: its bytes from one place to another.
+#[derive(Clone, Copy)]
+pub(crate) struct Block<'a> {
+    pub bytes: &'a [u8],
+    pub from: usize,
+    pub to: usize,
+}
 
 /// The addresses that a program adds: those of the fragment's sections, and of its imports'
 /// targets.
@@ -105,14 +113,15 @@ impl Machine {
         ensures steps { Stepped (known targets.entry) self.old self.new memory.old memory.new instr (result_err result) }
         ensures moves { Moves self.old self.new 6144 }
     {
-        let (position, c, d) = (self.position, self.section_c, self.section_d);
+        let (from, c, d) = (self.position, self.section_c, self.section_d);
         match instr {
             Instr::BySectDWithSkip { skip, count } => {
-                self.row(memory, position + NEXT * u64::from(skip), NEXT, count, d)
+                let from = from + NEXT * u64::from(skip);
+                self.row(memory, Row::new(from, NEXT, count), d)
             }
-            Instr::BySectC(count) => self.row(memory, position, NEXT, count, c),
-            Instr::BySectD(count) => self.row(memory, position, NEXT, count, d),
-            Instr::VTable8(count) => self.row(memory, position, 2 * NEXT, count, d),
+            Instr::BySectC(count) => self.row(memory, Row::new(from, NEXT, count), c),
+            Instr::BySectD(count) => self.row(memory, Row::new(from, NEXT, count), d),
+            Instr::VTable8(count) => self.row(memory, Row::new(from, 2 * NEXT, count), d),
             Instr::TVector12(count) => self.pairs(memory, 3 * NEXT, count),
             Instr::TVector8(count) => self.pairs(memory, 2 * NEXT, count),
             Instr::ImportRun(count) => self.import_run(memory, count, targets),
@@ -125,7 +134,7 @@ impl Machine {
             Instr::SmSetSectC(section) | Instr::LgSetSectC(section) => self.set_c(section, targets),
             Instr::SmSetSectD(section) | Instr::LgSetSectD(section) => self.set_d(section, targets),
             Instr::IncrPosition(bytes) => {
-                self.position = position + u64::from(bytes);
+                self.position = from + u64::from(bytes);
                 Ok(())
             }
             Instr::SetPosition(offset) => {
@@ -136,110 +145,99 @@ impl Machine {
         }
     }
 
-    /// Executes an instruction at a place of the bytes. A repeat is executed by its passes.
+    /// Executes an instruction that comes after some others. A repeat is executed by its passes.
     #[inline(always)]
     pub(crate) fn execute(
         &mut self,
         instr: Instr,
-        bytes: &[u8],
-        at: usize,
+        earlier: Block,
         memory: &mut [u8],
         targets: Targets,
     ) -> Result<(), RelocFault>
         requires near { Near self.old (2 ^ 26) }
         requires fits { instr_fits instr ≡ true }
-        requires inside { at ≤ length bytes.now }
-        requires room { IfSome (repeat_of instr) (λ r. 2 * r.blocks ≤ at) }
-        ensures runs { (before : List Instr) → Before bytes.now before at → repeat_fault before (repeat_of instr) ≡ None → Runs (known targets.entry) self.old self.new memory.old memory.new (executed before instr) (result_err result) }
+        requires inside { earlier.to ≤ length earlier.bytes.now }
+        requires room { IfSome (repeat_of instr) (λ r. 2 * r.blocks ≤ earlier.to) }
+        ensures runs { (before : List Instr) → Before earlier.entry.bytes.now before earlier.entry.to → repeat_fault before (repeat_of instr) ≡ None → Runs (known targets.entry) self.old self.new memory.old memory.new (executed before instr) (result_err result) }
         ensures moves { Moves self.old self.new (2 ^ 39) }
     {
         match instr.repeat() {
             Some(repeat) => {
-                let from = at - 2 * repeat.blocks as usize;
-                self.repeat(repeat.passes, bytes, from, at, memory, targets)
+                let from = earlier.to - 2 * repeat.blocks as usize;
+                self.repeat(Block { from, ..earlier }, repeat.passes, memory, targets)
             }
             None => self.step(instr, memory, targets),
         }
     }
 
-    /// Executes the instructions of some bytes this many times.
+    /// Executes the instructions of a block this many times.
     ///
     /// Kept apart, so that the loop over a program is a single one.
     #[inline(never)]
     fn repeat(
         &mut self,
+        block: Block,
         passes: u32,
-        bytes: &[u8],
-        from: usize,
-        to: usize,
         memory: &mut [u8],
         targets: Targets,
     ) -> Result<(), RelocFault>
         requires near { Near self.old (2 ^ 26) }
         requires passes { passes < 2 ^ 22 }
-        requires inside { to ≤ length bytes.now }
-        requires order { from ≤ to }
-        requires short { to ≤ from + 32 }
-        ensures runs { (block : List Instr) → Spans bytes.now from block to → Runs (known targets.entry) self.old self.new memory.old memory.new (repeated passes block) (result_err result) }
+        requires inside { block.to ≤ length block.bytes.now }
+        requires order { block.from ≤ block.to }
+        requires short { block.to ≤ block.from + 32 }
+        ensures runs { (instrs : List Instr) → Spans block.entry.bytes.now block.entry.from instrs block.entry.to → Runs (known targets.entry) self.old self.new memory.old memory.new (repeated passes instrs) (result_err result) }
         ensures moves { Moves self.old self.new (2 ^ 39) }
     {
         'passes: for _ in 0..passes {
-            self.run_block(bytes, from, to, memory, targets)?;
+            self.run_block(block, memory, targets)?;
         }
         Ok(())
     }
 
-    /// Executes the instructions of some bytes.
+    /// Executes the instructions of a block.
     fn run_block(
         &mut self,
-        bytes: &[u8],
-        from: usize,
-        to: usize,
+        block: Block,
         memory: &mut [u8],
         targets: Targets,
     ) -> Result<(), RelocFault>
         requires near { Near self.old (2 ^ 39 + 2 ^ 26) }
-        requires inside { to ≤ length bytes.now }
-        requires order { from ≤ to }
-        requires short { to ≤ from + 32 }
-        ensures runs { (block : List Instr) → Spans bytes.now from block to → Runs (known targets.entry) self.old self.new memory.old memory.new block (result_err result) }
+        requires inside { block.to ≤ length block.bytes.now }
+        requires order { block.from ≤ block.to }
+        requires short { block.to ≤ block.from + 32 }
+        ensures runs { (instrs : List Instr) → Spans block.entry.bytes.now block.entry.from instrs block.entry.to → Runs (known targets.entry) self.old self.new memory.old memory.new instrs (result_err result) }
         ensures moves { Moves self.old self.new (2 ^ 17) }
     {
-        let mut at = from;
-        while at < to {
-            let instr = instr_from(bytes, at)?;
+        let mut at = block.from;
+        while at < block.to {
+            let instr = instr_from(block.bytes, at)?;
             self.step(instr, memory, targets)?;
             at += 2 * instr.length();
         }
         Ok(())
     }
 
-    /// Adds an address to some words, `stride` bytes apart, and moves past them.
-    fn row(
-        &mut self,
-        memory: &mut [u8],
-        from: u64,
-        stride: u64,
-        count: u32,
-        address: u32,
-    ) -> Result<(), RelocFault>
-        requires { from + stride * count + 4 < 2 ^ 64 }
-        ensures does { DoesRow memory.old memory.new count from stride address (result_err result) }
-        ensures after { self.new ≡ machine_after (result_err result) self.old (record self.old { position = from + stride * count }) }
+    /// Adds an address to the words of a row, and moves past them.
+    fn row(&mut self, memory: &mut [u8], row: Row, address: u32) -> Result<(), RelocFault>
+        requires { row.from + row.stride * row.count + 4 < 2 ^ 64 }
+        ensures does { DoesRow memory.old memory.new row address (result_err result) }
+        ensures after { self.new ≡ machine_after (result_err result) self.old (record self.old { position = row.from + row.stride * row.count }) }
     {
-        add_row(memory, from, stride, count, address)?;
-        self.position = from + stride * u64::from(count);
+        add_row(memory, row, address)?;
+        self.position = row.from + row.stride * u64::from(row.count);
         Ok(())
     }
 
     /// Adds sections C and D to some pairs of words, `stride` bytes apart, and moves past them.
     fn pairs(&mut self, memory: &mut [u8], stride: u64, count: u32) -> Result<(), RelocFault>
         requires { self.old.position + stride * count + 8 < 2 ^ 64 }
-        ensures does { DoesPairs memory.old memory.new count self.old.position stride self.old.section_c self.old.section_d (result_err result) }
+        ensures does { DoesPairs memory.old memory.new (record { from = self.old.position; stride = stride; count = count }) self.old.section_c self.old.section_d (result_err result) }
         ensures after { self.new ≡ machine_after (result_err result) self.old (record self.old { position = self.old.position + stride * count }) }
     {
         let from = self.position;
-        add_pairs(memory, from, stride, count, self.section_c, self.section_d)?;
+        let row = Row::new(from, stride, count);
+        add_pairs(memory, row, self.section_c, self.section_d)?;
         self.position = from + stride * u64::from(count);
         Ok(())
     }

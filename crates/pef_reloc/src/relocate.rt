@@ -7,7 +7,7 @@ ghost use Rattle.pef_reloc.specs.Views.{program_bytes};
 
 use crate::decode::instr_from;
 use crate::fault::RelocFault;
-use crate::machine::{Machine, Targets};
+use crate::machine::{Block, Machine, Targets};
 use crate::program::Program;
 
 /// Relocates a section's memory in place.
@@ -40,7 +40,12 @@ fn run(bytes: &[u8], memory: &mut [u8], targets: Targets) -> Result<(), RelocFau
     let mut at = 0;
     while at < bytes.len() {
         let instr = instr_from(bytes, at)?;
-        machine.execute(instr, bytes, at, memory, targets)?;
+        let earlier = Block {
+            bytes,
+            from: 0,
+            to: at,
+        };
+        machine.execute(instr, earlier, memory, targets)?;
         at += 2 * instr.length();
     }
     Ok(())

@@ -11,43 +11,57 @@ use byteorder::{BigEndian, ByteOrder};
 /// The distance to the next word, in bytes.
 pub(crate) const NEXT: u64 = WORD as u64;
 
-/// Adds `address` to `count` words, `stride` bytes apart, up to the first that passes the end.
-pub(crate) fn add_row(
-    memory: &mut [u8],
-    position: u64,
-    stride: u64,
-    count: u32,
-    address: u32,
-) -> Result<(), RelocFault>
-    requires { position + stride * count + 4 < 2 ^ 64 }
-    ensures { DoesRow memory.old memory.new count position stride address (result_err result) }
+/// Places of words at equal distances.
+#[derive(Clone, Copy)]
+pub(crate) struct Row {
+    /// Where the first one is, in bytes.
+    pub from: u64,
+    /// How many bytes lie from each to the next.
+    pub stride: u64,
+    pub count: u32,
+}
+
+impl Row {
+    pub fn new(from: u64, stride: u64, count: u32) -> Row
+        ensures { result ≡ record { from = from; stride = stride; count = count } }
+    {
+        Row {
+            from,
+            stride,
+            count,
+        }
+    }
+}
+
+/// Adds `address` to the words of a row, up to the first that passes the end.
+pub(crate) fn add_row(memory: &mut [u8], row: Row, address: u32) -> Result<(), RelocFault>
+    requires { row.from + row.stride * row.count + 4 < 2 ^ 64 }
+    ensures { DoesRow memory.old memory.new row address (result_err result) }
 {
-    let mut at = position;
-    'words: for _ in 0..count {
+    let mut at = row.from;
+    'words: for _ in 0..row.count {
         add_word(memory, at, address)?;
-        at += stride;
+        at += row.stride;
     }
     Ok(())
 }
 
-/// Adds `first` and `second` to `count` pairs of words, `stride` bytes apart, up to the first word
-/// that passes the end.
+/// Adds `first` to the words of a row and `second` to the word after each, up to the first word that
+/// passes the end.
 pub(crate) fn add_pairs(
     memory: &mut [u8],
-    position: u64,
-    stride: u64,
-    count: u32,
+    row: Row,
     first: u32,
     second: u32,
 ) -> Result<(), RelocFault>
-    requires { position + stride * count + 8 < 2 ^ 64 }
-    ensures { DoesPairs memory.old memory.new count position stride first second (result_err result) }
+    requires { row.from + row.stride * row.count + 8 < 2 ^ 64 }
+    ensures { DoesPairs memory.old memory.new row first second (result_err result) }
 {
-    let mut at = position;
-    'words: for _ in 0..count {
+    let mut at = row.from;
+    'words: for _ in 0..row.count {
         add_word(memory, at, first)?;
         add_word(memory, at + NEXT, second)?;
-        at += stride;
+        at += row.stride;
     }
     Ok(())
 }

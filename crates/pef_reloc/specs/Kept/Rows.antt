@@ -3,6 +3,7 @@ use Rattle.std.specs.Prelude.{◌≡◌, ℕ, ◌+◌, false, true, nat_le, nat_
 use Rattle.pef_reloc.specs.declared.fault.RelocFault.{RelocFault}
 use Rattle.pef_reloc.specs.declared.fault.RelocFault.TheVariants.{ImportOutside, SectionOutside, WordOutside}
 use Rattle.pef_reloc.specs.declared.fixup.Base.{Base}
+use Rattle.pef_reloc.specs.declared.words.Row.{Row}
 use Rattle.pef_reloc.specs.Steps.{Act, add, row, pairs, numbered}
 use Rattle.pef_reloc.specs.Applied.{Addresses, Done, added_at, address_of, is_missing, applied}
 
@@ -22,13 +23,13 @@ pub record Stands (a : Addresses) (base : Base) (address : ℕ) : Type 0 where
   pub address_is : address_of a base ≡ address
 
 -- the additions of a base whose address is known
-abbrev pub DoesRow : List ℕ → List ℕ → ℕ → ℕ → ℕ → ℕ → Option RelocFault → Type 0
-DoesRow old new n p w address answer =
-    (a : Addresses) (b : Base) → Stands a b address → Does a old new (map add (row n p w b)) answer
+abbrev pub DoesRow : List ℕ → List ℕ → Row → ℕ → Option RelocFault → Type 0
+DoesRow old new r address answer =
+    (a : Addresses) (b : Base) → Stands a b address → Does a old new (map add (row r.count r.from r.stride b)) answer
 
-abbrev pub DoesPairs : List ℕ → List ℕ → ℕ → ℕ → ℕ → ℕ → ℕ → Option RelocFault → Type 0
-DoesPairs old new n p w first second answer =
-    (a : Addresses) (b b' : Base) → Stands a b first → Stands a b' second → Does a old new (map add (pairs n p w b b')) answer
+abbrev pub DoesPairs : List ℕ → List ℕ → Row → ℕ → ℕ → Option RelocFault → Type 0
+DoesPairs old new r first second answer =
+    (a : Addresses) (b b' : Base) → Stands a b first → Stands a b' second → Does a old new (map add (pairs r.count r.from r.stride b b')) answer
 
 -- a section that is looked for: its address, or the refusal
 abbrev pub FindsSection : Addresses → ℕ → Result ℕ RelocFault → Type 0

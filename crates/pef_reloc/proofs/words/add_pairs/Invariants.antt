@@ -7,6 +7,6 @@ use Rattle.pef_reloc.proofs.words.add_pairs.Given as goal
 
 abbrev pub invariant-words : goal.invariant-words
 invariant-words l = record {
-  at_is : l.at ≡ l.position + l.stride * l.counter;
-  left : (a : Addresses) (b b' : Base) → Stands a b l.first → Stands a b' l.second → applied a (map add (pairs (l.count - l.counter) l.at l.stride b b')) l.memory ≡ applied a (map add (pairs l.count l.position l.stride b b')) l.fn.memory;
+  at_is : l.at ≡ l.row.from + l.row.stride * l.counter;
+  left : (a : Addresses) (b b' : Base) → Stands a b l.first → Stands a b' l.second → applied a (map add (pairs (l.row.count - l.counter) l.at l.row.stride b b')) l.memory ≡ applied a (map add (pairs l.row.count l.row.from l.row.stride b b')) l.fn.memory;
 }

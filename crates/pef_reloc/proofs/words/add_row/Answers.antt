@@ -6,12 +6,12 @@ use Rattle.pef_reloc.proofs.words.add_row.Goals as goal
 pub returns-in_err-add_word : goal.returns-in_err-add_word
 returns-in_err-add_word c =
     λ a b stands. let p = err_from_is_err_and c.from_residual.result c.from_residual.ensures.1 in
-    let under : c.words.counter < c.args.count = omega arith in
+    let under : c.words.counter < c.args.row.count = omega arith in
     rw (p.1, p.2) (record { is = sym (c.words.invariant.left a b stands) ∙ row-fault a b _ _ _ _ _ _ _ _ under stands c.in_err-add_word.ensures })
 
 pub words-preserved : goal.words-preserved
 words-preserved c =
-    let under : c.words.counter < c.args.count = omega arith in
+    let under : c.words.counter < c.args.row.count = omega arith in
     record {
       at_is = omega arith;
       left = λ a b stands. sym (row-next a b _ _ _ _ _ _ _ under stands c.in_ok-add_word.ensures) ∙ c.words.invariant.left a b stands;

@@ -7,6 +7,6 @@ use Rattle.pef_reloc.proofs.words.add_row.Given as goal
 
 abbrev pub invariant-words : goal.invariant-words
 invariant-words l = record {
-  at_is : l.at ≡ l.position + l.stride * l.counter;
-  left : (a : Addresses) (b : Base) → Stands a b l.address → applied a (map add (row (l.count - l.counter) l.at l.stride b)) l.memory ≡ applied a (map add (row l.count l.position l.stride b)) l.fn.memory;
+  at_is : l.at ≡ l.row.from + l.row.stride * l.counter;
+  left : (a : Addresses) (b : Base) → Stands a b l.address → applied a (map add (row (l.row.count - l.counter) l.at l.row.stride b)) l.memory ≡ applied a (map add (row l.row.count l.row.from l.row.stride b)) l.fn.memory;
 }

@@ -8,5 +8,5 @@ use Rattle.pef_reloc.proofs.machine.Machine.repeat.Given as goal
 abbrev pub invariant-passes : goal.invariant-passes
 invariant-passes l = record {
   moves : Moves l.fn.self l.self (2 ^ 17 * l.counter);
-  left : (block : List Instr) → Spans l.bytes l.from block l.to → PassesLeft (known l.targets) l.self l.memory l.passes l.counter l.fn.self l.fn.memory block;
+  left : (instrs : List Instr) → Spans l.block.bytes.now l.block.from instrs l.block.to → PassesLeft (known l.targets) l.self l.memory l.passes l.counter l.fn.self l.fn.memory instrs;
 }

@@ -7,12 +7,12 @@ use Rattle.pef_reloc.proofs.machine.Machine.run_block.Goals as goal
 
 pub returns-in_err-instr-clause-runs : goal.returns-in_err-instr-clause-runs
 returns-in_err-instr-clause-runs c =
-    λ block spans. absurd (block-begins _ _ _ _ _ _ _ _ _ _ (c.loop-at.invariant.left block spans) c.loop-at-test.true (sym c.in_err-instr.ensures.value))
+    λ instrs spans. absurd (block-begins _ _ _ _ _ _ _ _ _ _ (c.loop-at.invariant.left instrs spans) c.loop-at-test.true (sym c.in_err-instr.ensures.value))
 
 pub returns-in_err-step-clause-runs : goal.returns-in_err-step-clause-runs
 returns-in_err-step-clause-runs c =
-    λ block spans. let p = err_from_is_err_and c.from_residual-in_err-step.result c.from_residual-in_err-step.ensures.1 in
-    rw (p.1, p.2) (block-fault _ _ _ _ _ _ _ _ _ _ _ _ _ (c.loop-at.invariant.left block spans) c.loop-at-test.true (sym c.in_ok-instr.ensures.value) (runs-one _ _ _ _ _ _ _ c.in_err-step.ensures.steps))
+    λ instrs spans. let p = err_from_is_err_and c.from_residual-in_err-step.result c.from_residual-in_err-step.ensures.1 in
+    rw (p.1, p.2) (block-fault _ _ _ _ _ _ _ _ _ _ _ _ _ (c.loop-at.invariant.left instrs spans) c.loop-at-test.true (sym c.in_ok-instr.ensures.value) (runs-one _ _ _ _ _ _ _ c.in_err-step.ensures.steps))
 
 pub loop-at-preserved : goal.loop-at-preserved
 loop-at-preserved c =
@@ -23,9 +23,9 @@ loop-at-preserved c =
       ahead = omega arith;
       short = omega (arith, c.loop-at-test.true, most);
       moves = moves-more _ _ _ _ _ _ c.loop-at.invariant.moves c.in_ok-step.ensures.moves (omega (arith, some, c.loop-at.invariant.ahead));
-      left = λ block spans. block-more _ _ _ _ _ _ _ _ _ _ _ _ (c.loop-at.invariant.left block spans) c.loop-at-test.true (sym c.in_ok-instr.ensures.value) (runs-one _ _ _ _ _ _ _ c.in_ok-step.ensures.steps);
+      left = λ instrs spans. block-more _ _ _ _ _ _ _ _ _ _ _ _ (c.loop-at.invariant.left instrs spans) c.loop-at-test.true (sym c.in_ok-instr.ensures.value) (runs-one _ _ _ _ _ _ _ c.in_ok-step.ensures.steps);
     })
 
 pub returns-clause-runs : goal.returns-clause-runs
 returns-clause-runs c =
-    λ block spans. block-end _ _ _ _ _ _ _ _ _ (c.loop-at.invariant.left block spans) c.loop-at-test.false
+    λ instrs spans. block-end _ _ _ _ _ _ _ _ _ (c.loop-at.invariant.left instrs spans) c.loop-at-test.false

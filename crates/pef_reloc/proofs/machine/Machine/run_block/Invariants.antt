@@ -7,12 +7,12 @@ use Rattle.pef_reloc.proofs.machine.Machine.run_block.Given as goal
 
 abbrev pub invariant-loop-at : goal.invariant-loop-at
 invariant-loop-at l = record {
-  inside : l.at ≤ length l.bytes;
-  ahead : l.from ≤ l.at;
-  short : l.at ≤ l.to + 3;
-  moves : Moves l.fn.self l.self (3072 * (l.at - l.from));
-  left : (block : List Instr) → Spans l.bytes l.from block l.to → BlockLeft (known l.targets) l.self l.memory l.bytes l.at l.to l.fn.self l.fn.memory block;
+  inside : l.at ≤ length l.block.bytes.now;
+  ahead : l.block.from ≤ l.at;
+  short : l.at ≤ l.block.to + 3;
+  moves : Moves l.fn.self l.self (3072 * (l.at - l.block.from));
+  left : (instrs : List Instr) → Spans l.block.bytes.now l.block.from instrs l.block.to → BlockLeft (known l.targets) l.self l.memory l.block.bytes.now l.at l.block.to l.fn.self l.fn.memory instrs;
 }
 
 abbrev pub decreases-loop-at : goal.decreases-loop-at
-decreases-loop-at l = l.to - l.at
+decreases-loop-at l = l.block.to - l.at
