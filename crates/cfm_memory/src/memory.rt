@@ -11,6 +11,7 @@ ghost use Rattle.cfm_memory.specs.Kept.Searches.{IsFirstFree, IsFront, part_of};
 use crate::place::{MemoryFault, Place};
 use std::alloc::{AllocError, Global};
 use std::collections::BTreeMap;
+use std::fmt;
 use std::marker::Model;
 
 /// The lowest address of an instance.
@@ -44,6 +45,16 @@ impl Model for Memory {
     ghost view = { layout };
 
     ghost invariant = { λ m. IsKept m.limit (map instance_seen m.instances.entries) m.front };
+}
+
+/// Prints the limit and the number of instances, without their bytes.
+impl fmt::Debug for Memory {
+    fn fmt<W: fmt::Write>(&self, f: &mut fmt::Formatter<W>) -> fmt::Result {
+        f.debug_struct("Memory")
+            .field("limit", &self.limit)
+            .field("instances", &self.instances.len())
+            .finish()
+    }
 }
 
 impl Memory {
