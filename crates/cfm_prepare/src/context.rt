@@ -2,7 +2,7 @@ ghost use Rattle.std.specs.Prelude.{◌≡◌, ◌<◌, ◌≤◌, ◌+◌, ℕ,
 ghost use Rattle.std.specs.Option.{option_and_then, option_copied};
 ghost use Rattle.cfm_closure.specs.Stores.{place_of};
 ghost use Rattle.cfm_prepare.specs.Fragments.{places_of};
-ghost use Rattle.cfm_prepare.specs.Sections.{section_present, section_seen};
+ghost use Rattle.cfm_prepare.specs.Sections.{section_present, section_seen, sections_at, sections_left};
 ghost use Rattle.cfm_prepare.specs.Contexts.{added, fresh_state, most_connections, open_of};
 ghost use Rattle.cfm_prepare.specs.Readers.{entries_of, main_address, root_section, section_header_of, symbol_address, symbol_of};
 ghost use Rattle.cfm_prepare.specs.Steps.{Closes, MayNotAdd, MayNotPrepare, Prepares};
@@ -14,10 +14,12 @@ use crate::entries::Entries;
 use crate::fault::{CloseFault, PrepareFault};
 use crate::fragments::Fragments;
 use crate::releasing::release;
+use crate::sections::Sections;
 use crate::users::{enter, leave, make_room};
-use cfm_closure::{Store, StoreFault, closure};
+use cfm_closure::{Closure, Store, StoreFault, closure};
 use pef_views::SectionHeader;
 use std::alloc::Global;
+use std::fmt;
 use std::marker::Model;
 
 /// How many connections a context gives in all.
@@ -51,6 +53,16 @@ impl<'a> Model for Context<'a> {
     ghost view = { λ c. record { pairs = c.store; memory = c.fragments.memory; given = c.connections.given; connections = c.connections.items; present = c.fragments.present } };
 
     ghost invariant = { λ c. IsKept c.connections.given c.users.items c.connections.items c.fragments.present };
+}
+
+/// Prints how many fragments the store has, and how many connections were given.
+impl fmt::Debug for Context<'_> {
+    fn fmt<W: fmt::Write>(&self, f: &mut fmt::Formatter<W>) -> fmt::Result {
+        f.debug_struct("Context")
+            .field("fragments", &self.store.len())
+            .field("connections", &self.connections.given())
+            .finish()
+    }
 }
 
 impl<'a> Context<'a> {
@@ -194,6 +206,22 @@ impl<'a> Context<'a> {
         Some(connected.closure().order())
     }
 
+    /// Returns a connection's closure: the containers and the loader sections of its fragments, and the targets of
+    /// their imports. `None` if the connection isn't open.
+    pub fn closure(&self, connection: Connection) -> Option<&Closure<'a>>
+        ensures { option_copied result ≡ option_map (λ o. o.closed) (open_of self.now.connections connection.0) }
+    {
+        let connected = self.connections.get(connection.0)?;
+        Some(connected.closure())
+    }
+
+    /// Returns the store: the names of all fragments, and the bytes of their containers.
+    pub fn store(&self) -> &Store<'a>
+        ensures { result.now ≡ self.now.pairs }
+    {
+        &self.store
+    }
+
     /// Returns the address and the bytes of section `i` of the fragment in a place of the store. `None` if the
     /// fragment isn't present, or has no such section.
     pub fn fragment_section(&self, position: usize, i: usize) -> Option<(u32, &[u8])>
@@ -201,6 +229,14 @@ impl<'a> Context<'a> {
         ensures within { MatchOption result (length (places_of self.now.present position) ≤ i) (λ s. s.0 + length s.1.now ≤ self.now.memory.limit) }
     {
         self.fragments.section(position, i)
+    }
+
+    /// Returns an iterator over the sections of the fragment in a place of the store: the address and the bytes of
+    /// each, in order. There are none if the fragment isn't present.
+    pub fn sections(&self, position: usize) -> Sections<'_>
+        ensures { sections_left result ≡ sections_at self.now.memory (places_of self.now.present position) }
+    {
+        self.fragments.sections(position)
     }
 
     /// Returns how many instantiated sections the fragment in a place of the store has, or 0 if it isn't

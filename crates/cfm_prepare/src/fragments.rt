@@ -4,12 +4,13 @@ ghost use Rattle.cfm_prepare.specs.Fragments.{IsGivenBack, Present, new_among, n
 ghost use Rattle.cfm_prepare.specs.Lists.{IsOnce};
 ghost use Rattle.cfm_prepare.specs.Placing.{ArePrepared};
 ghost use Rattle.cfm_prepare.specs.Refusals.{MayNotPrepareNew};
-ghost use Rattle.cfm_prepare.specs.Sections.{section_present, section_seen};
+ghost use Rattle.cfm_prepare.specs.Sections.{section_present, section_seen, sections_at, sections_left};
 
 use crate::fragment_fault::FragmentFault;
 use crate::giving_back::give_back_fragment;
 use crate::preparing::prepare_new;
 use crate::relocating::target_address;
+use crate::sections::Sections;
 use crate::slots::{Slots, new_among};
 use cfm_closure::{Closure, Target};
 use cfm_memory::{Memory, Place};
@@ -94,6 +95,17 @@ impl Fragments {
     {
         let place = *self.present.places(position).get(i)?;
         Some((place.address, self.memory.part(place)))
+    }
+
+    /// Returns an iterator over the sections of the fragment in a place of the store. There are none if the
+    /// fragment isn't present.
+    pub fn sections(&self, position: usize) -> Sections<'_>
+        ensures { sections_left result ≡ sections_at self.now.memory (places_of self.now.present position) }
+    {
+        Sections {
+            memory: &self.memory,
+            places: self.present.places(position),
+        }
     }
 
     /// Returns the address of a target, or 0 if there is none.

@@ -1,0 +1,5 @@
+use Rattle.std.proofs.Common.{rules}
+use Rattle.cfm_prepare.proofs.context.Context.store.Goals as goal
+
+pub returns : goal.returns
+returns c = search rules
