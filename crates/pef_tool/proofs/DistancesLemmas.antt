@@ -14,7 +14,8 @@ use Rattle.pef_script.specs.WellFormed.{SectionHolds}
 use Rattle.pef_write.specs.Linked.{AreCertified, IsLinked, LinkedContainer}
 use Rattle.pef_tool.specs.Check.{AreVerdicts, Judges, Texts, are_numbered, match_sections}
 use Rattle.std.proofs.lemmas.Bool.{and_from}
-use Rattle.pef_tool.specs.Distances.{IsYesToAll, LinksFile}
+use Rattle.pef_tool.specs.Distances.{IsYesToAll}
+use Rattle.pef_tool.specs.Link.{LinksFile}
 use Rattle.pef_tool.specs.declared.check.Verdict.{Verdict}
 use Rattle.pef_tool.specs.declared.check.Verdict.TheVariants.{Yes, No}
 use Rattle.pef_tool.specs.declared.answers.refusal.Refusal.{Refusal}

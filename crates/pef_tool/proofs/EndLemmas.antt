@@ -2,17 +2,17 @@
 use Rattle.std.proofs.Common.{◌≡◌, List, ℕ, Ok, Err, sym, ap, ◌∙◌}
 use Rattle.std.specs.declared.alloc.Global.{Global}
 use Rattle.std.specs.declared.vec.Vec.{Vec}
-use Rattle.pef_tool.specs.Answers.Reported.{input_refusal, script_refusal}
+use Rattle.pef_tool.specs.Answers.Reported.{input_refusal}
 use Rattle.pef_ports.specs.Input.{ReadsInput}
 use Rattle.pef_ports.specs.Ports.{Stream}
 use Rattle.pef_ports.specs.declared.input.InputFault.{InputFault}
 use Rattle.pef_ports.specs.declared.input.InputFault.TheVariants.{Unreadable, TooLong, OutOfMemory}
 use Rattle.pef_script.specs.Text.Grammar.{script_of}
 use Rattle.pef_script.specs.Script.{DescribedScript}
-use Rattle.pef_script.specs.Text.Reads.{FailsAs}
-use Rattle.pef_script.specs.declared.text.fault.ScriptFault.{ScriptFault}
-use Rattle.pef_script.specs.declared.text.fault.ScriptFault.TheVariants as script_fault
+use Rattle.pef_tool.specs.Kept.Linking.{RefusesText}
 use Rattle.pef_tool.specs.Kept.Showing.{ScriptEnds}
+use Rattle.pef_tool.specs.declared.answers.refusal.Refusal.{Refusal}
+use Rattle.pef_tool.specs.declared.answers.refusal.Refusal.TheVariants as refusal
 use Rattle.pef_tool.specs.Limits.{input_limit}
 use Rattle.pef_tool.specs.Show.{ShowEnds, ShowOutcome, refuses, shows, unbound, unplaced}
 
@@ -48,12 +48,17 @@ fault_ends before after Unreadable reads = reads
 fault_ends before after TooLong reads = reads
 fault_ends before after OutOfMemory reads = reads
 
--- an input that is no script ends it
-pub no_script_shown : (before after : Stream) (read : Vec ℕ Global) (text : List ℕ) (fault : ScriptFault)
-    → ReadsInput (Ok read) before after input_limit → text ≡ read.items → FailsAs fault (script_of text) → ShowEnds before after (refuses (script_refusal fault))
-no_script_shown before after read text (script_fault.Refused fault line) reads same fails = record {
+-- an input whose script isn't linked ends it
+pub no_script_shown : (before after : Stream) (read : Vec ℕ Global) (text : List ℕ) (why : Refusal)
+    → ReadsInput (Ok read) before after input_limit → text ≡ read.items → RefusesText text why → ShowEnds before after (refuses why)
+no_script_shown before after read text (refusal.Script fault line) reads same fails = record {
   text = read.items;
   input = record { whole = reads.0; short = reads.2; sound = reads.3 };
   refused = ap script_of (sym same) ∙ fails;
 }
-no_script_shown before after read text script_fault.OutOfMemory reads same fails = ((read.items, reads.1, reads.2), reads.3)
+no_script_shown before after read text refusal.OutOfMemory reads same fails = ((read.items, reads.1, reads.2), reads.3)
+no_script_shown before after read text (refusal.Listing fault) reads same fails = absurd fails
+no_script_shown before after read text (refusal.BadCertificate line) reads same fails = absurd fails
+no_script_shown before after read text refusal.SectionsDiffer reads same fails = absurd fails
+no_script_shown before after read text refusal.InputUnreadable reads same fails = absurd fails
+no_script_shown before after read text refusal.InputTooLong reads same fails = absurd fails

@@ -12,13 +12,14 @@ use Rattle.pef_ports.specs.Ports.{FilesPort, Reads}
 use Rattle.pef_ports.specs.declared.ports.FileFault.TheVariants as file_fault
 use Rattle.pef_tool.specs.Request.Requests.{named_path}
 use Rattle.pef_tool.specs.declared.request.files.NamedFile.{NamedFile}
-use Rattle.pef_tool.specs.Kept.Loading.{StopsFile, StopsReading}
+use Rattle.pef_tool.specs.Kept.Loading.{StopsReading}
+use Rattle.pef_tool.specs.Kept.Reading.{StopsFile}
 use Rattle.pef_tool.specs.Kept.Rooted.{RootEnds, RootOutcome, root_answer}
 use Rattle.pef_tool.specs.Kept.Rooted as rooted
 use Rattle.pef_tool.specs.Limits.{memory_limit}
 use Rattle.pef_tool.specs.Load.{LoadEnds, LoadOutcome, StopsAt, WereRead, first_name, load_answer, loads, paired, refuses}
-use Rattle.pef_tool.specs.declared.load.ReadingFault.{ReadingFault}
-use Rattle.pef_tool.specs.declared.load.ReadingFault.TheVariants.{Unreadable, OutOfMemory}
+use Rattle.pef_tool.specs.declared.reading.ReadingFault.{ReadingFault}
+use Rattle.pef_tool.specs.declared.reading.ReadingFault.TheVariants.{Unreadable, OutOfMemory}
 
 module _ {F : Type 0} (port : FilesPort F) where
   -- one file more

@@ -1,42 +1,19 @@
 -- The answer of `distances SCRIPT` (README). It reads SCRIPT, links it, and prints the certificates of its sections. It
 -- makes no other call on files: the container isn't written.
-use Rattle.std.specs.Prelude.{◌≡◌, ◌⊎◌, ℕ, List, Result, Ok, Err, map}
+use Rattle.std.specs.Prelude.{◌≡◌, ℕ, List, Result, Ok, Err, map}
 use Rattle.pef_cert.specs.Certified.{Certified}
 use Rattle.pef_cert.specs.Text.Printed.{certificates_text}
 use Rattle.pef_ports.specs.Ports.{FilesPort, Reads}
 use Rattle.pef_ports.specs.declared.ports.FileFault.TheVariants as file_fault
 use Rattle.pef_reloc.specs.Instrs.{program_length}
-use Rattle.pef_script.specs.Text.Grammar.{script_of}
-use Rattle.pef_script.specs.Script.{DescribedScript}
 use Rattle.pef_tool.specs.Answers.Answers.{Answer, answer_done, answer_refused}
-use Rattle.pef_tool.specs.Link.{RefusesFile}
+use Rattle.pef_tool.specs.Link.{LinksFile, RefusesLinking}
 use Rattle.pef_tool.specs.Answers.Refusals.{refusal_text, unreadable_text}
 use Rattle.pef_tool.specs.declared.check.Verdict.{Verdict}
 use Rattle.pef_tool.specs.declared.check.Verdict.TheVariants.{Yes}
 use Rattle.pef_tool.specs.declared.answers.refusal.Refusal.{Refusal}
-use Rattle.pef_tool.specs.declared.answers.refusal.Refusal.TheVariants.{Script, OutOfMemory}
-use Rattle.pef_write.specs.Linked.{IsLinked, LinkedContainer}
-
--- SCRIPT was read, and its script was linked
-pub record LinksFile {F : Type 0} (port : FilesPort F) (before after : F) (path : List ℕ) (l : LinkedContainer) : Type 0 where
-  pub text : List ℕ
-  pub read : Reads port before after path (Ok text)
-  pub script : DescribedScript
-  pub is_script : script_of text ≡ Ok script
-  pub linked : IsLinked script l
-
--- an allocation failed before, during or after reading SCRIPT
-abbrev pub DistancesLackMemory : {F : Type 0} → FilesPort F → F → F → List ℕ → Type 0
-DistancesLackMemory port before after script =
-    (after ≡ before)
-    ⊎ Reads port before after script (Err file_fault.OutOfMemory)
-    ⊎ ((text : List ℕ) × Reads port before after script (Ok text))
-
--- why `distances` is refused without a path
-abbrev pub DistancesRefuse : {F : Type 0} → FilesPort F → F → F → List ℕ → Refusal → Type 0
-DistancesRefuse port before after script (Script fault line) = RefusesFile port before after script fault line
-DistancesRefuse port before after script OutOfMemory = DistancesLackMemory port before after script
-DistancesRefuse port before after script _ = ⊥
+use Rattle.pef_tool.specs.declared.answers.refusal.Refusal.TheVariants.{OutOfMemory}
+use Rattle.pef_write.specs.Linked.{LinkedContainer}
 
 -- how `distances` ends: it prints the certificates of the linked container, it can't read SCRIPT, or it is refused
 pub data DistancesOutcome : Type 0 where
@@ -48,7 +25,7 @@ pub data DistancesOutcome : Type 0 where
 abbrev pub DistancesEnd : {F : Type 0} → FilesPort F → F → F → List ℕ → DistancesOutcome → Type 0
 DistancesEnd port before after script (certifies l) = LinksFile port before after script l
 DistancesEnd port before after script unreadable = Reads port before after script (Err file_fault.Failed)
-DistancesEnd port before after script (refuses refusal) = DistancesRefuse port before after script refusal
+DistancesEnd port before after script (refuses refusal) = RefusesLinking port before after script refusal
 
 -- the answer for each end
 abbrev pub distances_answer : List ℕ → DistancesOutcome → Answer

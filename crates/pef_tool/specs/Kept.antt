@@ -2,6 +2,7 @@
 pub mod Linking
 pub mod Judged
 pub mod Loading
+pub mod Reading
 pub mod Rooted
 pub mod Routines
 pub mod Showing

@@ -19,22 +19,37 @@ pub record RefusesFile {F : Type 0} (port : FilesPort F) (before after : F) (pat
   pub read : Reads port before after path (Ok text)
   pub refused : script_of text ≡ Err (record { fault = fault; line = line })
 
--- SCRIPT was read, its script was linked, and the write of the whole container to OUT returned this result
-pub record WritesLinked {F : Type 0} (port : FilesPort F) (before after : F) (path out : List ℕ) (l : LinkedContainer) (answer : Result (Unit {0}) FileFault) : Type 0 where
+-- SCRIPT was read, and its script was linked
+pub record LinksFile {F : Type 0} (port : FilesPort F) (before after : F) (path : List ℕ) (l : LinkedContainer) : Type 0 where
   pub text : List ℕ
-  pub between : F
-  pub read : Reads port before between path (Ok text)
+  pub read : Reads port before after path (Ok text)
   pub script : DescribedScript
   pub is_script : script_of text ≡ Ok script
   pub linked : IsLinked script l
-  pub written : Writes port between after out l.bytes answer
 
--- an allocation failed: before, during or after reading SCRIPT, or during the write of the whole container
-abbrev pub LinkLacksMemory : {F : Type 0} → FilesPort F → F → F → List ℕ → List ℕ → Type 0
-LinkLacksMemory port before after script out =
+-- an allocation failed before, during or after reading SCRIPT
+abbrev pub LinkingLacksMemory : {F : Type 0} → FilesPort F → F → F → List ℕ → Type 0
+LinkingLacksMemory port before after script =
     (after ≡ before)
     ⊎ Reads port before after script (Err file_fault.OutOfMemory)
     ⊎ ((text : List ℕ) × Reads port before after script (Ok text))
+
+-- why SCRIPT isn't linked, for a reason other than that it can't be read
+abbrev pub RefusesLinking : {F : Type 0} → FilesPort F → F → F → List ℕ → Refusal → Type 0
+RefusesLinking port before after script (Script fault line) = RefusesFile port before after script fault line
+RefusesLinking port before after script OutOfMemory = LinkingLacksMemory port before after script
+RefusesLinking port before after script _ = ⊥
+
+-- SCRIPT was read, its script was linked, and the write of the whole container to OUT returned this result
+pub record WritesLinked {F : Type 0} (port : FilesPort F) (before after : F) (path out : List ℕ) (l : LinkedContainer) (answer : Result (Unit {0}) FileFault) : Type 0 where
+  pub between : F
+  pub links : LinksFile port before between path l
+  pub written : Writes port between after out l.bytes answer
+
+-- an allocation failed: before SCRIPT was linked, or during the write of the whole container
+abbrev pub LinkLacksMemory : {F : Type 0} → FilesPort F → F → F → List ℕ → List ℕ → Type 0
+LinkLacksMemory port before after script out =
+    LinkingLacksMemory port before after script
     ⊎ ((l : LinkedContainer) × WritesLinked port before after script out l (Err file_fault.OutOfMemory))
 
 -- why `link` is refused without a path

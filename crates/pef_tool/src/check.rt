@@ -7,12 +7,12 @@ ghost use Rattle.pef_tool.specs.Kept.Judged.{JudgesRead, JudgesScript};
 ghost use Rattle.pef_words.specs.Refusals.{result_map};
 
 use crate::answers::{
-    FileRefusal, Outcome, Refusal, Reply, certificate_refusal, deliver, deliver_detailed,
-    script_refusal,
+    Outcome, Refusal, Reply, certificate_refusal, deliver, deliver_detailed, script_refusal,
 };
 use crate::details::script_detail;
+use crate::reading::read_file;
 use pef_cert::{Certificate, check};
-use pef_ports::{FileFault, Files, Page, Piece, Sink, StreamFault, print_pieces};
+use pef_ports::{Files, Page, Piece, Sink, StreamFault, print_pieces};
 use pef_reloc::Fixup;
 use pef_script::Script;
 use std::alloc::{AllocFailed, Global};
@@ -46,15 +46,13 @@ pub fn check_files<F: Files, W: Sink>(
         × CheckAnswers (record { state = F.state; was_read = F.was_read; was_written = F.was_written }) files.old files.new script.now cert.now answer
         × IsDelivered (W.stream out.old) (W.stream out.new) answer (status_of result) }
 {
-    let text = match files.read(alloc, script) {
+    let text = match read_file(alloc, files, script) {
         Ok(text) => text,
-        Err(FileFault::Failed) => return deliver(out, &FileRefusal::Unreadable(script)),
-        Err(FileFault::OutOfMemory) => return deliver(out, &Refusal::OutOfMemory),
+        Err(fault) => return deliver(out, &fault),
     };
-    let certificates = match files.read(alloc, cert) {
+    let certificates = match read_file(alloc, files, cert) {
         Ok(certificates) => certificates,
-        Err(FileFault::Failed) => return deliver(out, &FileRefusal::Unreadable(cert)),
-        Err(FileFault::OutOfMemory) => return deliver(out, &Refusal::OutOfMemory),
+        Err(fault) => return deliver(out, &fault),
     };
     match check_texts(alloc, text.as_slice(), certificates.as_slice()) {
         Ok(verdicts) => deliver(out, &verdicts),

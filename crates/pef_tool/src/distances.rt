@@ -1,11 +1,10 @@
 ghost use Rattle.pef_tool.specs.Answers.Answers.{Answer, IsDelivered, answer_done, status_of};
 ghost use Rattle.pef_tool.specs.Distances.{DistancesAnswers};
 
-use crate::answers::{FileRefusal, Outcome, Refusal, Reply, deliver, deliver_detailed};
-use crate::details::script_detail;
-use crate::linking::link_text;
+use crate::answers::{Outcome, Refusal, Reply, deliver};
+use crate::linking::link_file;
 use pef_cert::Certificate;
-use pef_ports::{FileFault, Files, Page, Sink, StreamFault, send};
+use pef_ports::{Files, Page, Sink, StreamFault, send};
 use std::alloc::Global;
 
 /// Prints the certificates of the script at a path. The certificate of a section states that no program is shorter than
@@ -22,17 +21,9 @@ pub fn print_distances<F: Files, W: Sink>(
         × DistancesAnswers (record { state = F.state; was_read = F.was_read; was_written = F.was_written }) files.old files.new script.now answer
         × IsDelivered (W.stream out.old) (W.stream out.new) answer (status_of result) }
 {
-    let text = match files.read(alloc, script) {
-        Ok(text) => text,
-        Err(FileFault::Failed) => return deliver(out, &FileRefusal::Unreadable(script)),
-        Err(FileFault::OutOfMemory) => return deliver(out, &Refusal::OutOfMemory),
-    };
-    let linked = match link_text(alloc, text.as_slice()) {
+    let linked = match link_file(alloc, files, script) {
         Ok(linked) => linked,
-        Err(refusal) => {
-            let detail = script_detail(text.as_slice(), refusal);
-            return deliver_detailed(out, &refusal, detail);
-        }
+        Err(unlinked) => return deliver(out, &unlinked),
     };
     match Certificate::print(alloc, linked.certificates()) {
         Ok(text) => deliver(out, &Distances { text }),

@@ -17,6 +17,7 @@ mod linking;
 mod list;
 mod load;
 mod loaded;
+mod reading;
 mod request;
 mod show;
 pub mod theorems;

@@ -3,9 +3,8 @@ ghost use Rattle.pef_ports.specs.Sent.{Sends};
 ghost use Rattle.pef_tool.specs.Answers.Answers.{Answer, IsDelivered, answer_done, status_of};
 ghost use Rattle.pef_tool.specs.Link.{LinkAnswers, length_text, lengths_text, linked_text, size_text};
 
-use crate::answers::{FileRefusal, Outcome, Refusal, Reply, deliver, deliver_detailed};
-use crate::details::script_detail;
-use crate::linking::link_text;
+use crate::answers::{FileRefusal, Outcome, Refusal, Reply, deliver};
+use crate::linking::link_file;
 use pef_ports::{FileFault, Files, Page, Piece, Sink, StreamFault, print_pieces};
 use pef_write::Linked;
 use std::alloc::Global;
@@ -24,17 +23,9 @@ pub fn link_files<F: Files, W: Sink>(
         × LinkAnswers (record { state = F.state; was_read = F.was_read; was_written = F.was_written }) files.old files.new script.now target.now answer
         × IsDelivered (W.stream out.old) (W.stream out.new) answer (status_of result) }
 {
-    let text = match files.read(alloc, script) {
-        Ok(text) => text,
-        Err(FileFault::Failed) => return deliver(out, &FileRefusal::Unreadable(script)),
-        Err(FileFault::OutOfMemory) => return deliver(out, &Refusal::OutOfMemory),
-    };
-    let linked = match link_text(alloc, text.as_slice()) {
+    let linked = match link_file(alloc, files, script) {
         Ok(linked) => linked,
-        Err(refusal) => {
-            let detail = script_detail(text.as_slice(), refusal);
-            return deliver_detailed(out, &refusal, detail);
-        }
+        Err(unlinked) => return deliver(out, &unlinked),
     };
     match files.write(target, linked.bytes()) {
         Ok(()) => deliver(out, &LinkedReply { linked: &linked }),

@@ -1,20 +1,96 @@
-ghost use Rattle.pef_tool.specs.Kept.Linking.{LinksText};
+ghost use Rattle.pef_tool.specs.Answers.Answers.{answer_refused};
+ghost use Rattle.pef_tool.specs.Answers.Refusals.{refusal_text};
+ghost use Rattle.pef_tool.specs.Kept.Linking.{LinksFrom, LinksText, unlinked_answer};
 
-use crate::answers::{Refusal, script_refusal};
+use crate::answers::{Outcome, Refusal, Reply, script_refusal};
+use crate::details::{Detail, script_detail};
+use crate::reading::{ReadingFault, read_file};
+use pef_ports::{Files, Page, Sink, StreamFault};
 use pef_script::Script;
 use pef_write::{Linked, link};
 use std::alloc::Global;
 
-/// Links the script in a text, or returns the refusal.
-pub(crate) fn link_text(alloc: Global, text: &[u8]) -> Result<Linked, Refusal>
+/// The refusal of a script's text, with the detail that is known.
+#[derive(Clone, Copy)]
+pub struct ScriptRefusal {
+    refusal: Refusal,
+    detail: Option<Detail>,
+}
+
+impl Reply for ScriptRefusal {
+    ghost answer = { λ refused. answer_refused (refusal_text refused.refusal) };
+
+    fn outcome(&self) -> Outcome {
+        self.refusal.outcome().detailed(self.detail)
+    }
+
+    fn print<W: Sink>(&self, out: &mut W, page: &mut Page) -> Result<(), StreamFault> {
+        self.refusal.print(out, page)
+    }
+}
+
+/// The reason why the script in a file wasn't linked.
+#[derive(Clone, Copy)]
+pub enum Unlinked<'a> {
+    /// The file wasn't read.
+    Unread(ReadingFault<'a>),
+    /// Its text is refused.
+    Refused(ScriptRefusal),
+}
+
+impl<'a> Reply for Unlinked<'a> {
+    ghost answer = { unlinked_answer };
+
+    fn outcome(&self) -> Outcome {
+        match self {
+            Unlinked::Unread(fault) => fault.outcome(),
+            Unlinked::Refused(refused) => refused.outcome(),
+        }
+    }
+
+    fn print<W: Sink>(&self, out: &mut W, page: &mut Page) -> Result<(), StreamFault> {
+        match self {
+            Unlinked::Unread(fault) => fault.print(out, page),
+            Unlinked::Refused(refused) => refused.print(out, page),
+        }
+    }
+}
+
+/// Reads and links the script at a path.
+pub fn link_file<'a, F: Files>(
+    alloc: Global,
+    files: &mut F,
+    path: &'a [u8],
+) -> Result<Linked, Unlinked<'a>>
+    ensures { LinksFrom (record { state = F.state; was_read = F.was_read; was_written = F.was_written }) files.old files.new path.now result }
+{
+    let text = match read_file(alloc, files, path) {
+        Ok(text) => text,
+        Err(fault) => return Err(Unlinked::Unread(fault)),
+    };
+    match link_text(alloc, text.as_slice()) {
+        Ok(linked) => Ok(linked),
+        Err(refused) => Err(Unlinked::Refused(refused)),
+    }
+}
+
+/// Parses and links the script in a text.
+pub fn link_text(alloc: Global, text: &[u8]) -> Result<Linked, ScriptRefusal>
     ensures { LinksText text.now result }
 {
     let script = match Script::read(alloc, text) {
         Ok(script) => script,
-        Err(fault) => return Err(script_refusal(fault)),
+        Err(fault) => {
+            let refusal = script_refusal(fault);
+            let detail = script_detail(text, refusal);
+            return Err(ScriptRefusal { refusal, detail });
+        }
     };
     match link(alloc, &script) {
         Ok(linked) => Ok(linked),
-        Err(_) => Err(Refusal::OutOfMemory),
+        Err(_) => Err(ScriptRefusal {
+            refusal: Refusal::OutOfMemory,
+            detail: None,
+        }),
     }
 }

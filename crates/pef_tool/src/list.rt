@@ -3,10 +3,11 @@ ghost use Rattle.pef_listing.specs.Views.{parts};
 ghost use Rattle.pef_tool.specs.Answers.Answers.{Answer, IsDelivered, answer_done, status_of};
 ghost use Rattle.pef_tool.specs.List.{ListAnswers};
 
-use crate::answers::{FileRefusal, Outcome, Refusal, Reply, deliver, deliver_detailed};
+use crate::answers::{Outcome, Refusal, Reply, deliver, deliver_detailed};
 use crate::details::container_detail;
+use crate::reading::read_file;
 use pef_listing::Listing;
-use pef_ports::{FileFault, Files, Page, Sink, StreamFault};
+use pef_ports::{Files, Page, Sink, StreamFault};
 use std::alloc::Global;
 
 /// Lists the container at a path: its sections, libraries, imports, entries, relocation programs and exports.
@@ -22,10 +23,9 @@ pub fn list_file<F: Files, W: Sink>(
         × ListAnswers (record { state = F.state; was_read = F.was_read; was_written = F.was_written }) files.old files.new path.now answer
         × IsDelivered (W.stream out.old) (W.stream out.new) answer (status_of result) }
 {
-    let bytes = match files.read(alloc, path) {
+    let bytes = match read_file(alloc, files, path) {
         Ok(bytes) => bytes,
-        Err(FileFault::Failed) => return deliver(out, &FileRefusal::Unreadable(path)),
-        Err(FileFault::OutOfMemory) => return deliver(out, &Refusal::OutOfMemory),
+        Err(fault) => return deliver(out, &fault),
     };
     match Listing::read(bytes.as_slice()) {
         Ok(listing) => deliver(out, &ListedReply { listing }),

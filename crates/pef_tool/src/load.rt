@@ -1,26 +1,18 @@
-ghost use Rattle.std.specs.Prelude.{◌≡◌, ◌≤◌, IfErr, IfOk, Ok, length, map};
-ghost use Rattle.pef_ports.specs.Ports.{Reads};
+ghost use Rattle.std.specs.Prelude.{◌≡◌, ◌≤◌, IfErr, IfOk, length, map};
 ghost use Rattle.pef_tool.specs.Request.Requests.{named_path};
 ghost use Rattle.pef_tool.specs.Answers.Answers.{Answer, IsDelivered, status_of};
-ghost use Rattle.pef_tool.specs.Kept.Loading.{StopsFile, StopsReading};
+ghost use Rattle.pef_tool.specs.Kept.Loading.{StopsReading};
 ghost use Rattle.pef_tool.specs.Limits.{most_files};
 ghost use Rattle.pef_tool.specs.Load.{LoadAnswers, WereRead, paired};
 
-use crate::answers::{FileRefusal, Outcome, Refusal, Usage, deliver};
+use crate::answers::{Outcome, Refusal, Usage, deliver};
 use crate::details::Shelf;
 use crate::loaded::deliver_root;
+use crate::reading::{ReadingFault, read_file};
 use crate::request::NamedFile;
 use cfm_closure::{MAX_PAIRS, Store, StoreFault};
-use pef_ports::{FileFault, Files, Sink};
+use pef_ports::{Files, Sink};
 use std::alloc::Global;
-
-/// The reason why not all files were read.
-enum ReadingFault<'a> {
-    /// The file at this path can't be read.
-    Unreadable(&'a [u8]),
-    /// An allocation failed.
-    OutOfMemory,
-}
 
 /// Prepares the first of some files and prints the memory of its closure. Libraries are found among the files by their
 /// names.
@@ -41,10 +33,7 @@ pub fn load_files<F: Files, W: Sink>(
     }
     let read = match read_files(alloc, files, named) {
         Ok(contents) => contents,
-        Err(ReadingFault::Unreadable(path)) => {
-            return deliver(out, &FileRefusal::Unreadable(path));
-        }
-        Err(ReadingFault::OutOfMemory) => return deliver(out, &Refusal::OutOfMemory),
+        Err(fault) => return deliver(out, &fault),
     };
     let contents = read.as_slice();
     let Ok(store) = store_of(alloc, named, contents) else {
@@ -74,22 +63,6 @@ fn read_files<'a, F: Files>(
         };
     }
     Ok(contents)
-}
-
-/// Returns the bytes of the file at a path.
-fn read_file<'a, F: Files>(
-    alloc: Global,
-    files: &mut F,
-    path: &'a [u8],
-) -> Result<Vec<u8>, ReadingFault<'a>>
-    ensures read { IfOk result (λ bytes. Reads (record { state = F.state; was_read = F.was_read; was_written = F.was_written }) files.old files.new path.now (Ok bytes.items)) }
-    ensures refused { IfErr result (λ fault. StopsFile (record { state = F.state; was_read = F.was_read; was_written = F.was_written }) files.old files.new path.now fault) }
-{
-    match files.read(alloc, path) {
-        Ok(bytes) => Ok(bytes),
-        Err(FileFault::Failed) => Err(ReadingFault::Unreadable(path)),
-        Err(FileFault::OutOfMemory) => Err(ReadingFault::OutOfMemory),
-    }
 }
 
 /// Returns the store of files that were read.

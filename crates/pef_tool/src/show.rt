@@ -5,13 +5,13 @@ ghost use Rattle.pef_write.specs.Linked.{IsLinked};
 ghost use Rattle.pef_tool.specs.Kept.Showing.{ScriptEnds};
 ghost use Rattle.pef_tool.specs.Show.{ShowAnswers, ShowOutcome, it_alone, show_answer};
 
-use crate::answers::{Outcome, Refusal, deliver, deliver_detailed, input_refusal, script_refusal};
-use crate::details::{Shelf, script_detail};
+use crate::answers::{Outcome, Refusal, deliver, input_refusal};
+use crate::details::Shelf;
+use crate::linking::link_text;
 use crate::loaded::deliver_root;
 use cfm_closure::{Store, StoreFault};
 use pef_ports::{Sink, Source, read_input};
-use pef_script::Script;
-use pef_write::{Linked, link};
+use pef_write::Linked;
 use std::alloc::Global;
 
 /// The most bytes of an input that are read.
@@ -27,25 +27,9 @@ pub fn show_input<R: Source, W: Sink>(alloc: Global, input: &mut R, out: &mut W)
         Ok(text) => text,
         Err(fault) => return deliver(out, &input_refusal(fault)),
     };
-    match Script::read(alloc, text.as_slice()) {
-        Ok(script) => show_script(alloc, &script, out),
-        Err(fault) => {
-            let refusal = script_refusal(fault);
-            let detail = script_detail(text.as_slice(), refusal);
-            deliver_detailed(out, &refusal, detail)
-        }
-    }
-}
-
-/// Links a script and shows its container.
-fn show_script<W: Sink>(alloc: Global, script: &Script<'_>, out: &mut W) -> Outcome
-    ensures { (outcome : ShowOutcome)
-        × ScriptEnds script.now outcome
-        × IsDelivered (W.stream out.old) (W.stream out.new) (show_answer outcome) (status_of result) }
-{
-    match link(alloc, script) {
+    match link_text(alloc, text.as_slice()) {
         Ok(linked) => show_linked(alloc, &linked, out),
-        Err(_) => deliver(out, &Refusal::OutOfMemory),
+        Err(refused) => deliver(out, &refused),
     }
 }
 

@@ -1,39 +1,29 @@
 -- Both files are read, and their texts decide.
-use Rattle.std.proofs.Common.{Ok, Err, inl, inr, refl}
+use Rattle.std.proofs.Common.{Ok, Err, refl}
 use Rattle.pef_tool.specs.Answers.Answers.{answer_refused}
-use Rattle.pef_tool.specs.Check.{judged_answer, judges, lacks_memory, no_certificates}
-use Rattle.pef_tool.specs.Answers.Refusals.{refusal_text, unreadable_text}
-use Rattle.pef_tool.specs.declared.answers.refusal.Refusal.TheVariants.{OutOfMemory}
-use Rattle.pef_tool.proofs.CheckLemmas.{files_judged, second_read}
+use Rattle.pef_tool.specs.Check.{judged_answer, judges}
+use Rattle.pef_tool.specs.Answers.Refusals.{refusal_text}
+use Rattle.pef_tool.specs.Kept.Reading.{unread_answer}
+use Rattle.pef_tool.proofs.CheckLemmas.{files_judged}
+use Rattle.pef_tool.proofs.OutcomeLemmas.{check_ends, check_ends_later}
 use Rattle.pef_tool.proofs.check.check_files.Goals as goal
 
-pub returns-in-Err-OutOfMemory : goal.returns-in-Err-OutOfMemory
-returns-in-Err-OutOfMemory g c =
-    let call = rw c.in-Err-OutOfMemory.field-0-is at c.in-Err-OutOfMemory.ensures.call in
-    let told = rw c.in-Err-OutOfMemory.field-0-is at c.in-Err-OutOfMemory.ensures.told in
-    (answer_refused (refusal_text OutOfMemory), (lacks_memory, inr (inl (record { call = call; told = told })), refl), c.deliver-in-Err-OutOfMemory.ensures)
+pub returns-in-Err : goal.returns-in-Err
+returns-in-Err g c = (unread_answer c.in-Err.fault, check_ends _ c.args.files.now c.read_file.new.files c.args.script.now c.args.cert.now c.in-Err.fault c.in-Err.ensures.refused, c.deliver.ensures)
 
-pub returns-in-Err-Failed-read : goal.returns-in-Err-Failed-read
-returns-in-Err-Failed-read g c =
-    let call = rw c.in-Err-Failed-read.field-0-is at c.in-Err-Failed-read.ensures.call in
-    let told = rw c.in-Err-Failed-read.field-0-is at c.in-Err-Failed-read.ensures.told in
-    (answer_refused (unreadable_text c.args.cert.now), (no_certificates, (c.in-Ok.text.items, second_read (record { call = c.in-Ok.ensures.call; told = c.in-Ok.ensures.told }) (record { call = call; told = told })), refl), c.deliver-in-Err-Failed-read.ensures)
-
-pub returns-in-Err-OutOfMemory-read : goal.returns-in-Err-OutOfMemory-read
-returns-in-Err-OutOfMemory-read g c =
-    let call = rw c.in-Err-OutOfMemory-read.field-0-is at c.in-Err-OutOfMemory-read.ensures.call in
-    let told = rw c.in-Err-OutOfMemory-read.field-0-is at c.in-Err-OutOfMemory-read.ensures.told in
-    (answer_refused (refusal_text OutOfMemory), (lacks_memory, inr (inr (c.in-Ok.text.items, second_read (record { call = c.in-Ok.ensures.call; told = c.in-Ok.ensures.told }) (record { call = call; told = told }))), refl), c.deliver-in-Err-OutOfMemory-read.ensures)
+pub returns-in-Err-read_file : goal.returns-in-Err-read_file
+returns-in-Err-read_file g c =
+    let ends = check_ends_later _ c.args.files.now c.read_file-2.new.files c.read_file.new.files c.args.script.now c.args.cert.now c.in-Ok.text.items c.in-Err-read_file.fault c.in-Ok.ensures.read c.in-Err-read_file.ensures.refused in
+    (unread_answer c.in-Err-read_file.fault, ends, c.deliver-in-Err-read_file.ensures)
 
 pub returns-in-Ok-check_texts : goal.returns-in-Ok-check_texts
 returns-in-Ok-check_texts g c =
     let verdicts = c.in-Ok-check_texts.verdicts.verdicts.items in
-    let ends = files_judged c.as_slice.result.now c.as_slice-2.result.now (record { call = c.in-Ok.ensures.call; told = c.in-Ok.ensures.told }) (record { call = c.in-Ok-read.ensures.call; told = c.in-Ok-read.ensures.told })
-    c.as_slice.ensures.value c.as_slice-2.ensures.value c.in-Ok-check_texts.ensures in
+    let ends = files_judged c.as_slice.result.now c.as_slice-2.result.now c.in-Ok.ensures.read c.in-Ok-read_file.ensures.read c.as_slice.ensures.value c.as_slice-2.ensures.value c.in-Ok-check_texts.ensures in
     (judged_answer (Ok verdicts), (judges (Ok verdicts), ends, refl), c.deliver-in-Ok-check_texts.ensures)
 
 pub returns : goal.returns
 returns g c =
-    let ends = files_judged c.as_slice.result.now c.as_slice-2.result.now (record { call = c.in-Ok.ensures.call; told = c.in-Ok.ensures.told }) (record { call = c.in-Ok-read.ensures.call; told = c.in-Ok-read.ensures.told })
-    c.as_slice.ensures.value c.as_slice-2.ensures.value c.in-Err.ensures in
-    (answer_refused (refusal_text c.in-Err.refusal), (judges (Err c.in-Err.refusal), ends, refl), c.deliver_detailed.ensures)
+    let why = c.in-Err-check_texts.refusal in
+    let ends = files_judged c.as_slice.result.now c.as_slice-2.result.now c.in-Ok.ensures.read c.in-Ok-read_file.ensures.read c.as_slice.ensures.value c.as_slice-2.ensures.value c.in-Err-check_texts.ensures in
+    (answer_refused (refusal_text why), (judges (Err why), ends, refl), c.deliver_detailed.ensures)

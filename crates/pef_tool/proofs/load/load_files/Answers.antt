@@ -1,27 +1,26 @@
 -- All files are read, and then the first fragment is prepared.
 use Rattle.std.proofs.Common.{◌≡◌, ◌<◌, List, ℕ, inl, length, map, refl, sym, ap, subst, ◌∙◌}
 use Rattle.std.proofs.lemmas.List.{length-map}
-use Rattle.std.specs.Borrow.{Bor}
 use Rattle.std.specs.declared.alloc.Global.{Global}
 use Rattle.std.specs.declared.vec.Vec.{Vec}
 use Rattle.pef_ports.specs.Ports.{FilesPort}
 use Rattle.pef_tool.specs.Request.Requests.{named_path}
 use Rattle.pef_tool.specs.Answers.Answers.{Answer, IsDelivered, answer_refused, status_of}
-use Rattle.pef_tool.specs.Load.{first_name, lacks_memory, load_answer, paired, unreadable}
-use Rattle.pef_tool.specs.Answers.Refusals.{refusal_text, unreadable_text}
+use Rattle.pef_tool.specs.Kept.Reading.{unread_answer}
+use Rattle.pef_tool.specs.Load.{first_name, lacks_memory, load_answer, paired}
+use Rattle.pef_tool.specs.Answers.Refusals.{refusal_text}
 use Rattle.pef_tool.specs.declared.answers.refusal.Refusal.TheVariants.{OutOfMemory}
+use Rattle.pef_tool.proofs.OutcomeLemmas.{load_ends}
 use Rattle.pef_tool.proofs.LoadLemmas.{first-is, lacks-all, root-loads, some-files, were-length}
 use Rattle.pef_tool.proofs.load.load_files.Goals as goal
 
 abbrev items : Vec ℕ Global → List ℕ
 items bytes = bytes.items
 
-pub returns-in-Err-Unreadable : goal.returns-in-Err-Unreadable
-returns-in-Err-Unreadable g c =
-    let stream = g.W.Sink.stream in
-    let ends = rw c.in-Err-Unreadable.field-0-is at c.in-Err-Unreadable.ensures.refused in
-    let P : Bor (List ℕ) → Type 0 = λ path. IsDelivered (stream c.args.out.now) (stream c.deliver-in-Err-Unreadable.new.out) (answer_refused (unreadable_text path.now)) (status_of c.deliver-in-Err-Unreadable.result) in
-    (answer_refused (unreadable_text c.in-Err-Unreadable.path.now), (unreadable c.in-Err-Unreadable.path.now, ends, refl), subst P c.in-Err-Unreadable.path-is c.deliver-in-Err-Unreadable.ensures)
+pub returns-in-Err : goal.returns-in-Err
+returns-in-Err g c =
+    let ends = load_ends _ c.args.files.now c.read_files.new.files (map named_path c.args.named.now) c.in-Err.fault c.in-Err.ensures.refused in
+    (unread_answer c.in-Err.fault, ends, c.deliver-in-Err.ensures)
 
 pub store_of-requires-clause-each : goal.store_of-requires-clause-each
 store_of-requires-clause-each g c =

@@ -16,19 +16,19 @@ returns-in-Err g c =
     let ends = subst P (sym c.input_refusal.ensures) (fault_ends before after c.in-Err.fault c.in-Err.ensures) in
     (answer_refused (refusal_text why), (refuses why, ends, refl), c.deliver.ensures)
 
-pub returns-in-Ok-read : goal.returns-in-Ok-read
-returns-in-Ok-read g c =
+pub returns-in-Ok-link_text : goal.returns-in-Ok-link_text
+returns-in-Ok-link_text g c =
     let before = g.R.Source.stream c.args.input.now in
     let after = g.R.Source.stream c.read_input.new.input in
-    let outcome = c.show_script.ensures.0 in
-    let ends = ends_with before after c.in-Ok.text c.as_slice.result.now c.in-Ok-read.script outcome c.in-Ok.ensures c.as_slice.ensures.value c.in-Ok-read.ensures c.show_script.ensures.1 in
-    (show_answer outcome, (outcome, ends, refl), c.show_script.ensures.2)
+    let links = c.in-Ok-link_text.ensures in
+    let shown = c.show_linked.ensures links.0 links.2 in
+    let ends = ends_with before after c.in-Ok.text c.as_slice.result.now links.0 shown.0 c.in-Ok.ensures c.as_slice.ensures.value links.1 shown.1 in
+    (show_answer shown.0, (shown.0, ends, refl), shown.2)
 
 pub returns : goal.returns
 returns g c =
     let before = g.R.Source.stream c.args.input.now in
     let after = g.R.Source.stream c.read_input.new.input in
-    let why = c.script_refusal-refusal.result in
-    let P : Refusal → Type 0 = λ r. ShowEnds before after (refuses r) in
-    let ends = subst P (sym c.script_refusal-refusal.ensures) (no_script_shown before after c.in-Ok.text c.as_slice.result.now c.in-Err-read.fault c.in-Ok.ensures c.as_slice.ensures.value c.in-Err-read.ensures) in
-    (answer_refused (refusal_text why), (refuses why, ends, refl), c.deliver_detailed.ensures)
+    let why = c.in-Err-link_text.refused.refusal in
+    let ends = no_script_shown before after c.in-Ok.text c.as_slice.result.now why c.in-Ok.ensures c.as_slice.ensures.value c.in-Err-link_text.ensures in
+    (answer_refused (refusal_text why), (refuses why, ends, refl), c.deliver-in-Err-link_text.ensures)
