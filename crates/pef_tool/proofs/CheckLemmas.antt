@@ -5,8 +5,7 @@ use Rattle.pef_cert.specs.Certified.{Certified}
 use Rattle.pef_reloc.specs.declared.fixup.Fixup.{Fixup}
 use Rattle.pef_script.specs.Script.{DescribedSection}
 use Rattle.pef_ports.specs.Ports.{FilesPort, Reads}
-use Rattle.pef_ports.specs.declared.ports.FileFault.{FileFault}
-use Rattle.pef_tool.specs.Check.{AreVerdicts, IsVerdict, Judges, JudgesFiles, ReadsSecond}
+use Rattle.pef_tool.specs.Check.{AreVerdicts, IsVerdict, Judges, JudgesFiles}
 use Rattle.pef_tool.specs.declared.answers.refusal.Refusal.{Refusal}
 use Rattle.pef_tool.specs.declared.check.Verdict.{Verdict}
 
@@ -57,8 +56,3 @@ files_judged {F} {port} {before} {between} {after} {script} {cert} {text} {certi
       read = record { between = between; first = first; second = second };
       are = subst (λ (t : List ℕ). Judges (record { script = text; certificates = t }) judged) same' one;
     }
-
--- a file that was read, and then the other
-pub second_read : {F : Type 0} {port : FilesPort F} {before between after : F} {script cert text : List ℕ} {answer : Result (List ℕ) FileFault}
-    → Reads port before between script (Ok text) → Reads port between after cert answer → ReadsSecond port before after script cert text answer
-second_read {F} {port} {before} {between} first second = record { between = between; first = first; second = second }

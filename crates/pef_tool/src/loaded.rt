@@ -77,7 +77,7 @@ impl<'a> Reply for Loaded<'a> {
     }
 
     fn print<W: Sink>(&self, out: &mut W, page: &mut Page) -> Result<(), StreamFault> {
-        print_loaded(out, page, &self.context, self.connection)
+        print_loaded(out, page, self)
     }
 }
 
@@ -127,21 +127,20 @@ impl Routine {
 fn print_loaded<W: Sink>(
     out: &mut W,
     page: &mut Page,
-    context: &Context<'_>,
-    connection: Connection,
+    loaded: &Loaded<'_>,
 ) -> Result<(), StreamFault>
-    requires { context.now.memory.limit ≤ 2 ^ 32 }
-    ensures { Sends result (W.stream out.old) (W.stream out.new) page.old.items page.new.items (loaded_text context.now connection.0) }
+    ensures { Sends result (W.stream out.old) (W.stream out.new) page.old.items page.new.items (loaded_text loaded.now.context loaded.now.connection.0) }
 {
-    print_fragments(out, page, context, order_of(context, connection))?;
-    let init_order = init_order_of(context, connection);
-    print_routines(out, page, context, connection, Routine::Init, init_order)?;
+    let context = &loaded.context;
+    print_fragments(out, page, context, order_of(context, loaded.connection))?;
+    let init_order = init_order_of(context, loaded.connection);
+    print_routines(out, page, loaded, Routine::Init, init_order)?;
     send(
         out,
         page,
-        entry_line(b"main ", context.main(connection)).as_slice(),
+        entry_line(b"main ", context.main(loaded.connection)).as_slice(),
     )?;
-    print_routines(out, page, context, connection, Routine::Term, init_order)
+    print_routines(out, page, loaded, Routine::Term, init_order)
 }
 
 /// Returns the fragments of a connection in closure order.
@@ -230,16 +229,15 @@ fn print_sections<W: Sink>(
 fn print_routines<W: Sink>(
     out: &mut W,
     page: &mut Page,
-    context: &Context<'_>,
-    connection: Connection,
+    loaded: &Loaded<'_>,
     routine: Routine,
     order: &[usize],
 ) -> Result<(), StreamFault>
-    ensures { Sends result (W.stream out.old) (W.stream out.new) page.old.items page.new.items (routines_text routine context.now connection.0 order.now) }
+    ensures { Sends result (W.stream out.old) (W.stream out.new) page.old.items page.new.items (routines_text routine loaded.now.context loaded.now.connection.0 order.now) }
 {
     for i in 0..order.len() {
         let position = order[routine.place(i, order.len())];
-        print_routine(out, page, context, connection, routine, position)?;
+        print_routine(out, page, loaded, routine, position)?;
     }
     Ok(())
 }
@@ -248,14 +246,14 @@ fn print_routines<W: Sink>(
 fn print_routine<W: Sink>(
     out: &mut W,
     page: &mut Page,
-    context: &Context<'_>,
-    connection: Connection,
+    loaded: &Loaded<'_>,
     routine: Routine,
     position: usize,
 ) -> Result<(), StreamFault>
-    ensures { Sends result (W.stream out.old) (W.stream out.new) page.old.items page.new.items (routine_text routine context.now connection.0 position) }
+    ensures { Sends result (W.stream out.old) (W.stream out.new) page.old.items page.new.items (routine_text routine loaded.now.context loaded.now.connection.0 position) }
 {
-    match context.fragment_entries(connection, position) {
+    let context = &loaded.context;
+    match context.fragment_entries(loaded.connection, position) {
         Some(entries) => print_entry(
             out,
             page,

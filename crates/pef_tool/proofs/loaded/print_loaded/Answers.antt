@@ -9,16 +9,16 @@ use Rattle.pef_tool.proofs.loaded.print_loaded.Goals as goal
 
 pub returns-in_err-print_fragments : goal.returns-in_err-print_fragments
 returns-in_err-print_fragments g c =
-    let s = c.args.context.now in
-    let n = c.args.connection.0 in
+    let s = c.args.loaded.now.context in
+    let n = c.args.loaded.now.connection.0 in
     let order = init_order_in s n in
     let short = same_short (ap (fragments_text s) c.order_of.ensures) c.in_err-print_fragments.ensures in
     Sends-short _ c.from_residual.result _ c.from_residual.ensures.1 (StopsShort-longer (terms_text s n order) (StopsShort-longer (entry_text (codes "main ") (main_in s n)) (StopsShort-longer (inits_text s n order) short)))
 
 pub returns-in_err-print_routines : goal.returns-in_err-print_routines
 returns-in_err-print_routines g c =
-    let s = c.args.context.now in
-    let n = c.args.connection.0 in
+    let s = c.args.loaded.now.context in
+    let n = c.args.loaded.now.connection.0 in
     let order = init_order_in s n in
     let fragments = same_printed (ap (fragments_text s) c.order_of.ensures) c.in_ok-print_fragments.ensures in
     let short = StopsShort-then fragments (same_short (ap (inits_text s n) c.init_order_of-init_order.ensures) c.in_err-print_routines.ensures) in
@@ -26,8 +26,8 @@ returns-in_err-print_routines g c =
 
 pub returns-in_err-send : goal.returns-in_err-send
 returns-in_err-send g c =
-    let s = c.args.context.now in
-    let n = c.args.connection.0 in
+    let s = c.args.loaded.now.context in
+    let n = c.args.loaded.now.connection.0 in
     let order = init_order_in s n in
     let fragments = same_printed (ap (fragments_text s) c.order_of.ensures) c.in_ok-print_fragments.ensures in
     let inits = Prints-then fragments (same_printed (ap (inits_text s n) c.init_order_of-init_order.ensures) c.in_ok-print_routines.ensures) in
@@ -37,8 +37,8 @@ returns-in_err-send g c =
 
 pub returns : goal.returns
 returns g c =
-    let s = c.args.context.now in
-    let n = c.args.connection.0 in
+    let s = c.args.loaded.now.context in
+    let n = c.args.loaded.now.connection.0 in
     let order = init_order_in s n in
     let fragments = same_printed (ap (fragments_text s) c.order_of.ensures) c.in_ok-print_fragments.ensures in
     let inits = Prints-then fragments (same_printed (ap (inits_text s n) c.init_order_of-init_order.ensures) c.in_ok-print_routines.ensures) in
