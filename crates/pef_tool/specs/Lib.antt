@@ -11,5 +11,4 @@ pub mod Load
 pub mod Loaded
 pub mod Request
 pub mod Show
-pub mod Details
 pub mod Explain

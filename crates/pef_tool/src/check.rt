@@ -9,7 +9,7 @@ ghost use Rattle.pef_words.specs.Refusals.{result_map};
 use crate::answers::{
     Outcome, Refusal, Reply, certificate_refusal, deliver, deliver_detailed, script_refusal,
 };
-use crate::details::script_detail;
+use crate::linking::refusal_detail;
 use crate::reading::read_file;
 use pef_cert::{Certificate, check};
 use pef_ports::{Files, Page, Piece, Sink, StreamFault, print_pieces};
@@ -57,7 +57,7 @@ pub fn check_files<F: Files, W: Sink>(
     match check_texts(alloc, text.as_slice(), certificates.as_slice()) {
         Ok(verdicts) => deliver(out, &verdicts),
         Err(refusal) => {
-            let detail = script_detail(text.as_slice(), refusal);
+            let detail = refusal_detail(text.as_slice(), refusal);
             deliver_detailed(out, &refusal, detail)
         }
     }

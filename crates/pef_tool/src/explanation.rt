@@ -4,8 +4,8 @@ ghost use Rattle.pef_tool.specs.Details.{end_text};
 ghost use Rattle.pef_tool.specs.Explain.{Explains, IsNoted, NotesHelp};
 
 use crate::answers::{Outcome, Reply, deliver};
-use crate::details::{Detail, print_detail};
 use crate::request::words_help;
+use pef_details::{Detail, line_end};
 use pef_ports::{Page, Sink, StreamFault, send};
 use pef_refusals::help;
 use std::alloc::Global;

@@ -8,7 +8,6 @@
 mod answers;
 mod check;
 mod commands;
-mod details;
 mod distances;
 mod explanation;
 mod fragment;
@@ -24,7 +23,7 @@ pub mod theorems;
 
 pub use answers::Outcome;
 pub use commands::{out_of_memory, perform, run};
-pub use details::{Detail, Disorder, Oddity, Table};
 pub use explanation::explain;
+pub use pef_details::{Detail, Disorder, Oddity, Table};
 pub use pef_ports::{FileFault, Files, Sink, Source, StreamFault};
 pub use request::plain_words;

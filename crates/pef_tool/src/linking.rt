@@ -3,8 +3,8 @@ ghost use Rattle.pef_tool.specs.Answers.Refusals.{refusal_text};
 ghost use Rattle.pef_tool.specs.Kept.Linking.{LinksFrom, LinksText, unlinked_answer};
 
 use crate::answers::{Outcome, Refusal, Reply, script_refusal};
-use crate::details::{Detail, script_detail};
 use crate::reading::{ReadingFault, read_file};
+use pef_details::{Detail, script_detail};
 use pef_ports::{Files, Page, Sink, StreamFault};
 use pef_script::Script;
 use pef_write::{Linked, link};
@@ -82,7 +82,7 @@ pub fn link_text(alloc: Global, text: &[u8]) -> Result<Linked, ScriptRefusal>
         Ok(script) => script,
         Err(fault) => {
             let refusal = script_refusal(fault);
-            let detail = script_detail(text, refusal);
+            let detail = refusal_detail(text, refusal);
             return Err(ScriptRefusal { refusal, detail });
         }
     };
@@ -92,5 +92,18 @@ pub fn link_text(alloc: Global, text: &[u8]) -> Result<Linked, ScriptRefusal>
             refusal: Refusal::OutOfMemory,
             detail: None,
         }),
+    }
+}
+
+/// Returns the detail of the refusal of the script with a text, or of the certificates for it.
+pub fn refusal_detail(script: &[u8], refusal: Refusal) -> Option<Detail> {
+    match refusal {
+        Refusal::Script { fault, line } => script_detail(script, fault, line),
+        Refusal::Listing(_)
+        | Refusal::BadCertificate { .. }
+        | Refusal::SectionsDiffer
+        | Refusal::InputUnreadable
+        | Refusal::InputTooLong
+        | Refusal::OutOfMemory => None,
     }
 }

@@ -4,8 +4,8 @@ ghost use Rattle.pef_tool.specs.Answers.Answers.{Answer, IsDelivered, answer_don
 ghost use Rattle.pef_tool.specs.List.{ListAnswers};
 
 use crate::answers::{Outcome, Refusal, Reply, deliver, deliver_detailed};
-use crate::details::container_detail;
 use crate::reading::read_file;
+use pef_details::container_detail;
 use pef_listing::Listing;
 use pef_ports::{Files, Page, Sink, StreamFault};
 use std::alloc::Global;

@@ -6,11 +6,11 @@ ghost use Rattle.pef_tool.specs.Limits.{most_files};
 ghost use Rattle.pef_tool.specs.Load.{LoadAnswers, WereRead, paired};
 
 use crate::answers::{Outcome, Refusal, Usage, deliver};
-use crate::details::Shelf;
 use crate::loaded::deliver_root;
 use crate::reading::{ReadingFault, read_file};
 use crate::request::NamedFile;
 use cfm_closure::{MAX_PAIRS, Store, StoreFault};
+use pef_details::Shelf;
 use pef_ports::{Files, Sink};
 use std::alloc::Global;
 
@@ -39,8 +39,26 @@ pub fn load_files<F: Files, W: Sink>(
     let Ok(store) = store_of(alloc, named, contents) else {
         return deliver(out, &Refusal::OutOfMemory);
     };
-    let shelf = Shelf::Files { named, contents };
-    deliver_root(alloc, store, named[0].name.as_bytes(), shelf, out)
+    let shelf = ReadFiles { named, contents };
+    deliver_root(alloc, store, named[0].name.as_bytes(), &shelf, out)
+}
+
+/// Files with their contents, in which a fragment is looked up by its name.
+#[derive(Clone, Copy)]
+struct ReadFiles<'a> {
+    named: &'a [NamedFile<'a>],
+    contents: &'a [Vec<u8>],
+}
+
+impl<'a> Shelf for ReadFiles<'a> {
+    fn container(&self, name: &[u8]) -> Option<&[u8]> {
+        for (i, file) in self.named.iter().enumerate() {
+            if file.name.as_bytes() == name {
+                return Some(self.contents.get(i)?.as_slice());
+            }
+        }
+        None
+    }
 }
 
 /// Returns the bytes of some files, read in order.

@@ -10,10 +10,10 @@ ghost use Rattle.pef_tool.specs.Limits.{memory_limit};
 ghost use Rattle.pef_tool.specs.Loaded.{entry_label, fragment_name, fragment_text, fragments_text, init_order_in, loaded_text, order_in, sections_in};
 
 use crate::answers::{Outcome, Reply, deliver, deliver_detailed, print_after, print_name_end};
-use crate::details::{Shelf, prepare_detail};
 use crate::fragment::{entry_line, print_bytes};
 use cfm_closure::Store;
 use cfm_prepare::{Connection, Context, Entries, PrepareFault};
+use pef_details::{Shelf, prepare_detail};
 use pef_ports::{Page, Sink, StreamFault, send};
 use std::alloc::Global;
 
@@ -49,11 +49,11 @@ fn prepare_root<'a>(
 
 /// Prepares the fragment with a name, and prints the memory of its closure or the reason why it isn't prepared. The
 /// shelf has the fragments of the store.
-pub fn deliver_root<W: Sink>(
+pub fn deliver_root<S: Shelf, W: Sink>(
     alloc: Global,
     store: Store<'_>,
     name: &[u8],
-    shelf: Shelf<'_>,
+    shelf: &S,
     out: &mut W,
 ) -> Outcome
     ensures { (outcome : RootOutcome)

@@ -6,10 +6,10 @@ ghost use Rattle.pef_tool.specs.Kept.Showing.{ScriptEnds};
 ghost use Rattle.pef_tool.specs.Show.{ShowAnswers, ShowOutcome, it_alone, show_answer};
 
 use crate::answers::{Outcome, Refusal, deliver, input_refusal};
-use crate::details::Shelf;
 use crate::linking::link_text;
 use crate::loaded::deliver_root;
 use cfm_closure::{Store, StoreFault};
+use pef_details::Shelf;
 use pef_ports::{Sink, Source, read_input};
 use pef_write::Linked;
 use std::alloc::Global;
@@ -44,7 +44,26 @@ fn show_linked<W: Sink>(alloc: Global, linked: &Linked, out: &mut W) -> Outcome
     let Ok(store) = it_alone(alloc, linked.bytes()) else {
         return deliver(out, &Refusal::OutOfMemory);
     };
-    deliver_root(alloc, store, b"it", Shelf::Alone(linked.bytes()), out)
+    let alone = Alone {
+        bytes: linked.bytes(),
+    };
+    deliver_root(alloc, store, b"it", &alone, out)
+}
+
+/// The container of the fragment `it`, and no other.
+#[derive(Clone, Copy)]
+struct Alone<'a> {
+    bytes: &'a [u8],
+}
+
+impl<'a> Shelf for Alone<'a> {
+    fn container(&self, name: &[u8]) -> Option<&[u8]> {
+        if name == b"it".as_slice() {
+            Some(self.bytes)
+        } else {
+            None
+        }
+    }
 }
 
 /// Returns the store that has the fragment `it` and no other.

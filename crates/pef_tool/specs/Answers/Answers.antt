@@ -3,7 +3,7 @@ use Rattle.std.specs.Prelude.{◌≡◌, ◌⊎◌, ℕ, List, Option, None, cod
 use Rattle.pef_ports.specs.Ports.{Stream, Grows, LastFailed, NoneFailed}
 use Rattle.pef_tool.specs.declared.answers.outcome.Outcome.{Outcome}
 use Rattle.pef_tool.specs.declared.answers.outcome.Outcome.TheVariants.{Done, SaidNo, Refused, Usage, OutputFailed}
-use Rattle.pef_tool.specs.declared.details.detail.Detail.{Detail}
+use Rattle.pef_details.specs.declared.detail.Detail.{Detail}
 
 -- an answer: the text that is printed, and the exit status of the run
 pub record Answer : Type 0 where

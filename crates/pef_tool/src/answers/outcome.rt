@@ -1,7 +1,7 @@
 ghost use Rattle.std.specs.Prelude.{◌≡◌};
 ghost use Rattle.pef_tool.specs.Answers.Answers.{detailed, refused_as, status_of};
 
-use crate::details::Detail;
+use pef_details::Detail;
 
 /// The outcome of a run.
 #[derive(Clone, Copy, Debug, PartialEq, Eq)]

@@ -3,7 +3,7 @@ ghost use Rattle.pef_ports.specs.Sent.{Sends};
 ghost use Rattle.pef_tool.specs.Answers.Answers.{Answer, IsDelivered, answer_usage, status_of};
 
 use crate::answers::outcome::Outcome;
-use crate::details::Detail;
+use pef_details::Detail;
 use pef_ports::{Page, Sink, StreamFault, flush, send};
 
 /// An answer of a command: a text that ends the run, and the outcome.

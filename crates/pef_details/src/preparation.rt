@@ -1,6 +1,5 @@
 //! Finds why a fragment isn't prepared: the refused part of its container, or the versions that don't fit.
-use crate::details::{Detail, container_detail};
-use crate::request::NamedFile;
+use crate::{Detail, container_detail};
 use cfm_closure::{BindFault, Definition, Fit, Implementation, versions_fit};
 use cfm_prepare::{FragmentFault, PrepareFault};
 use pef_loader::Loader;
@@ -8,49 +7,17 @@ use pef_views::Container;
 use std::alloc::Global;
 
 /// The fragments of a store, in which a refused one is looked up again by its name.
-#[derive(Clone, Copy)]
-pub enum Shelf<'a> {
-    /// The container of `it`, and no other.
-    Alone(&'a [u8]),
-    /// Files with their contents.
-    Files {
-        named: &'a [NamedFile<'a>],
-        contents: &'a [Vec<u8>],
-    },
-}
-
-impl<'a> Shelf<'a> {
+pub trait Shelf {
     /// Returns the container of the first fragment with a name.
-    fn container(self, name: &[u8]) -> Option<&'a [u8]> {
-        match self {
-            Shelf::Alone(bytes) => {
-                if name == b"it".as_slice() {
-                    Some(bytes)
-                } else {
-                    None
-                }
-            }
-            Shelf::Files { named, contents } => file_named(named, contents, name),
-        }
-    }
-}
-
-/// Returns the contents of the first file with a name.
-fn file_named<'a>(
-    named: &[NamedFile<'_>],
-    contents: &'a [Vec<u8>],
-    name: &[u8],
-) -> Option<&'a [u8]> {
-    for (i, file) in named.iter().enumerate() {
-        if file.name.as_bytes() == name {
-            return Some(contents.get(i)?.as_slice());
-        }
-    }
-    None
+    fn container(&self, name: &[u8]) -> Option<&[u8]>;
 }
 
 /// Returns the detail of a fragment that isn't prepared.
-pub fn prepare_detail(alloc: Global, shelf: Shelf<'_>, fault: &PrepareFault<'_>) -> Option<Detail> {
+pub fn prepare_detail<S: Shelf>(
+    alloc: Global,
+    shelf: &S,
+    fault: &PrepareFault<'_>,
+) -> Option<Detail> {
     match fault {
         PrepareFault::Bind(fault) => bind_detail(alloc, shelf, fault),
         PrepareFault::Fragment(fault) => fragment_detail(alloc, shelf, fault),
@@ -60,7 +27,7 @@ pub fn prepare_detail(alloc: Global, shelf: Shelf<'_>, fault: &PrepareFault<'_>)
 }
 
 /// Returns the detail of a fragment without a closure.
-fn bind_detail(alloc: Global, shelf: Shelf<'_>, fault: &BindFault<'_>) -> Option<Detail> {
+fn bind_detail<S: Shelf>(alloc: Global, shelf: &S, fault: &BindFault<'_>) -> Option<Detail> {
     match fault {
         BindFault::Container { fragment, .. } | BindFault::Loader { fragment, .. } => {
             container_detail(alloc, shelf.container(fragment)?, fault.number())
@@ -78,7 +45,11 @@ fn bind_detail(alloc: Global, shelf: Shelf<'_>, fault: &BindFault<'_>) -> Option
 }
 
 /// Returns the detail of a fragment that has a closure.
-fn fragment_detail(alloc: Global, shelf: Shelf<'_>, fault: &FragmentFault<'_>) -> Option<Detail> {
+fn fragment_detail<S: Shelf>(
+    alloc: Global,
+    shelf: &S,
+    fault: &FragmentFault<'_>,
+) -> Option<Detail> {
     match fault {
         FragmentFault::Pack { fragment, .. } | FragmentFault::Reloc { fragment, .. } => {
             container_detail(alloc, shelf.container(fragment)?, fault.number())
@@ -88,7 +59,7 @@ fn fragment_detail(alloc: Global, shelf: Shelf<'_>, fault: &FragmentFault<'_>) -
 }
 
 /// Returns the versions that a fragment needs of a library, if they don't fit.
-fn versions_detail(shelf: Shelf<'_>, fragment: &[u8], library: &[u8]) -> Option<Detail> {
+fn versions_detail<S: Shelf>(shelf: &S, fragment: &[u8], library: &[u8]) -> Option<Detail> {
     let found = implementation_of(shelf.container(library)?)?;
     let container = Container::read(shelf.container(fragment)?).ok()?;
     let loader = Loader::read(&container).ok()?;

@@ -3,14 +3,14 @@
 use Rattle.std.specs.Prelude.{ℕ, List, [], ◌∷◌, ◌++◌, Option, None, Some, codes, decimal}
 use Rattle.cfm_closure.specs.declared.versions.Definition.{Definition}
 use Rattle.cfm_closure.specs.declared.versions.Implementation.{Implementation}
-use Rattle.pef_tool.specs.declared.details.detail.Detail.{Detail}
-use Rattle.pef_tool.specs.declared.details.detail.Detail.TheVariants as detail
-use Rattle.pef_tool.specs.declared.details.detail.Disorder.{Disorder}
-use Rattle.pef_tool.specs.declared.details.detail.Disorder.TheVariants as disorder
-use Rattle.pef_tool.specs.declared.details.detail.Oddity.{Oddity}
-use Rattle.pef_tool.specs.declared.details.detail.Oddity.TheVariants as oddity
-use Rattle.pef_tool.specs.declared.details.detail.Table.{Table}
-use Rattle.pef_tool.specs.declared.details.detail.Table.TheVariants as table
+use Rattle.pef_details.specs.declared.detail.Detail.{Detail}
+use Rattle.pef_details.specs.declared.detail.Detail.TheVariants as detail
+use Rattle.pef_details.specs.declared.detail.Disorder.{Disorder}
+use Rattle.pef_details.specs.declared.detail.Disorder.TheVariants as disorder
+use Rattle.pef_details.specs.declared.detail.Oddity.{Oddity}
+use Rattle.pef_details.specs.declared.detail.Oddity.TheVariants as oddity
+use Rattle.pef_details.specs.declared.detail.Table.{Table}
+use Rattle.pef_details.specs.declared.detail.Table.TheVariants as table
 
 -- the number of words in a line, and the number that lines with its first word have
 unfoldable pub words_text : ℕ → ℕ → List ℕ

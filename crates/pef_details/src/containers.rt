@@ -1,9 +1,9 @@
 //! Finds the part of a container that is refused.
 ghost use Rattle.std.specs.Prelude.{◌<◌, ◌^◌};
 
-use crate::details::programs::{applied_detail, image_detail, program_detail};
-use crate::details::tables::table_detail;
-use crate::details::{Detail, Table};
+use crate::programs::{applied_detail, image_detail, program_detail};
+use crate::tables::table_detail;
+use crate::{Detail, Table};
 use pef_format::SectionKind;
 use pef_format::layout::{
     ALIGNMENT_AT, CONTAINER_HEADER_SIZE, CONTAINER_OFFSET_AT, INSTANTIATED_SECTION_COUNT_AT,

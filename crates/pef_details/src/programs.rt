@@ -1,5 +1,5 @@
 //! Finds the image that can't be expanded, and the relocation program that can't be read or applied.
-use crate::details::{Detail, Table};
+use crate::{Detail, Table};
 use pef_format::layout::HALFWORD_SIZE;
 use pef_loader::Loader;
 use pef_pidata::expand;
@@ -12,7 +12,7 @@ use std::alloc::Global;
 const MOST_HALFWORDS: usize = 1_048_576;
 
 /// Returns the first section whose packed data doesn't expand to its image.
-pub(crate) fn image_detail(alloc: Global, container: &Container<'_>) -> Option<Detail> {
+pub fn image_detail(alloc: Global, container: &Container<'_>) -> Option<Detail> {
     let count = container.header().instantiated_section_count;
     for index in 0..usize::from(count) {
         let section = container.section(index)?;
@@ -30,7 +30,7 @@ pub(crate) fn image_detail(alloc: Global, container: &Container<'_>) -> Option<D
 }
 
 /// Returns the first relocation program that can't be read.
-pub(crate) fn program_detail(container: &Container<'_>) -> Option<Detail> {
+pub fn program_detail(container: &Container<'_>) -> Option<Detail> {
     let loader = Loader::read(container).ok()?;
     for header in 0..loader.relocs() {
         let (section, program) = loader.reloc(header)?;
@@ -85,7 +85,7 @@ fn reads(program: &[u8], halfwords: usize) -> bool {
 
 /// Returns the first relocation program that can't be applied, at any addresses and with any memory of its
 /// fragment.
-pub(crate) fn applied_detail(alloc: Global, container: &Container<'_>) -> Option<Detail> {
+pub fn applied_detail(alloc: Global, container: &Container<'_>) -> Option<Detail> {
     let loader = Loader::read(container).ok()?;
     let count = usize::from(container.header().instantiated_section_count);
     let sections = addresses(alloc, count)?;

@@ -2,8 +2,9 @@
 //! container, the versions that don't fit.
 //!
 //! A detail is worked out after a refusal, from the data that the command read. It changes neither the output nor the
-//! status: only [`explain`](crate::explain) prints it. The contracts therefore don't state which detail is found. They
-//! state how it is printed.
+//! status of the command: only the explanation of a refusal has it. The contracts therefore don't state which detail is
+//! found. They state how it is printed.
+#![tactic(auto)]
 
 mod containers;
 mod detail;

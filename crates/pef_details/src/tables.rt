@@ -1,7 +1,7 @@
 //! Finds the refused row of a loader section.
 ghost use Rattle.std.specs.Prelude.{◌<◌, ◌^◌};
 
-use crate::details::{Detail, Table};
+use crate::{Detail, Table};
 use pef_format::layout::{
     EXPORT_HASH_OFFSET_AT, EXPORT_HASH_TABLE_POWER_AT, EXPORT_SECTION_AT, EXPORT_SIZE,
     EXPORT_VALUE_AT, EXPORTED_SYMBOL_COUNT_AT, FIRST_IMPORTED_SYMBOL_AT, FIRST_RELOC_OFFSET_AT,

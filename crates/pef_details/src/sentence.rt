@@ -1,9 +1,9 @@
 //! The sentence of a detail.
 ghost use Rattle.std.specs.Prelude.{◌≡◌};
 ghost use Rattle.pef_ports.specs.Sent.{Sends};
-ghost use Rattle.pef_tool.specs.Details.{disorder_text, end_text, header_text, instruction_text, oddity_text, row_text, space_text, table_text, versions_text, words_text};
+ghost use Rattle.pef_details.specs.Details.{disorder_text, end_text, header_text, instruction_text, oddity_text, row_text, space_text, table_text, versions_text, words_text};
 
-use crate::details::{Detail, Disorder, Oddity, Table};
+use crate::{Detail, Disorder, Oddity, Table};
 use cfm_closure::{Definition, Implementation};
 use pef_ports::{Page, Piece, Sink, StreamFault, print_pieces, send};
 

@@ -1,6 +1,5 @@
 //! Finds the fault in a line of a script (docs/SCRIPTS.md).
-use crate::answers::Refusal;
-use crate::details::{Detail, Disorder, Oddity};
+use crate::{Detail, Disorder, Oddity};
 use pef_lines::{LINE_FEED, cut_at};
 use pef_script::LineFault;
 
@@ -24,21 +23,8 @@ const LINES: &[(&str, u8, usize)] = &[
 /// The group of a line whose first word isn't in `LINES`.
 const NO_GROUP: u8 = 0;
 
-/// Returns the detail of a script's refusal.
-pub fn script_detail(text: &[u8], refusal: Refusal) -> Option<Detail> {
-    match refusal {
-        Refusal::Script { fault, line } => line_detail(text, fault, line),
-        Refusal::Listing(_)
-        | Refusal::BadCertificate { .. }
-        | Refusal::SectionsDiffer
-        | Refusal::InputUnreadable
-        | Refusal::InputTooLong
-        | Refusal::OutOfMemory => None,
-    }
-}
-
-/// Returns the detail of the fault in the line with a number.
-fn line_detail(text: &[u8], fault: LineFault, number: usize) -> Option<Detail> {
+/// Returns the detail of the fault in the line of a script with a number, counted from 1.
+pub fn script_detail(text: &[u8], fault: LineFault, number: usize) -> Option<Detail> {
     match fault {
         LineFault::BadLine => Some(Detail::Line(oddity_of(line_at(text, number)?))),
         LineFault::OutOfOrder => Some(Detail::Order(disorder_of(text, number)?)),
