@@ -13,7 +13,7 @@ pub mod system;
 
 pub use dump::print_memory;
 pub use input::{InputFault, read_input};
-pub use line::{Line, push_hex, push_number, push_text, push_word};
+pub use line::{Line, push_hex};
 pub use name::print_name;
 pub use page::{Page, flush, send};
 pub use pieces::{Piece, print_pieces};

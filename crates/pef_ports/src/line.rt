@@ -1,9 +1,8 @@
-ghost use Rattle.std.specs.Prelude.{◌≡◌, ◌≤◌, ◌<◌, ◌+◌, ◌*◌, ◌++◌, decimal, length};
+ghost use Rattle.std.specs.Prelude.{◌≡◌, ◌≤◌, ◌<◌, ◌+◌, ◌*◌, ◌++◌, length};
 ghost use Rattle.arrayvec.specs.ArrayVec.{array_vec_len};
 ghost use Rattle.pef_ports.specs.Text.{hex_digit, hex_text, word_text};
 
 use arrayvec::ArrayVec;
-use itoa::Buffer;
 
 /// The most bytes of a line that is put together before it is sent.
 const LINE: usize = 96;
@@ -15,22 +14,12 @@ const WORD: usize = 4;
 pub type Line = ArrayVec<u8, LINE>;
 
 /// Appends some text.
-pub fn push_text(line: &mut Line, text: &[u8])
+fn push_text(line: &mut Line, text: &[u8])
     requires { array_vec_len line.old + length text.now ≤ 96 }
     ensures text { line.new.items ≡ line.old.items ++ text.now }
     ensures len { array_vec_len line.new ≡ array_vec_len line.old + length text.now }
 {
     let _ = line.try_extend_from_slice(text);
-}
-
-/// Appends a number in decimal digits.
-pub fn push_number(line: &mut Line, n: u64)
-    requires { array_vec_len line.old + 20 ≤ 96 }
-    ensures text { line.new.items ≡ line.old.items ++ decimal n }
-    ensures len { array_vec_len line.new ≤ array_vec_len line.old + 20 }
-{
-    let mut buffer = Buffer::new();
-    push_text(line, buffer.format(n).as_bytes());
 }
 
 /// Appends a number of 32 bits in eight digits.

@@ -1,13 +1,12 @@
 -- The text that is printed of a connection, piece by piece.
-use Rattle.std.proofs.Common.{◌≡◌, ℕ, zero, suc, ◌+◌, ◌-◌, ◌<◌, ◌≤◌, List, [], ◌∷◌, ◌++◌, Option, None, Some, codes, drop, get_or, length, option_map, slice_get, take, unwrap_or, refl, sym, ap, ap₂, ◌∙◌, append_assoc, arith}
+use Rattle.std.proofs.Common.{◌≡◌, ℕ, zero, suc, ◌+◌, ◌-◌, ◌<◌, ◌≤◌, List, [], ◌∷◌, ◌++◌, Option, None, Some, drop, get_or, length, option_map, slice_get, take, unwrap_or, refl, sym, ap, ap₂, ◌∙◌, append_assoc, arith}
 use Rattle.std.specs.Option.{option_and_then}
 use Rattle.std.proofs.lemmas.List.{append-nil, at_drop_more, drop_all, take_all, take_more}
 use Rattle.cfm_memory.specs.Instances.{Layout, bytes_at}
 use Rattle.cfm_memory.specs.declared.place.Place.{Place}
 use Rattle.cfm_prepare.specs.Sections.{held_at}
 use Rattle.cfm_prepare.specs.Contexts.{ContextState}
-use Rattle.pef_ports.specs.Text.{word_text}
-use Rattle.pef_tool.specs.Fragment.{PlacedSection, entry_text, placed_section}
+use Rattle.pef_tool.specs.Fragment.{PlacedSection, placed_section}
 use Rattle.pef_tool.specs.Kept.Routines.{place_of, routine_text, routines_text}
 use Rattle.pef_tool.specs.Loaded.{inits_text, term_text, terms_text}
 use Rattle.pef_tool.specs.declared.loaded.Routine.{Routine}
@@ -69,9 +68,3 @@ routines-end Init s number order i past = ap (inits_text s number) (drop_all i o
 routines-end Term s number order i past =
     let none : length order - i ≡ 0 = omega arith in
     ap (λ n. terms_text s number (take n order)) none
-
--- a prefix, and then the end of an entry's line
-pub entry-joined : (front : List ℕ) (address : ℕ) → front ++ entry_text (codes " ") (Some address) ≡ entry_text (front ++ codes " ") (Some address)
-entry-joined front address =
-    let word = word_text address in
-    sym (ap (λ t. t ++ 10 ∷ []) (append_assoc front (codes " ") word) ∙ append_assoc front (codes " " ++ word) (10 ∷ []))

@@ -9,7 +9,6 @@ mod prepare_refusal;
 mod refusal;
 mod reply;
 
-pub use bind_refusal::print_after;
 pub use outcome::Outcome;
 pub use refusal::{
     FileRefusal, Refusal, certificate_refusal, input_refusal, print_name_end, script_refusal,

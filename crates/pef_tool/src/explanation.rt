@@ -1,11 +1,11 @@
 ghost use Rattle.std.specs.Prelude.{◌++◌, ℕ, List, option_map};
+ghost use Rattle.pef_details.specs.Details.{end_text};
 ghost use Rattle.pef_tool.specs.Answers.Answers.{answer_done};
-ghost use Rattle.pef_tool.specs.Details.{end_text};
 ghost use Rattle.pef_tool.specs.Explain.{Explains, IsNoted, NotesHelp};
 
 use crate::answers::{Outcome, Reply, deliver};
 use crate::request::words_help;
-use pef_details::{Detail, line_end};
+use pef_details::{Detail, print_detail};
 use pef_ports::{Page, Sink, StreamFault, send};
 use pef_refusals::help;
 use std::alloc::Global;

@@ -1,10 +1,8 @@
 ghost use Rattle.std.specs.Prelude.{◌≡◌, ◌+◌, ◌≤◌, ◌^◌, length};
 ghost use Rattle.pef_ports.specs.Sent.{Sends};
-ghost use Rattle.pef_tool.specs.Fragment.{entry_text, heading_text, section_text};
+ghost use Rattle.pef_tool.specs.Fragment.{heading_text, section_text};
 
-use pef_ports::{
-    Line, Page, Piece, Sink, StreamFault, print_memory, print_pieces, push_text, push_word,
-};
+use pef_ports::{Page, Piece, Sink, StreamFault, print_memory, print_pieces};
 
 /// Prints a section with its number: its address and its bytes.
 pub fn print_bytes<W: Sink>(
@@ -45,18 +43,4 @@ fn print_heading<W: Sink>(
             Piece::Text(b"\n"),
         ],
     )
-}
-
-/// Returns the line of an entry point, if there is one.
-pub fn entry_line(label: &[u8], address: Option<u32>) -> Line
-    requires { length label.now ≤ 80 }
-    ensures { result.items ≡ entry_text label.now address }
-{
-    let mut line = Line::new();
-    if let Some(address) = address {
-        push_text(&mut line, label);
-        push_word(&mut line, address);
-        push_text(&mut line, b"\n");
-    }
-    line
 }

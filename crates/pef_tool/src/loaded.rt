@@ -1,4 +1,4 @@
-ghost use Rattle.std.specs.Prelude.{◌≡◌, ◌<◌, ◌≤◌, ◌^◌, IfErr, IfOk, Some};
+ghost use Rattle.std.specs.Prelude.{◌≡◌, ◌<◌, ◌≤◌, ◌^◌, IfErr, IfOk, codes};
 ghost use Rattle.cfm_prepare.specs.Contexts.{fresh_state};
 ghost use Rattle.cfm_prepare.specs.Steps.{MayNotPrepare, Prepares};
 ghost use Rattle.pef_tool.specs.Answers.Answers.{IsDelivered, answer_done, status_of};
@@ -9,12 +9,12 @@ ghost use Rattle.pef_tool.specs.Kept.Routines.{address_in, place_of, routine_tex
 ghost use Rattle.pef_tool.specs.Limits.{memory_limit};
 ghost use Rattle.pef_tool.specs.Loaded.{entry_label, fragment_name, fragment_text, fragments_text, init_order_in, loaded_text, order_in, sections_in};
 
-use crate::answers::{Outcome, Reply, deliver, deliver_detailed, print_after, print_name_end};
-use crate::fragment::{entry_line, print_bytes};
+use crate::answers::{Outcome, Reply, deliver, deliver_detailed, print_name_end};
+use crate::fragment::print_bytes;
 use cfm_closure::Store;
 use cfm_prepare::{Connection, Context, Entries, PrepareFault};
 use pef_details::{Shelf, prepare_detail};
-use pef_ports::{Page, Sink, StreamFault, send};
+use pef_ports::{Page, Piece, Sink, StreamFault, print_pieces, send};
 use std::alloc::Global;
 
 /// The exclusive upper limit of the addresses of a fragment's memory.
@@ -135,11 +135,7 @@ fn print_loaded<W: Sink>(
     print_fragments(out, page, context, order_of(context, loaded.connection))?;
     let init_order = init_order_of(context, loaded.connection);
     print_routines(out, page, loaded, Routine::Init, init_order)?;
-    send(
-        out,
-        page,
-        entry_line(b"main ", context.main(loaded.connection)).as_slice(),
-    )?;
+    print_main(out, page, context.main(loaded.connection))?;
     print_routines(out, page, loaded, Routine::Term, init_order)
 }
 
@@ -265,7 +261,7 @@ fn print_routine<W: Sink>(
     }
 }
 
-/// Prints the line of an entry point, if there is one.
+/// Prints the line of a fragment's routine, if it has one: a word, the fragment's name and the address.
 fn print_entry<W: Sink>(
     out: &mut W,
     page: &mut Page,
@@ -276,21 +272,41 @@ fn print_entry<W: Sink>(
     ensures { Sends result (W.stream out.old) (W.stream out.new) page.old.items page.new.items (entry_text (entry_label word.now name.now) address) }
 {
     match address {
-        Some(address) => print_address(out, page, word, name, address),
+        Some(address) => print_pieces(
+            out,
+            page,
+            &[
+                Piece::Text(word),
+                Piece::Name(name),
+                Piece::Text(b" "),
+                Piece::Word(address),
+                Piece::Text(b"\n"),
+            ],
+        ),
         None => Ok(()),
     }
 }
 
-/// Prints the line of an entry point that is there: a word, the fragment's name and the address.
-fn print_address<W: Sink>(
+/// Prints the line of the main entry point, if there is one.
+fn print_main<W: Sink>(
     out: &mut W,
     page: &mut Page,
-    word: &[u8],
-    name: &[u8],
-    address: u32,
+    address: Option<u32>,
 ) -> Result<(), StreamFault>
-    ensures { Sends result (W.stream out.old) (W.stream out.new) page.old.items page.new.items (entry_text (entry_label word.now name.now) (Some address)) }
+    ensures { Sends result (W.stream out.old) (W.stream out.new) page.old.items page.new.items (entry_text (codes "main ") address) }
 {
-    print_after(out, page, word, name)?;
-    send(out, page, entry_line(b" ", Some(address)).as_slice())
+    match address {
+        Some(address) => {
+            print_pieces(
+                out,
+                page,
+                &[
+                    Piece::Text(b"main "),
+                    Piece::Word(address),
+                    Piece::Text(b"\n"),
+                ],
+            )
+        }
+        None => Ok(()),
+    }
 }

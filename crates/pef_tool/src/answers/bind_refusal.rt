@@ -1,5 +1,4 @@
-ghost use Rattle.std.specs.Prelude.{◌≡◌, ◌++◌, option_map};
-ghost use Rattle.pef_ports.specs.Names.{name_text};
+ghost use Rattle.std.specs.Prelude.{◌≡◌, option_map};
 ghost use Rattle.pef_ports.specs.Sent.{Sends};
 ghost use Rattle.pef_tool.specs.Answers.Answers.{answer_refused};
 ghost use Rattle.pef_tool.specs.Answers.Refusals.{bind_refusal_text, reported_fragment, reported_library, reported_symbol, reported_text};
@@ -88,19 +87,7 @@ pub fn print_reported<W: Sink>(
     ensures { Sends result (W.stream out.old) (W.stream out.new) page.old.items page.new.items (reported_text word.now (option_map (λ name. name.now) name.entry)) }
 {
     match name {
-        Some(name) => print_after(out, page, word, name),
+        Some(name) => print_pieces(out, page, &[Piece::Text(word), Piece::Name(name)]),
         None => Ok(()),
     }
-}
-
-/// Prints a word and then a name.
-pub fn print_after<W: Sink>(
-    out: &mut W,
-    page: &mut Page,
-    word: &[u8],
-    name: &[u8],
-) -> Result<(), StreamFault>
-    ensures { Sends result (W.stream out.old) (W.stream out.new) page.old.items page.new.items (word.now ++ name_text name.now) }
-{
-    print_pieces(out, page, &[Piece::Text(word), Piece::Name(name)])
 }

@@ -1,7 +1,7 @@
 -- Delivered with some status.
 use Rattle.std.proofs.Common.{List, ℕ, ◌++◌, subst}
 use Rattle.pef_tool.specs.Answers.Answers.{status_of}
-use Rattle.pef_tool.specs.Details.{end_text}
+use Rattle.pef_details.specs.Details.{end_text}
 use Rattle.pef_tool.specs.Explain.{IsNoted}
 use Rattle.pef_tool.proofs.explanation.note_help.Goals as goal
 

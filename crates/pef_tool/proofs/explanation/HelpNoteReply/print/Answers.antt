@@ -1,6 +1,6 @@
 -- The text and then the detail.
 use Rattle.pef_ports.proofs.Laws.Sending.{Sends-short, Sends-then, StopsShort-longer}
-use Rattle.pef_tool.specs.Details.{end_text}
+use Rattle.pef_details.specs.Details.{end_text}
 use Rattle.pef_tool.proofs.explanation.HelpNoteReply.print.Goals as goal
 
 pub returns-in_err-send : goal.returns-in_err-send
