@@ -145,7 +145,8 @@ impl Machine {
         }
     }
 
-    /// Executes an instruction that comes after some others. A repeat is executed by its passes.
+    /// Executes the instruction that comes after the earlier part of a program. A repeat is executed by
+    /// its passes.
     #[inline(always)]
     pub(crate) fn execute(
         &mut self,
