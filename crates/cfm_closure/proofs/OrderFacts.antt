@@ -9,6 +9,7 @@ use Rattle.cfm_closure.specs.Stores.{Pair}
 use Rattle.pef_words.specs.Results.{◌>>=◌}
 use Rattle.cfm_closure.specs.Fragments.{Fragment, fragment_of}
 use Rattle.cfm_closure.specs.Libraries.{bound_to}
+use Rattle.cfm_closure.specs.Limits.{most_pairs}
 use Rattle.cfm_closure.specs.Orders.{EndsWith, HasLibrary, IsComplete, IsMember}
 use Rattle.cfm_closure.specs.Walk.{Walked, is_marked, joining, left, marking, order_of, unwalked, walk, walk_at, walks_from}
 use Rattle.cfm_closure.specs.Kept.Walks.{IsBound, IsTidy, Reaches}
@@ -109,6 +110,11 @@ bound-inside pairs order p l (Some q) complete there is =
     let h = m.libraries l below in
     let here = same_ok (bound_to pairs p l) h.bound (Some q) h.is is in
     h.inside q here
+
+-- .. and so has one of the first places
+pub bound-below : (pairs : List Pair) (order : List ℕ) (b : Option ℕ) → IsComplete pairs order → length pairs ≤ most_pairs → IfSome b (λ q. Contains order q) → IfSome b (λ q. q < most_pairs)
+bound-below pairs order None complete few inside = tt
+bound-below pairs order (Some q) complete few inside = let place = (complete.members q inside).place in omega arith
 
 -- a fact of each element of a list is one of each that it contains
 pub all-contains : {A : Type 0} (P : A → Type 0) (xs : List A) (x : A) → AllByRecursion P xs → Contains xs x → P x

@@ -96,11 +96,11 @@ impl<'a> Bindings<'a> {
     }
 
     /// Returns a fragment of the order.
-    pub fn fragment(&self, p: usize) -> FragmentView<'a>
+    pub fn fragment(&self, p: usize) -> &FragmentView<'a>
         requires { Contains self.now.order p }
-        ensures { fragment_of self.now.pairs p ≡ Ok (fragment_seen result) }
+        ensures { fragment_of self.now.pairs p ≡ Ok (fragment_seen result.now) }
     {
-        self.closed(p).view
+        &self.closed(p).view
     }
 
     /// Returns how many library entries a fragment of the order has.
@@ -117,6 +117,7 @@ impl<'a> Bindings<'a> {
         requires below { l < library_count self.now.pairs p }
         ensures bound { bound_to self.now.pairs p l ≡ Ok result }
         ensures inside { IfSome result (λ q. Contains self.now.order q) }
+        ensures below { IfSome result (λ q. q < most_pairs) }
     {
         match self.closed(p).libraries.get(l) {
             Some(bound) => bound,
@@ -129,6 +130,7 @@ impl<'a> Bindings<'a> {
         requires { Contains self.now.order p }
         ensures closed { IsClosed self.now.pairs p result.now }
         ensures complete { IsComplete self.now.pairs self.now.order }
+        ensures few { length self.now.pairs ≤ most_pairs }
     {
         match self.fragments.get(p) {
             Some(fragment) => fragment,

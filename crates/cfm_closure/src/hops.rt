@@ -1,4 +1,4 @@
-ghost use Rattle.std.specs.Prelude.{◌<◌, Contains, None, IfOk};
+ghost use Rattle.std.specs.Prelude.{◌<◌, ◌^◌, Contains, None, IfOk};
 ghost use Rattle.pef_format.specs.Symbols.{import_seen};
 ghost use Rattle.pef_loader.specs.Views.{loaded};
 ghost use Rattle.cfm_closure.specs.Targets.{hop, hop_to};
@@ -8,7 +8,7 @@ ghost use Rattle.cfm_closure.specs.Kept.Symbols.{AreSymbolsOf};
 use crate::bindings::Bindings;
 use crate::fault::BindFault;
 use crate::symbols::Symbols;
-use crate::targets::{Found, Target};
+use crate::targets::Found;
 use pef_format::{ExportValue, ImportView};
 use pef_loader::Loader;
 
@@ -24,21 +24,20 @@ pub(crate) enum Hop {
 
 /// Returns the next step by export `e` of a fragment: into a section, to an absolute value, or to the
 /// import that it passes on.
-fn export_hop(fragment: usize, loader: Loader<'_>, e: usize) -> Hop
-    requires { e < (loaded loader).header.export_count }
-    ensures answer { HasHop fragment (loaded loader.entry) e result }
-    ensures below { StaysBelow (loaded loader.entry).header.import_count result }
+fn export_hop(fragment: usize, loader: &Loader<'_>, e: usize) -> Hop
+    requires fragment { fragment < 2 ^ 16 }
+    requires export { e < (loaded loader.now).header.export_count }
+    ensures answer { HasHop fragment (loaded loader.now) e result }
+    ensures below { StaysBelow (loaded loader.now).header.import_count result }
 {
     let Some(export) = loader.export(e) else {
         unreachable!()
     };
     match export.value() {
-        ExportValue::InSection { section, offset } => Hop::Ends(Found::There(Target::At {
-            fragment,
-            section,
-            offset,
-        })),
-        ExportValue::Absolute(number) => Hop::Ends(Found::There(Target::Absolute(number))),
+        ExportValue::InSection { section, offset } => {
+            Hop::Ends(Found::at(fragment, section, offset))
+        }
+        ExportValue::Absolute(number) => Hop::Ends(Found::absolute(number)),
         ExportValue::Reexport { import } => Hop::Through {
             fragment,
             import: import as usize,
@@ -63,15 +62,15 @@ pub(crate) fn import_hop<'a>(
 {
     let symbol = match symbols.import(bindings, p, j)? {
         Some(symbol) => symbol,
-        None => return Ok(Hop::Ends(Found::Missing)),
+        None => return Ok(Hop::Ends(Found::missing())),
     };
     let q = match bindings.library(p, symbol.library) {
         Some(q) => q,
-        None => return Ok(Hop::Ends(Found::Missing)),
+        None => return Ok(Hop::Ends(Found::missing())),
     };
     let library = bindings.fragment(q);
     match library.loader.export_named(symbol.name) {
-        Some(e) => Ok(export_hop(q, library.loader, e)),
+        Some(e) => Ok(export_hop(q, &library.loader, e)),
         None => missing(bindings.fragment(p).name, library.name, symbol),
     }
 }
@@ -85,7 +84,7 @@ fn missing<'a>(
     ensures { LeadsTo result (hop_to fragment.entry.now library.entry.now (import_seen symbol.entry) 0 None) }
 {
     if symbol.weak {
-        return Ok(Hop::Ends(Found::Missing));
+        return Ok(Hop::Ends(Found::missing()));
     }
     Err(BindFault::SymbolMissing {
         fragment,

@@ -1,4 +1,5 @@
-ghost use Rattle.std.specs.Prelude.{◌≡◌, ◌<◌, None, Some, length, option_map, replicate, slice_index_or, slice_set, IfOk};
+ghost use Rattle.std.specs.Prelude.{◌≡◌, ◌<◌, ◌^◌, None, Some, length, option_map, replicate, slice_index_or, slice_set, IfOk};
+ghost use Rattle.cfm_closure.specs.declared.targets.Target.TheVariants.{Absolute, At};
 ghost use Rattle.cfm_closure.specs.Kept.Found.{meant};
 
 use std::alloc::{AllocError, Global};
@@ -18,22 +19,75 @@ pub enum Target {
     },
 }
 
-/// The target that was found for an import.
+/// The kind of a target that was found.
 #[derive(Clone, Copy)]
-pub(crate) enum Found {
-    /// None: its library is absent, or it is weak and its symbol is missing.
+pub(crate) enum FoundKind {
+    /// No target: the import's library is absent, or it is weak and its symbol is missing.
     Missing,
+    Absolute,
+    InSection,
+}
 
-    There(Target),
+/// The target that was found for an import, if there is one. A closure has one for each of its imports, so it
+/// takes fewer bytes than an `Option<Target>`.
+#[derive(Clone, Copy)]
+pub(crate) struct Found {
+    kind: FoundKind,
+    fragment: u16,
+    section: u32,
+    /// The number or the offset.
+    value: u32,
 }
 
 impl Found {
+    /// Returns that there is no target.
+    pub fn missing() -> Found
+        ensures { meant result ≡ None }
+    {
+        Found {
+            kind: FoundKind::Missing,
+            fragment: 0,
+            section: 0,
+            value: 0,
+        }
+    }
+
+    /// Returns a number as target.
+    pub fn absolute(number: u32) -> Found
+        ensures { meant result ≡ Some (Absolute number) }
+    {
+        Found {
+            kind: FoundKind::Absolute,
+            fragment: 0,
+            section: 0,
+            value: number,
+        }
+    }
+
+    /// Returns a place in a section as target.
+    pub fn at(fragment: usize, section: u32, offset: u32) -> Found
+        requires { fragment < 2 ^ 16 }
+        ensures { meant result ≡ Some (At fragment section offset) }
+    {
+        Found {
+            kind: FoundKind::InSection,
+            fragment: fragment as u16,
+            section,
+            value: offset,
+        }
+    }
+
     pub fn target(self) -> Option<Target>
         ensures { result ≡ meant self }
     {
-        match self {
-            Found::Missing => None,
-            Found::There(target) => Some(target),
+        match self.kind {
+            FoundKind::Missing => None,
+            FoundKind::Absolute => Some(Target::Absolute(self.value)),
+            FoundKind::InSection => Some(Target::At {
+                fragment: usize::from(self.fragment),
+                section: self.section,
+                offset: self.value,
+            }),
         }
     }
 }

@@ -9,7 +9,7 @@ use Rattle.cfm_closure.proofs.hops.import_hop.Goals as goal
 pub returns-in-None-export_named-clause-answer : goal.returns-in-None-export_named-clause-answer
 returns-in-None-export_named-clause-answer c =
     let at = rw c.in-Some.is at c.in_ok-symbol.ensures.value in
-    subst (LeadsTo c.missing.result)
-    (sym (hop-missing c.args.bindings.now.pairs c.args.p c.args.j c.in-Some-library.q (fragment_seen c.fragment.result) (fragment_seen c.fragment-library.result) (import_seen c.in-Some.symbol)
+    subst (LeadsTo c.missing-in-None-export_named.result)
+    (sym (hop-missing c.args.bindings.now.pairs c.args.p c.args.j c.in-Some-library.q (fragment_seen c.fragment.result.now) (fragment_seen c.fragment-library.result.now) (import_seen c.in-Some.symbol)
     c.fragment.ensures (sym at) c.in-Some-library.ensures.bound c.fragment-library.ensures (sym c.in-None-export_named.ensures.value)))
-    c.missing.ensures
+    c.missing-in-None-export_named.ensures

@@ -6,4 +6,4 @@ use Rattle.cfm_closure.proofs.HopFacts.{endless-names}
 use Rattle.cfm_closure.proofs.resolve.endless.Goals as goal
 
 pub returns : goal.returns
-returns c = ap Err (endless-names c.args.bindings.now.pairs c.args.p c.args.j (fragment_seen c.fragment-fragment.result) (import_seen c.in-Some.symbol) c.fragment-fragment.ensures (sym c.in-Some.ensures.value))
+returns c = ap Err (endless-names c.args.bindings.now.pairs c.args.p c.args.j (fragment_seen c.fragment-fragment.result.now) (import_seen c.in-Some.symbol) c.fragment-fragment.ensures (sym c.in-Some.ensures.value))

@@ -27,7 +27,7 @@ returns-then-not-index c =
     let place = place_in_order pairs order ps i c.requires.complete same c.loop-p-test.true in
     let inside : get_or ps i 0 < length c.args.self.taken.items = let size = c.requires.taken_size in omega arith in
     let unmet : is_marked s (get_or ps i 0) ≡ false = get_or_default c.args.self.taken.items (get_or ps i 0) true c.index.result.now inside ∙ sym c.index.ensures ∙ c.if-not-index.true in
-    let P : List ℕ → Type 0 = λ ps. (i < length ps) × (is_marked s (get_or ps i 0) ≡ false) × (fragment_of pairs (get_or ps i 0) ≡ Ok (fragment_seen c.fragment.result)) in
+    let P : List ℕ → Type 0 = λ ps. (i < length ps) × (is_marked s (get_or ps i 0) ≡ false) × (fragment_of pairs (get_or ps i 0) ≡ Ok (fragment_seen c.fragment.result.now)) in
     let all = subst P same (c.loop-p-test.true, unmet, c.fragment.ensures) in
     ap (taken_all pairs s) (sym c.loop-p.invariant ∙ first_left-here pairs s order i all.0 all.1)
-    ∙ ap (λ name. Err (init_loop name)) (sym (fragment-name pairs (get_or order i 0) (fragment_seen c.fragment.result) all.2))
+    ∙ ap (λ name. Err (init_loop name)) (sym (fragment-name pairs (get_or order i 0) (fragment_seen c.fragment.result.now) all.2))

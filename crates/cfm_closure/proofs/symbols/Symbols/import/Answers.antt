@@ -24,6 +24,6 @@ put-requires c = table_inside c.args.bindings.now.pairs c.args.bindings.now.orde
 pub returns-clause-symbols : goal.returns-clause-symbols
 returns-clause-symbols c =
     let pairs = c.args.bindings.now.pairs in
-    let loader : loader_at pairs c.args.p ≡ Some c.in_ok-table.table = loader_at-is pairs c.args.p (fragment_seen c.fragment-fragment.result) c.fragment-fragment.ensures ∙ ap Some (sym c.in_ok-table.ensures) in
+    let loader : loader_at pairs c.args.p ≡ Some c.in_ok-table.table = loader_at-is pairs c.args.p (fragment_seen c.fragment-fragment.result.now) c.fragment-fragment.ensures ∙ ap Some (sym c.in_ok-table.ensures) in
     rw c.in_ok-put.ensures.ok (tables-set pairs c.args.bindings.now.order c.args.self.now.tables c.requires.symbols c.args.p c.requires.place (Some c.in_ok-table.table)
     (λ l is. loader ∙ is))
