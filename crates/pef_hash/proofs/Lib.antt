@@ -1,5 +1,6 @@
 pub mod Laws
 mod FoundLemmas
+mod NameLemmas
 mod NamedExports
 mod Places
 mod RegularLemmas

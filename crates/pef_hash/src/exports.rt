@@ -1,20 +1,26 @@
 ghost use Rattle.std.specs.Prelude.{◌≡◌, ◌-◌, ◌^◌, ◌<◌, ◌≤◌, length, IsTrue};
 ghost use Rattle.std.specs.Option.{option_copied};
+ghost use Rattle.std.specs.Str.{bytes_eq};
 ghost use Rattle.pef_words.specs.Refusals.{first_among};
 ghost use Rattle.pef_hash.specs.Exports.{entry_at, entry_of, export_place, export_named, has_table, is_named, key_place, key_of, name_of, named_at, slot_word_of};
 ghost use Rattle.pef_hash.specs.Limits.{most_power};
 ghost use Rattle.pef_hash.specs.Regular.{IsSearchable};
 ghost use Rattle.pef_hash.specs.Word.{hash_word};
+ghost use Rattle.pef_hash.specs.Kept.Ends.{end_of};
 ghost use Rattle.pef_hash.specs.Kept.Searches.{LeadsToAll};
 
 use crate::chain::places_in;
 use crate::word::{hash_word, slot};
+use byteorder::{BigEndian, ByteOrder};
 use pef_format::layout::{
     CLASS_COUNT, CLASS_SHIFT, EXPORT_CLASS_AND_NAME_AT, EXPORT_SECTION_AT, EXPORT_SIZE,
     EXPORT_VALUE_AT, KEY_LENGTH_SHIFT, KEY_SIZE, MAX_HASH_TABLE_POWER, MAX_NAME_LENGTH, SLOT_SIZE,
 };
 use pef_words::Cut;
 use std::ops::Range;
+
+/// How many bytes at the ends of two names are compared first.
+const END_LENGTH: usize = 8;
 
 /// An export without its name.
 #[derive(Clone, Copy, Debug, PartialEq, Eq)]
@@ -214,9 +220,29 @@ impl<'a> Exports<'a> {
         ensures { result ≡ is_named (table_of self.now) name.now i }
     {
         match self.name(i) {
-            Some(found) => found == name,
+            Some(found) => are_equal(found, name),
             None => false,
         }
+    }
+}
+
+/// Returns whether two names are equal. The names of a library often share their first bytes, so their last
+/// ones are compared first.
+#[tactic(auto, using(crate::proofs::NameLemmas::by_ends))]
+fn are_equal(some: &[u8], other: &[u8]) -> bool
+    ensures { result ≡ bytes_eq some.now other.now }
+{
+    end_of(some) == end_of(other) && some == other
+}
+
+/// Returns the last bytes of a name as a number, or 0 for a shorter name.
+#[tactic(auto, unfolding(crate::specs::Kept::Ends::end_of))]
+fn end_of(name: &[u8]) -> u64
+    ensures { result ≡ end_of name.now }
+{
+    match name.len().checked_sub(END_LENGTH) {
+        Some(at) => BigEndian::read_u64(&name[at..]),
+        None => 0,
     }
 }
 
