@@ -75,7 +75,7 @@ fn single_section<'a>(known: SolvedSuffix<'a>, here: OpenState<'a>, section: u32
 }
 
 /// Returns the extension after the first fixup.
-pub(crate) fn value_after(known: SolvedSuffix<'_>, here: OpenState<'_>) -> u64
+pub(crate) fn value_after<'a>(known: SolvedSuffix<'a>, here: OpenState<'a>) -> u64
     requires here { HereOf known here }
     ensures is { (l : Labels) → Agrees l known.entry here.entry.others.now → result ≡ extension l here.entry.others.now (here.entry.first.offset + 4) here.entry.place.c here.entry.place.d }
     ensures small { result ≤ 4 * length here.entry.others.now + 2 }

@@ -4,7 +4,7 @@ ghost use Rattle.pef_reloc.specs.declared.fixup.Base.TheVariants.{Section};
 
 use crate::direct::direct;
 use crate::moves::{increment, label_of, set_c, set_d, set_position};
-use crate::runs::{OpenState, PlanState, SolvedSuffix, Step};
+use crate::runs::{LabelledSuffix, OpenState, PlanState, SolvedSuffix, Step};
 use crate::skips::best_skip;
 use pef_cert::{REACH, SKIP_REACH, WORD, class_of};
 use pef_reloc::Base;
@@ -43,7 +43,12 @@ pub(crate) fn step_to<'a>(known: SolvedSuffix<'a>, here: OpenState<'a>) -> Step<
     let ahead = u64::from(here.first.offset).saturating_sub(place.position);
     let row = known.row(place.left.len());
     let label = label_of(known, row, place.c, place.d);
-    let value = known.value_in(row, place.left, place.position, place.c, place.d);
+    let at = LabelledSuffix {
+        row,
+        rest: place.left,
+        position: place.position,
+    };
+    let value = known.value_in(at, place.c, place.d);
     if value == 2 + label {
         return set_position(known, here);
     }

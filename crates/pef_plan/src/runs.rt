@@ -12,4 +12,4 @@ mod suffix;
 pub use ends::RunEnds;
 pub use run::Run;
 pub use state::{Choice, FixupState, OpenState, PlanState, Step};
-pub use suffix::SolvedSuffix;
+pub use suffix::{LabelledSuffix, SolvedSuffix};

@@ -90,8 +90,9 @@ impl RunEnds {
         ensures len { length row.new ≡ length row.old }
         ensures are { (i : ℕ) → i < length row.old → slice_index row.new i ≡ cost + slice_index self.now.near.items i }
     {
+        let near = self.near.as_slice();
         'places: for place in 0..row.len() {
-            row[place] = cost + self.near[place];
+            row[place] = cost + near[place];
         }
     }
 

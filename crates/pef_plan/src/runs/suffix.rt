@@ -31,6 +31,14 @@ pub struct SolvedSuffix<'a> {
     pub looks: Looks<'a>,
 }
 
+/// The fixups that are left, their labels, and a position in bytes.
+#[derive(Clone, Copy)]
+pub struct LabelledSuffix<'a> {
+    pub row: &'a [u32],
+    pub rest: &'a [Fixup],
+    pub position: u64,
+}
+
 impl<'a> SolvedSuffix<'a> {
     /// Returns the number of classes of sections, one more than the number of `registers`.
     pub fn classes(self) -> usize
@@ -64,32 +72,38 @@ impl<'a> SolvedSuffix<'a> {
     /// Returns the extension, in halfwords, for the fixups that are left, a position in bytes and the
     /// registers' classes. Each call counts as one look.
     #[inline(always)]
-    pub fn value(self, rest: &[Fixup], position: u64, c: usize, d: usize) -> u64
+    pub fn value(self, rest: &'a [Fixup], position: u64, c: usize, d: usize) -> u64
         requires shaped { Shaped self (length rest.now) }
         requires c { c < length self.registers.now + 1 }
         requires d { d < length self.registers.now + 1 }
-        ensures is { (l : Labels) → Agrees l self.entry rest.now → result ≡ extension l rest.now position c d }
-        ensures small { result ≤ 4 * length rest.now + 2 }
+        ensures is { (l : Labels) → Agrees l self.entry rest.entry.now → result ≡ extension l rest.entry.now position c d }
+        ensures small { result ≤ 4 * length rest.entry.now + 2 }
     {
-        self.value_in(self.row(rest.len()), rest, position, c, d)
+        let row = self.row(rest.len());
+        let at = LabelledSuffix {
+            row,
+            rest,
+            position,
+        };
+        self.value_in(at, c, d)
     }
 
     /// Returns the same from the labels for these fixups.
     #[inline(always)]
-    pub fn value_in(self, row: &'a [u32], rest: &[Fixup], position: u64, c: usize, d: usize) -> u64
-        requires row { IsRow self (length rest.now) row.now }
-        requires shaped { Shaped self (length rest.now) }
+    pub fn value_in(self, at: LabelledSuffix<'a>, c: usize, d: usize) -> u64
+        requires row { IsRow self (length at.rest.now) at.row.now }
+        requires shaped { Shaped self (length at.rest.now) }
         requires c { c < length self.registers.now + 1 }
         requires d { d < length self.registers.now + 1 }
-        ensures is { (l : Labels) → Agrees l self.entry rest.now → result ≡ extension l rest.now position c d }
-        ensures small { result ≤ 4 * length rest.now + 2 }
+        ensures is { (l : Labels) → Agrees l self.entry at.entry.rest.now → result ≡ extension l at.entry.rest.now at.entry.position c d }
+        ensures small { result ≤ 4 * length at.entry.rest.now + 2 }
     {
         self.looks.add(1);
         let place = self.place(c, d);
-        if begin_at(rest, position) {
-            return u64::from(row[place]);
+        if begin_at(at.rest, at.position) {
+            return u64::from(at.row[place]);
         }
-        match self.ahead(row, rest, position) {
+        match self.ahead(at) {
             Some(ahead) => ahead.value(place, c, d),
             None => 0,
         }
@@ -97,16 +111,16 @@ impl<'a> SolvedSuffix<'a> {
 
     /// Returns the first of these fixups, seen from a position.
     #[inline(always)]
-    fn ahead(self, row: &'a [u32], rest: &[Fixup], position: u64) -> Option<NextFixup<'a>>
-        requires row { IsRow self (length rest.now) row.now }
-        requires shaped { Shaped self (length rest.now) }
-        ensures { MatchOption result (rest.now ≡ []) (λ ahead. IsAhead self.entry rest.now position ahead) }
+    fn ahead(self, at: LabelledSuffix<'a>) -> Option<NextFixup<'a>>
+        requires row { IsRow self (length at.rest.now) at.row.now }
+        requires shaped { Shaped self (length at.rest.now) }
+        ensures { MatchOption result (at.entry.rest.now ≡ []) (λ ahead. IsAhead self.entry at.entry.rest.now at.entry.position ahead) }
     {
-        let first = rest.first()?;
+        let first = at.rest.first()?;
         Some(NextFixup {
-            bytes: u64::from(first.offset).saturating_sub(position),
-            row,
-            skips: self.skips.row(rest.len()),
+            bytes: u64::from(first.offset).saturating_sub(at.position),
+            row: at.row,
+            skips: self.skips.row(at.rest.len()),
             class: self.class_ahead(first.base),
         })
     }
@@ -123,7 +137,7 @@ impl<'a> SolvedSuffix<'a> {
     }
 
     /// Fills in the extension right after a fixup, for each pair of classes.
-    pub fn fill_after(self, at: FixupState<'_>, near: &mut [u32])
+    pub fn fill_after(self, at: FixupState<'a>, near: &mut [u32])
         requires at { AtOf self at }
         requires len { length near.old ≡ (length self.registers.now + 1) * (length self.registers.now + 1) }
         ensures len { length near.new ≡ length near.old }
@@ -136,28 +150,35 @@ impl<'a> SolvedSuffix<'a> {
             self.looks.add(row.len() as u64);
             near.copy_from_slice(row);
         } else {
-            self.fill_values(row, at.others, position, near);
+            self.fill_values(
+                LabelledSuffix {
+                    row,
+                    rest: at.others,
+                    position,
+                },
+                near,
+            );
         }
     }
 
     /// Fills in the extension at a position that has none of these fixups, for each pair of classes.
-    fn fill_values(self, row: &'a [u32], rest: &[Fixup], position: u64, values: &mut [u32])
-        requires row { IsRow self (length rest.now) row.now }
-        requires shaped { Shaped self (length rest.now) }
-        requires away { begin_at position rest.now ≡ false }
+    fn fill_values(self, at: LabelledSuffix<'a>, values: &mut [u32])
+        requires row { IsRow self (length at.rest.now) at.row.now }
+        requires shaped { Shaped self (length at.rest.now) }
+        requires away { begin_at at.position at.rest.now ≡ false }
         requires len { length values.old ≡ (length self.registers.now + 1) * (length self.registers.now + 1) }
         ensures len { length values.new ≡ length values.old }
-        ensures are { (c d : ℕ) → c < length self.entry.registers.now + 1 → d < length self.entry.registers.now + 1 → ValueIs self.entry rest.now position c d (number_in (length self.entry.registers.now + 1) values.new c d) }
+        ensures are { (c d : ℕ) → c < length self.entry.registers.now + 1 → d < length self.entry.registers.now + 1 → ValueIs self.entry at.entry.rest.now at.entry.position c d (number_in (length self.entry.registers.now + 1) values.new c d) }
     {
         self.looks.add(values.len() as u64);
-        match self.ahead(row, rest, position) {
+        match self.ahead(at) {
             Some(ahead) => fill_ahead(ahead, self.classes(), values),
             None => values.fill(0),
         }
     }
 
     /// Fills in the extension one word further on with the fixup's section in register D, by the class of C.
-    pub fn fill_beyond(self, at: FixupState<'_>, section: u32, far: &mut [u32])
+    pub fn fill_beyond(self, at: FixupState<'a>, section: u32, far: &mut [u32])
         requires at { AtOf self at }
         requires base { at.first.base ≡ Section section }
         requires len { length far.old ≡ length self.registers.now + 1 }
@@ -171,30 +192,31 @@ impl<'a> SolvedSuffix<'a> {
             self.looks.add(far.len() as u64);
             self.copy_column(row, class, far);
         } else {
-            self.fill_column(row, at.others, position, class, far);
+            self.fill_column(
+                LabelledSuffix {
+                    row,
+                    rest: at.others,
+                    position,
+                },
+                class,
+                far,
+            );
         }
     }
 
     /// Fills in the extension at a position that has none of these fixups. Register D is in a class, and the
     /// numbers are by the class of C.
-    fn fill_column(
-        self,
-        row: &'a [u32],
-        rest: &[Fixup],
-        position: u64,
-        class: usize,
-        values: &mut [u32],
-    )
-        requires row { IsRow self (length rest.now) row.now }
-        requires shaped { Shaped self (length rest.now) }
-        requires away { begin_at position rest.now ≡ false }
+    fn fill_column(self, at: LabelledSuffix<'a>, class: usize, values: &mut [u32])
+        requires row { IsRow self (length at.rest.now) at.row.now }
+        requires shaped { Shaped self (length at.rest.now) }
+        requires away { begin_at at.position at.rest.now ≡ false }
         requires class { class < length self.registers.now + 1 }
         requires len { length values.old ≡ length self.registers.now + 1 }
         ensures len { length values.new ≡ length values.old }
-        ensures are { (c : ℕ) → c < length self.entry.registers.now + 1 → (l : Labels) → Agrees l self.entry rest.now → slice_index values.new c ≡ extension l rest.now position c class }
+        ensures are { (c : ℕ) → c < length self.entry.registers.now + 1 → (l : Labels) → Agrees l self.entry at.entry.rest.now → slice_index values.new c ≡ extension l at.entry.rest.now at.entry.position c class }
     {
         self.looks.add(values.len() as u64);
-        match self.ahead(row, rest, position) {
+        match self.ahead(at) {
             Some(ahead) => fill_column_ahead(ahead, class, values),
             None => values.fill(0),
         }

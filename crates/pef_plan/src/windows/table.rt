@@ -1,4 +1,4 @@
-ghost use Rattle.std.specs.Prelude.{◌≡◌, ◌+◌, ◌-◌, ◌^◌, ◌<◌, ◌++◌, ◌∷◌, [], IfOk, MatchOption, OnErr, OnOk, Some, None, length, replicate, slice_get, slice_index_or, take};
+ghost use Rattle.std.specs.Prelude.{◌≡◌, ◌+◌, ◌-◌, ◌^◌, ◌<◌, ◌++◌, ◌∷◌, [], IfOk, if◌then◌else◌, is_ok, MatchOption, OnErr, OnOk, Some, None, length, replicate, slice_get, slice_index_or, take};
 
 use std::alloc::{AllocError, Global};
 use std::marker::Model;
@@ -55,7 +55,7 @@ impl Table {
         ensures ok { OnOk result (self.new ≡ record { width = self.old.width; rows = self.old.rows ++ row.now ∷ [] }) }
         ensures err { OnErr result (self.new ≡ self.old) }
     {
-        self.values.extend_from_slice(row)?;
+        append(&mut self.values, row)?;
         self.rows += 1;
         Ok(())
     }
@@ -103,6 +103,28 @@ impl Table {
         self.rows = 0;
         self.values.clear();
     }
+}
+
+/// The most numbers that are appended one by one.
+const FEW: usize = 4;
+
+/// Appends the numbers of a row. A few are appended faster one by one than by a copy.
+///
+/// # Errors
+///
+/// `AllocError`, if the allocation failed. The values are unchanged then.
+#[inline(always)]
+pub(crate) fn append(values: &mut Vec<u32>, row: &[u32]) -> Result<(), AllocError>
+    ensures items { values.new.items ≡ (if is_ok result then values.old.items ++ row.now else values.old.items) }
+{
+    if row.len() > FEW {
+        return values.extend_from_slice(row);
+    }
+    values.reserve(row.len())?;
+    'numbers: for i in 0..row.len() {
+        values.push(row[i])?;
+    }
+    Ok(())
 }
 
 /// Returns `count` zeros.

@@ -2,7 +2,7 @@ ghost use Rattle.std.specs.Prelude.{◌≡◌, ◌+◌, ◌-◌, ◌^◌, ◌<�
 ghost use Rattle.pef_plan.specs.Windows.Windows.{BestOf, LesserOf, OlderOf, WindowOf};
 
 use crate::windows::looks::Looks;
-use crate::windows::table::Table;
+use crate::windows::table::{Table, append};
 use std::alloc::{AllocError, Global};
 use std::marker::Model;
 
@@ -90,7 +90,7 @@ impl Window {
     {
         if self.newer.rows() == 0 {
             self.low.clear();
-            self.low.extend_from_slice(row)?;
+            append(&mut self.low, row)?;
         } else {
             lower(&mut self.low, row);
         }

@@ -8,9 +8,9 @@ pub returns-in-Some-clause-are : goal.returns-in-Some-clause-are
 returns-in-Some-clause-are c = λ x under l agrees.
     let a = c.args in
     let value = subst (λ r. (x < r → slice_index c.fill_column_ahead.new.values x ≡ value_ahead r c.in-Some.ahead x a.class)) c.requires.len (c.fill_column_ahead.ensures.are x) in
-    value under ∙ value-ahead l a.self a.rest.now a.position x a.class c.in-Some.ahead c.in-Some.ensures c.requires.away agrees under c.requires.class
+    value under ∙ value-ahead l a.self a.at.rest.now a.at.position x a.class c.in-Some.ahead c.in-Some.ensures c.requires.away agrees under c.requires.class
 
 pub returns-in-None-clause-are : goal.returns-in-None-clause-are
 returns-in-None-clause-are c = λ x under l agrees.
     let a = c.args in
-    zeros_at (length a.values.now) x c.fill.new.self (c.fill.ensures.after (λ v is. is)) ∙ value-end l a.rest.now a.position x a.class (ap length c.in-None.ensures)
+    zeros_at (length a.values.now) x c.fill.new.self (c.fill.ensures.after (λ v is. is)) ∙ value-end l a.at.rest.now a.at.position x a.class (ap length c.in-None.ensures)

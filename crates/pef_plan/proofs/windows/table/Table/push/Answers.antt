@@ -13,5 +13,5 @@ pub returns-clause-ok : goal.returns-clause-ok
 returns-clause-ok c =
     let s = c.self.inside in
     let wide = rw (← c.self.view_is) at c.requires.wide in
-    rw (← c.self.view_is, c.in_ok-extend_from_slice.ensures.items)
+    rw (← c.self.view_is, c.in_ok-append.ensures.items)
     (ap (λ rows. record { width = s.width; rows = rows }) (rows-push s.rows s.width s.values.items c.args.row.now c.self.invariant wide))
