@@ -37,22 +37,37 @@ pub fn print_detail<W: Sink>(
 fn print_oddity<W: Sink>(out: &mut W, page: &mut Page, oddity: Oddity) -> Result<(), StreamFault>
     ensures { Sends result (W.stream out.old) (W.stream out.new) page.old.items page.new.items (oddity_text oddity) }
 {
-    let sentence = match oddity {
-        Oddity::CarriageReturn => {
-            b"\nThe line has a carriage return. Save the script with line feeds alone.\n".as_slice()
-        }
-        Oddity::Tab => b"\nThe line has a tab. Write one space in its place.\n",
-        Oddity::Byte => b"\nThe line has a byte that isn't printing ASCII.\n",
-        Oddity::SpaceAtStart => b"\nThe line begins with a space.\n",
-        Oddity::SpaceAtEnd => b"\nThe line ends with a space.\n",
-        Oddity::TwoSpaces => b"\nThe line has two spaces in a row.\n",
-        Oddity::FirstWord => b"\nNo line of a script begins with its first word.\n",
-        Oddity::Words { has, wants } => return print_words(out, page, has, wants),
-        Oddity::Spelling => {
-            b"\nA name has more than 255 bytes, or the hex digits aren't pairs.\n"
-        }
-    };
-    send(out, page, sentence)
+    match oddity {
+        Oddity::CarriageReturn => send(
+            out,
+            page,
+            b"\nThe line has a carriage return. Save the script with line feeds alone.\n",
+        ),
+        Oddity::Tab => send(
+            out,
+            page,
+            b"\nThe line has a tab. Write one space in its place.\n",
+        ),
+        Oddity::Byte => send(
+            out,
+            page,
+            b"\nThe line has a byte that isn't printing ASCII.\n",
+        ),
+        Oddity::SpaceAtStart => send(out, page, b"\nThe line begins with a space.\n"),
+        Oddity::SpaceAtEnd => send(out, page, b"\nThe line ends with a space.\n"),
+        Oddity::TwoSpaces => send(out, page, b"\nThe line has two spaces in a row.\n"),
+        Oddity::FirstWord => send(
+            out,
+            page,
+            b"\nNo line of a script begins with its first word.\n",
+        ),
+        Oddity::Words { has, wants } => print_words(out, page, has, wants),
+        Oddity::Spelling => send(
+            out,
+            page,
+            b"\nA name has more than 255 bytes, or the hex digits aren't pairs.\n",
+        ),
+    }
 }
 
 /// Prints the sentence on the number of words in a line and the number that the line should have.
