@@ -1,8 +1,8 @@
 -- Lines and squares of numbers: filled place by place, and the least of them.
-use Rattle.std.proofs.Common.{◌≡◌, ℕ, ◌+◌, ◌*◌, ◌<◌, ◌≤◌, ◌⊎◌, inl, inr, min, List, slice_index, ap, sym, ◌∙◌, arith}
+use Rattle.std.proofs.Common.{◌≡◌, ◌≢◌, ℕ, ◌+◌, ◌*◌, ◌<◌, ◌≤◌, ◌⊎◌, inl, inr, min, List, slice_index, refl, ap, sym, ◌∙◌, arith}
 use Rattle.std.proofs.lemmas.Bool.Decides.{eqb_tells}
 use Rattle.pef_words.proofs.Laws.Numbers.{min_is}
-use Rattle.pef_plan.specs.Kept.Rows.{ClosedOf, LeastOf, LineOf, LinesOf, SmallLine}
+use Rattle.pef_plan.specs.Kept.Rows.{AlongOf, ClosedOf, LeastOf, LineOf, LinesOf, SmallLine}
 use Rattle.pef_plan.proofs.RunsProofs.PlaceLemmas.{place_under}
 use Rattle.pef_plan.specs.Runs.Tables.{number_in, place_of}
 
@@ -30,6 +30,37 @@ least-more i f low next l is =
           | inr other ↦ (let apart = other.1 in let u = l.low x (omega (arith, under)) in omega (arith, u))
         ]
 
+-- the least of no numbers, or 1 more than their lower bound
+pub along-none : (f : ℕ → ℕ) (low : ℕ) → AlongOf 0 f low (low + 1)
+along-none f low = record { each = λ x under. absurd (omega (arith, under)); most = omega arith; one = inr refl }
+
+-- the same of one more number
+pub along-more : (i : ℕ) (f : ℕ → ℕ) (low along next : ℕ) → ((x : ℕ) → x < i + 1 → low ≤ f x) → AlongOf i f low along → (f i ≡ low → next ≡ low) → (f i ≢ low → next ≡ along) → AlongOf (i + 1) f low next
+along-more i f low along next above a equal other =
+    elim (eqb_tells (f i) low) [
+      | inl same ↦
+          (let is = equal same.1 in
+          record {
+            each = λ x under. let u = above x under in omega (arith, is, u);
+            most = omega (arith, is);
+            one = inl (i, omega arith, same.1 ∙ sym is);
+          })
+      | inr apart ↦
+          (let is = other apart.1 in
+          record {
+            each = λ x under. later x under is apart.1;
+            most = (let m = a.most in omega (arith, is, m));
+            one = elim a.one [ inl it ↦ inl (it.0, (let u = it.1 in omega (arith, u)), it.2 ∙ sym is) | inr last ↦ inr (is ∙ last) ];
+          })
+    ]
+  where
+    later : (x : ℕ) → x < i + 1 → next ≡ along → f i ≢ low → next ≤ f x
+    later x under is apart =
+        elim (eqb_tells x i) [
+          | inl same ↦ (let e = ap f same.1 in let m = a.most in let u = above i (omega arith) in omega (arith, e, is, m, u, apart))
+          | inr differ ↦ (let away = differ.1 in let u = a.each x (omega (arith, under, away)) in omega (arith, is, u))
+        ]
+
 -- a number of a line of labels, from the least along the line and in its column
 pub record NumberOf (count : ℕ) (direct : ℕ → ℕ) (low same lows number : ℕ) : Type 0 where
   pub here : number ≤ same
@@ -38,20 +69,20 @@ pub record NumberOf (count : ℕ) (direct : ℕ → ℕ) (low same lows number :
   pub all : number ≤ low + 2
   pub is : ((number ≡ same) ⊎ (number ≡ lows + 1)) ⊎ (((e : ℕ) × (e < count) × (number ≡ direct e + 1)) ⊎ (number ≡ low + 2))
 
-four_of : (a b s t n : ℕ) → n ≡ min (min a (b + 1)) (min s (t + 1) + 1) → ((n ≡ a) ⊎ (n ≡ b + 1)) ⊎ ((n ≡ s + 1) ⊎ (n ≡ t + 2))
-four_of a b s t n e = grind (arith, e)
+three_of : (a b s n : ℕ) → n ≡ min (min a (b + 1)) (s + 1) → ((n ≡ a) ⊎ (n ≡ b + 1)) ⊎ (n ≡ s + 1)
+three_of a b s n e = grind (arith, e)
 
-pub number-of : (count : ℕ) (direct : ℕ → ℕ) (low here column along number : ℕ) → LeastOf count direct along → number ≡ min (min here (column + 1)) (min along (low + 1) + 1) → NumberOf count direct low here column number
+pub number-of : (count : ℕ) (direct : ℕ → ℕ) (low here column along number : ℕ) → AlongOf count direct low along → number ≡ min (min here (column + 1)) (along + 1) → NumberOf count direct low here column number
 number-of count direct low here column along number l e = record {
   here = omega (arith, e);
   column = omega (arith, e);
-  along = λ x under. let u = l.low x under in omega (arith, e, u);
-  all = omega (arith, e);
-  is = elim (four_of here column along low number e) [
+  along = λ x under. let u = l.each x under in omega (arith, e, u);
+  all = (let u = l.most in omega (arith, e, u));
+  is = elim (three_of here column along number e) [
     | inl first ↦ inl first
-    | inr second ↦ elim second [
-      | inl line ↦ inr (inl (l.at, l.under, line ∙ ap (λ v. v + 1) (sym l.is)))
-      | inr all ↦ inr (inr all)
+    | inr line ↦ elim l.one [
+      | inl it ↦ inr (inl (it.0, it.1, line ∙ ap (λ v. v + 1) (sym it.2)))
+      | inr last ↦ inr (inr (omega (arith, line, last)))
     ]
   ];
 }

@@ -1,11 +1,11 @@
-ghost use Rattle.std.specs.Prelude.{◌≡◌, ◌+◌, ◌*◌, ◌<◌, ◌≤◌, ◌⊎◌, ◌∷◌, ℕ, length, min, slice_index};
+ghost use Rattle.std.specs.Prelude.{◌≡◌, ◌≢◌, ◌+◌, ◌*◌, ◌<◌, ◌≤◌, ◌⊎◌, ◌∷◌, ℕ, length, min, slice_index};
 ghost use Rattle.pef_cert.specs.Labels.{class_of};
 ghost use Rattle.pef_cert.specs.LabelTests.{import_cost};
 ghost use Rattle.pef_reloc.specs.declared.fixup.Base.TheVariants.{Import, Section};
 ghost use Rattle.pef_plan.specs.Runs.Ends.{EndsAt};
 ghost use Rattle.pef_plan.specs.Runs.Places.{AtOf};
 ghost use Rattle.pef_plan.specs.Runs.Tables.{number_in, place_of};
-ghost use Rattle.pef_plan.specs.Kept.Rows.{Adds, AddsInBoth, AddsInC, ClosedOf, DirectRow, EachState, LeastOf, LineOf, LinesOf, RowOf, SmallLine, state_of};
+ghost use Rattle.pef_plan.specs.Kept.Rows.{Adds, AddsInBoth, AddsInC, AlongOf, ClosedOf, DirectRow, EachState, LeastOf, LineOf, LinesOf, RowOf, SmallLine, state_of};
 ghost use Rattle.pef_reloc.specs.Limits.{most_sections};
 
 use crate::direct::SMALL_IMPORTS;
@@ -256,14 +256,40 @@ fn close_line(row: &mut [u32], start: usize, lows: &[u32], low: u32)
     requires inside { start + length lows.now ≤ length row.old }
     requires lows { SmallLine (length lows.now) lows.now }
     requires low { low ≤ 1048576 }
+    requires above { (d : ℕ) → d < length lows.now → low ≤ slice_index row.old (start + d) }
     ensures len { length row.new ≡ length row.old }
     ensures line { LineOf (length lows.now) (λ d. slice_index row.old (start + d)) (λ d. slice_index lows.now d) low (λ d. slice_index row.new (start + d)) }
     ensures others { (i : ℕ) → (i < start) ⊎ (start + length lows.now ≤ i) → slice_index row.new i ≡ slice_index row.old i }
 {
-    let along = least(row, start, lows.len()).min(low + 1);
+    let along = least_along(row, start, lows.len(), low);
     'classes: for d in 0..lows.len() {
         row[start + d] = row[start + d].min(lows[d] + 1).min(along + 1);
     }
+}
+
+/// Returns the least of the numbers of a line, or `low + 1` if that is less. None of them is below `low`. The line
+/// begins at `start`.
+fn least_along(row: &[u32], start: usize, count: usize, low: u32) -> u32
+    requires inside { start + count ≤ length row.now }
+    requires low { low ≤ 1048576 }
+    requires above { (d : ℕ) → d < count → low ≤ slice_index row.now (start + d) }
+    ensures is { AlongOf count (λ d. slice_index row.now (start + d)) low result }
+    ensures small { result ≤ low + 1 }
+{
+    let mut along = low + 1;
+    'numbers: for d in 0..count {
+        along = low_if_equal(row[start + d], low, along);
+    }
+    along
+}
+
+/// Returns `low` if a number is equal to it, and otherwise `along`.
+#[inline(always)]
+fn low_if_equal(number: u32, low: u32, along: u32) -> u32
+    ensures equal { number ≡ low → result ≡ low }
+    ensures other { number ≢ low → result ≡ along }
+{
+    if number == low { low } else { along }
 }
 
 /// Returns the least of `count` numbers, beginning at index `from`.

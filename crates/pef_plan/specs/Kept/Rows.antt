@@ -59,6 +59,12 @@ pub record LeastOf (count : ℕ) (f : ℕ → ℕ) (value : ℕ) : Type 0 where
   pub under : at < count
   pub is : f at ≡ value
 
+-- the least of so many numbers, or 1 more than a lower bound if that is less
+pub record AlongOf (count : ℕ) (f : ℕ → ℕ) (low value : ℕ) : Type 0 where
+  pub each : (x : ℕ) → x < count → value ≤ f x
+  pub most : value ≤ low + 1
+  pub one : ((x : ℕ) × (x < count) × (f x ≡ value)) ⊎ (value ≡ low + 1)
+
 -- a line of labels, computed from a line of direct values, the least of each column, and the least of all
 pub record LineOf (count : ℕ) (direct lows : ℕ → ℕ) (low : ℕ) (line : ℕ → ℕ) : Type 0 where
   pub here : (d : ℕ) → d < count → line d ≤ direct d

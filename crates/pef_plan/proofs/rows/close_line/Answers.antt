@@ -1,4 +1,4 @@
-use Rattle.std.proofs.Common.{◌≡◌, ◌+◌, ◌∙◌, ℕ, ap, ap₂, arith, inl, inr, length, min, slice_index, subst, sym}
+use Rattle.std.proofs.Common.{◌≡◌, ◌+◌, ◌∙◌, ℕ, ap, arith, inl, inr, length, min, slice_index, subst, sym}
 use Rattle.std.specs.Prelude.{slice_set}
 use Rattle.std.proofs.lemmas.Bool.Decides.{eqb_tells}
 use Rattle.std.proofs.lemmas.List.{get_or-set_other, get_or-set_same, length-set}
@@ -15,8 +15,8 @@ classes-preserved c =
     let inside = c.requires.inside in
     let number = c.min-in-classes.result in
     let before : slice_index c.classes.row (a.start + d) ≡ slice_index a.row.now (a.start + d) = i.others (a.start + d) (inr (omega arith)) in
-    let new = number-of (length a.lows.now) (λ e. slice_index a.row.now (a.start + e)) a.low (slice_index a.row.now (a.start + d)) (slice_index a.lows.now d) c.least.result number c.least.ensures
-    (c.min-in-classes.ensures ∙ ap₂ (λ x y. min x (y + 1)) (c.min.ensures ∙ ap (λ x. min x (slice_index a.lows.now d + 1)) before) c.min-along.ensures) in
+    let new = number-of (length a.lows.now) (λ e. slice_index a.row.now (a.start + e)) a.low (slice_index a.row.now (a.start + d)) (slice_index a.lows.now d) c.least_along-along.result number c.least_along-along.ensures.is
+    (c.min-in-classes.ensures ∙ ap (λ x. min x (c.least_along-along.result + 1)) (c.min.ensures ∙ ap (λ x. min x (slice_index a.lows.now d + 1)) before)) in
     record {
       len = length-set c.classes.row (a.start + d) number ∙ len;
       are = λ e low.
