@@ -8,6 +8,6 @@ mod numbers;
 mod pairs;
 mod words;
 
-pub use numbers::{decimal_number, hex_number};
+pub use numbers::{decimal_number, first_number, hex_number};
 pub use pairs::Pairs;
 pub use words::{LINE_FEED, cut_at, cut_near, last_word, next_word};

@@ -19,8 +19,8 @@ fn append_numbers(line: Line<'_>, words: Words<'_>, numbers: &mut Vec<u32>) -> R
     ensures { Says (result_map (λ _. numbers.new.items) result) line.entry.number (option_map (λ more. numbers.old.items ++ more) (numbers_in (words_left words.entry))) }
 {
     let mut words = words;
-    while let Some(word) = words.next_word() {
-        let Some(number) = decimal_number(word) else {
+    'words: while !words.is_empty() {
+        let Some(number) = words.next_number() else {
             return Err(line.fault());
         };
         numbers.push(number)?;

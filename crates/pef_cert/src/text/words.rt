@@ -2,7 +2,7 @@ ghost use Rattle.std.specs.Prelude.{◌≡◌, option_map};
 ghost use Rattle.pef_cert.specs.Text.Kept.Reading.{words_left};
 ghost use Rattle.pef_cert.specs.Text.Words.{behind, first_number, first_of, none_left, words_of};
 
-use pef_lines::{cut_near, decimal_number};
+use pef_lines::{cut_near, first_number};
 
 /// The words that are left of a line.
 #[derive(Clone, Copy)]
@@ -46,10 +46,16 @@ impl<'a> Words<'a> {
     }
 
     /// Takes the next word, and returns its number.
+    #[inline(always)]
     pub fn next_number(&mut self) -> Option<u32>
         ensures { option_map (λ number. (number, words_left self.new)) result ≡ first_number (words_left self.old) }
     {
-        decimal_number(self.next_word()?)
+        let Some(line) = self.rest else {
+            return None;
+        };
+        let (number, rest) = first_number(line)?;
+        self.rest = rest;
+        Some(number)
     }
 
     /// Takes the next word if it is the expected one.

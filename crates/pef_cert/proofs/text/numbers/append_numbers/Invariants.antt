@@ -4,8 +4,8 @@ use Rattle.pef_cert.specs.Text.Words.{numbers_in}
 use Rattle.pef_cert.proofs.text.numbers.append_numbers.Given as goal
 
 -- the numbers so far and those of the words that are left are those of all
-abbrev pub invariant-loop-word : goal.invariant-loop-word
-invariant-loop-word l = option_map (λ more. l.numbers.items ++ more) (numbers_in (words_left l.words)) ≡ option_map (λ more. l.fn.numbers.items ++ more) (numbers_in (words_left l.fn.words))
+abbrev pub invariant-words : goal.invariant-words
+invariant-words l = option_map (λ more. l.numbers.items ++ more) (numbers_in (words_left l.words)) ≡ option_map (λ more. l.fn.numbers.items ++ more) (numbers_in (words_left l.fn.words))
 
-abbrev pub decreases-loop-word : goal.decreases-loop-word
-decreases-loop-word l = length (words_left l.words)
+abbrev pub decreases-words : goal.decreases-words
+decreases-words l = length (words_left l.words)
