@@ -11,7 +11,7 @@ use crate::claim::CheckedSuffix;
 use crate::classes::class_of;
 use crate::feasible::TestedFixup;
 use crate::fixups::WORD;
-use crate::runs::TestedState;
+use crate::runs::{PairRun, TestedState};
 use pef_reloc::Base;
 
 impl<'a> CheckedSuffix<'a> {
@@ -122,8 +122,18 @@ impl<'a> CheckedSuffix<'a> {
         if class_of(self.claim.registers, other) == tested.d {
             let position = u64::from(tested.fixup.offset);
             let (first, second) = (Base::Section(section), Base::Section(other));
-            return self.pairs_hold(tested, position, 2 * WORD, first, second)
-                && self.pairs_hold(tested, position, 3 * WORD, first, second);
+            let near = PairRun {
+                stride: 2 * WORD,
+                first,
+                second,
+            };
+            let far = PairRun {
+                stride: 3 * WORD,
+                first,
+                second,
+            };
+            return self.pairs_hold(tested, position, near)
+                && self.pairs_hold(tested, position, far);
         }
         true
     }

@@ -33,6 +33,14 @@ pub(crate) struct CheckedSuffix<'a> {
     pub(crate) skips: &'a [[u32; MAX_CLASSES]],
 }
 
+/// Where a machine is: its position, and the classes of its registers.
+#[derive(Clone, Copy)]
+struct MachineState {
+    position: u64,
+    c: usize,
+    d: usize,
+}
+
 impl<'a> Claim<'a> {
     /// Returns how many classes there are.
     pub(crate) fn classes(self) -> usize
@@ -92,7 +100,7 @@ impl<'a> CheckedSuffix<'a> {
         ensures small { result ≤ 2 ^ 32 + 1 }
     {
         match self.claim.fixups.get(at) {
-            Some(fixup) => self.value_before(at, *fixup, position, c, d),
+            Some(fixup) => self.value_before(at, *fixup, MachineState { position, c, d }),
             None => 0,
         }
     }
@@ -108,24 +116,25 @@ impl<'a> CheckedSuffix<'a> {
     }
 
     /// Returns the extension when the fixups from index `at` on are left, of which this is the first.
-    fn value_before(self, at: usize, fixup: Fixup, position: u64, c: usize, d: usize) -> u64
+    fn value_before(self, at: usize, fixup: Fixup, state: MachineState) -> u64
         requires sees { Sees self at }
-        requires after { word_end self.claim.fixups.now at ≤ position }
+        requires after { word_end self.claim.fixups.now at ≤ state.position }
         requires fixup { slice_get self.claim.fixups.now at ≡ Some fixup }
-        requires c { c < length self.claim.registers.now + 1 }
-        requires d { d < length self.claim.registers.now + 1 }
-        ensures is { result ≡ extension (labels_claimed self.entry.claim) (drop at self.entry.claim.fixups.now) position c d }
+        requires c { state.c < length self.claim.registers.now + 1 }
+        requires d { state.d < length self.claim.registers.now + 1 }
+        ensures is { result ≡ extension (labels_claimed self.entry.claim) (drop at self.entry.claim.fixups.now) state.position state.c state.d }
         ensures small { result ≤ 2 ^ 32 + 1 }
     {
-        let label = self.label(at, c, d);
+        let label = self.label(at, state.c, state.d);
         let offset = u64::from(fixup.offset);
-        if position == offset {
+        if state.position == offset {
             return u64::from(label);
         }
-        if position > offset {
+        if state.position > offset {
             return 2 + u64::from(label);
         }
-        moved_value(offset - position, label, self.offer(at, fixup, c, d))
+        let offer = self.offer(at, fixup, state.c, state.d);
+        moved_value(offset - state.position, label, offer)
     }
 
     /// Returns the least offer at index `at`, whose fixup begins after a gap.

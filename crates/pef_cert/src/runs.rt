@@ -21,6 +21,17 @@ pub(crate) struct TestedState {
     pub(crate) label: u32,
 }
 
+/// Pairs of words, one after another, to which two bases are added.
+#[derive(Clone, Copy)]
+pub(crate) struct PairRun {
+    /// How many bytes there are from a pair to the next.
+    pub(crate) stride: u64,
+    /// The base of each pair's first word.
+    pub(crate) first: Base,
+    /// The base of each pair's second word.
+    pub(crate) second: Base,
+}
+
 impl<'a> Claim<'a> {
     /// Returns whether the fixup at index `at` adds `base` at a position.
     pub(crate) fn adds(self, at: usize, position: u64, base: Base) -> bool
@@ -101,34 +112,26 @@ impl<'a> CheckedSuffix<'a> {
         true
     }
 
-    /// Tests a label after each run of two bases side by side, `stride` bytes apart, that begins at a
-    /// position.
-    pub(crate) fn pairs_hold(
-        self,
-        tested: TestedState,
-        position: u64,
-        stride: u64,
-        first: Base,
-        second: Base,
-    ) -> bool
+    /// Tests a label after each run of pairs that begins at a position.
+    pub(crate) fn pairs_hold(self, tested: TestedState, position: u64, run: PairRun) -> bool
         requires tests { Tests self tested }
         requires position { position < 2 ^ 32 }
-        requires stride { 8 ≤ stride }
-        requires stride_small { stride ≤ 12 }
-        requires met { PairsMet self tested stride first second }
-        ensures { result ≡ pairs_test (labels_claimed self.entry.claim) tested.label stride first second tested.c tested.d 512 position (drop tested.at self.entry.claim.fixups.now) }
+        requires stride { 8 ≤ run.stride }
+        requires stride_small { run.stride ≤ 12 }
+        requires met { PairsMet self tested run.stride run.first run.second }
+        ensures { result ≡ pairs_test (labels_claimed self.entry.claim) tested.label run.stride run.first run.second tested.c tested.d 512 position (drop tested.at self.entry.claim.fixups.now) }
     {
         let mut at = tested.at;
         let mut from = position;
         'pairs: for _ in 0..MAX_RUN {
-            if !self.claim.adds_pair(at, from, first, second) {
+            if !self.claim.adds_pair(at, from, run.first, run.second) {
                 return true;
             }
             if self.covers(tested, at) {
                 return true;
             }
             at += 2;
-            from += stride;
+            from += run.stride;
             if !self.follows(tested, at, from) {
                 return false;
             }

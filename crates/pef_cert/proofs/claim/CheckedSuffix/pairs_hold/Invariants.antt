@@ -9,6 +9,6 @@ invariant-pairs l = record {
   at : l.at ≡ l.tested.at + 2 * l.counter;
   inside : l.at ≤ length l.self.claim.fixups.now;
   from : l.from ≤ l.position + 12 * l.counter;
-  left : pairs_test (labels_claimed l.self.claim) l.tested.label l.stride l.first l.second l.tested.c l.tested.d (512 - l.counter) l.from (drop l.at l.self.claim.fixups.now)
-      ≡ pairs_test (labels_claimed l.self.claim) l.tested.label l.stride l.first l.second l.tested.c l.tested.d 512 l.position (drop l.tested.at l.self.claim.fixups.now);
+  left : pairs_test (labels_claimed l.self.claim) l.tested.label l.run.stride l.run.first l.run.second l.tested.c l.tested.d (512 - l.counter) l.from (drop l.at l.self.claim.fixups.now)
+      ≡ pairs_test (labels_claimed l.self.claim) l.tested.label l.run.stride l.run.first l.run.second l.tested.c l.tested.d 512 l.position (drop l.tested.at l.self.claim.fixups.now);
 }
