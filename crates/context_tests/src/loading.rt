@@ -27,10 +27,8 @@ fn prepare_app(context: &mut Context<'_>, machine: &mut Machine) -> Result<(), F
     let app = context.prepare(b"App")?;
     for position in context.fragments(app).unwrap_or(&[]) {
         // copy each section to where the machine has it
-        for i in 0..context.section_count(*position) {
-            if let Some((address, bytes)) = context.fragment_section(*position, i) {
-                machine.write(address, bytes);
-            }
+        for (address, bytes) in context.sections(*position) {
+            machine.write(address, bytes);
         }
     }
     // then run the initialization routines in order, and the main routine
