@@ -43,7 +43,7 @@ use Rattle.pef_write.specs.ReadBack.{program_read}
 use Rattle.pef_write.proofs.Laws.{section_programs}
 use Rattle.pef_headline.specs.Now.{described_extent, described_extents}
 use Rattle.pef_headline.proofs.LinkedLemmas.{IsContainerOf}
-use Rattle.pef_headline.proofs.ProgramLemmas.{Owns, fixups_inside, owns_program, section_made}
+use Rattle.pef_headline.proofs.ProgramLemmas.{Owns, fixups_inside, owns-program, section_made}
 
 -- raw bytes are packed, and expand to the image, or are the image
 raw_expands : (packed : Bool) (image : List ℕ) → length image < 2 ^ 32
@@ -102,19 +102,19 @@ module _ (script : DescribedScript) (k : LinkedContainer) (linked : IsLinked scr
   made a there_are i s there =
       let holds = held i s there in
       let memory = filled s.image s.header.total in
-      let whole : length memory ≡ s.header.total = length-filled s.image s.header.total holds.image in
+      let full : length memory ≡ s.header.total = length-filled s.image s.header.total holds.image in
       let H : ℕ → Type 0 = λ n. SectionHolds n (length a.imports) s in
       let H' : ℕ → Type 0 = λ n. SectionHolds (length script.sections) n s in
       let inside = fixups_inside a s (subst H (sym there_are.sections) (subst H' (sym there_are.imports) holds)) in
       let I : ℕ → Type 0 = λ n. AreInside a n s.fixups in
       let P : ℕ → Type 0 = λ n. (instrs : List Instr) → IsProgramFor n s.fixups instrs → program_done a (spelled instrs) memory ≡ untouched (described_memory (address_of a) s) in
       let parts = fixups_fit-parts s.fixups holds.fixups in
-      let makes : P (length a.sections) = λ instrs program. program-described a s.fixups instrs memory program.flat program.makes program.names (omega (arith, program.short, parts.count, count-length instrs)) parts.apart (subst I (sym whole) inside) in
+      let makes : P (length a.sections) = λ instrs program. program-described a s.fixups instrs memory program.flat program.makes program.names (omega (arith, program.short, parts.count, count-length instrs)) parts.apart (subst I (sym full) inside) in
       let entries = programs_from 0 script.sections linked.programs in
       let from_0 : 0 + i ≡ i = omega arith in
-      let own : Owns (length script.sections) i s.fixups entries = subst (λ j. Owns (length script.sections) j s.fixups entries) from_0 (owns_program (length script.sections) i 0 script.sections linked.programs s linked.are there) in
+      let owns : Owns (length script.sections) i s.fixups entries = subst (λ j. Owns (length script.sections) j s.fixups entries) from_0 (owns-program (length script.sections) i 0 script.sections linked.programs s linked.are there) in
       ap (λ n. relocated_by a i (reloc_of l) 0 n memory) of.tables.reloc_count
-      ∙ section_made a (reloc_of l) entries (length script.sections) i s.fixups memory of.tables.relocs own (subst P there_are.sections makes)
+      ∙ section_made a (reloc_of l) entries (length script.sections) i s.fixups memory of.tables.relocs owns (subst P there_are.sections makes)
 
   pub prepared_is : (a : Addresses) → AreAddresses script a → (i : ℕ) → i < length script.sections → prepared_at c l a i ≡ described_at (address_of a) script i
   prepared_is a there_are i under =
@@ -132,12 +132,12 @@ module _ (script : DescribedScript) (k : LinkedContainer) (linked : IsLinked scr
       let low : i < length entries = omega (arith, under, of.tables.reloc_count) in
       let p = get_or entries i (record { section = 0; bytes = [] }) in
       let there = slice_get-get_or entries i (record { section = 0; bytes = [] }) low in
-      let own = section_programs script k linked i p there in
+      let source = section_programs script k linked i p there in
       let header : reloc_of l i ≡ Some (p.section, p.bytes) = of.tables.relocs i ∙ ap (option_map program_read) there in
       let from_0 : 0 + i ≡ i = omega arith in
       let sound : (relocated_by a p.section (reloc_of l) 0 l.header.reloc_count (filled_at c p.section)).fault ≡ None =
-      ap (λ (m : List ℕ). (relocated_by a p.section (reloc_of l) 0 l.header.reloc_count m).fault) (filled_is p.section own.section own.there)
-      ∙ ap (λ (done : Done). done.fault) (made a there_are p.section own.section own.there) in
+      ap (λ (m : List ℕ). (relocated_by a p.section (reloc_of l) 0 l.header.reloc_count m).fault) (filled_is p.section source.section source.there)
+      ∙ ap (λ (done : Done). done.fault) (made a there_are p.section source.section source.there) in
       refusal-of a (filled_at c) (reloc_of l) i p.section p.bytes header
       ∙ programs-sound a p.section (reloc_of l) i 0 l.header.reloc_count p.bytes (filled_at c p.section) under (ap (reloc_of l) from_0 ∙ header) sound
 

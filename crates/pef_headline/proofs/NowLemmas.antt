@@ -34,33 +34,34 @@ length-from pairs all p j (suc n) = ap suc (length-from pairs all p (j + 1) n)
 
 module _ (script : DescribedScript) (k : LinkedContainer) (linked : IsLinked script k) (pairs : List Pair) (p : ℕ) (holds : (pair_of pairs p).bytes ≡ k.bytes) where
   -- it is read as the script's container
-  pub own : FragmentLinked script k linked pairs p
-  own = fragment_linked script k linked pairs p holds
+  pub read_as_linked : FragmentLinked script k linked pairs p
+  read_as_linked = fragment_linked script k linked pairs p holds
 
-  abbrev pub whole : Fragment
-  whole = read_fragment script k linked pairs p
+  -- the fragment that the bytes are read as
+  abbrev pub linked_fragment : Fragment
+  linked_fragment = read_fragment script k linked pairs p
 
-  container-is : container_at pairs p ≡ Some whole.container
-  container-is = ap (λ r. option_map (λ (f : Fragment). f.container) (result_ok r)) own.read
+  container-is : container_at pairs p ≡ Some linked_fragment.container
+  container-is = ap (λ r. option_map (λ (f : Fragment). f.container) (result_ok r)) read_as_linked.read
 
-  pub loader-is : loader_at pairs p ≡ Some whole.loader
-  loader-is = ap (λ r. option_map (λ (f : Fragment). f.loader) (result_ok r)) own.read
+  pub loader-is : loader_at pairs p ≡ Some linked_fragment.loader
+  loader-is = ap (λ r. option_map (λ (f : Fragment). f.loader) (result_ok r)) read_as_linked.read
 
   count-is : import_count pairs p ≡ length script.imports
-  count-is = ap (λ o. option_map_or (λ (l : Loaded). l.header.import_count) o 0) loader-is ∙ own.of.tables.import_count
+  count-is = ap (λ o. option_map_or (λ (l : Loaded). l.header.import_count) o 0) loader-is ∙ read_as_linked.of.tables.import_count
 
-  pub extents-in : extents_in pairs p ≡ extents_of whole.container
+  pub extents-in : extents_in pairs p ≡ extents_of linked_fragment.container
   extents-in = ap (λ o. option_map_or extents_of o []) container-is
 
-  prepared-in : (a : Addresses) (i : ℕ) → prepared_in pairs a p i ≡ prepared_at whole.container whole.loader a i
+  prepared-in : (a : Addresses) (i : ℕ) → prepared_in pairs a p i ≡ prepared_at linked_fragment.container linked_fragment.loader a i
   prepared-in a i =
       ap (λ o. option_map_or (λ (c : Contained). option_map_or (λ (l : Loaded). prepared_at c l a i) (loader_at pairs p) []) o []) container-is
-      ∙ ap (λ o. option_map_or (λ (l : Loaded). prepared_at whole.container l a i) o []) loader-is
+      ∙ ap (λ o. option_map_or (λ (l : Loaded). prepared_at linked_fragment.container l a i) o []) loader-is
 
   -- with places, its sections and its imports have addresses
   addressed : (all : List Present) (before empty : Layout) (places : List Place) → ArePlaced before (extents_in pairs p) places empty → AreAddresses script (addresses_at places (addresses_from pairs all p 0 (import_count pairs p)))
   addressed all before empty places placed =
-      addresses_are script k linked whole.container whole.loader own.of before empty (addresses_from pairs all p 0 (import_count pairs p)) places (length-from pairs all p 0 (import_count pairs p) ∙ count-is)
+      addresses_are script k linked linked_fragment.container linked_fragment.loader read_as_linked.of before empty (addresses_from pairs all p 0 (import_count pairs p)) places (length-from pairs all p 0 (import_count pairs p) ∙ count-is)
       (subst (λ es. ArePlaced before es places empty) extents-in placed)
 
   -- so it is described, in the memory that it was placed in
@@ -68,16 +69,16 @@ module _ (script : DescribedScript) (k : LinkedContainer) (linked : IsLinked scr
   described-from s now =
       let places = places_of s.present p in
       let imports = addresses_from pairs s.present p 0 (import_count pairs p) in
-      let here : ArePlaced now.before (extents_of whole.container) places now.empty = subst (λ es. ArePlaced now.before es places now.empty) extents-in now.placed in
-      let sizes = length-placed now.before (extents_of whole.container) places now.empty here ∙ length-extents script k linked whole.container whole.loader own.of in
+      let here : ArePlaced now.before (extents_of linked_fragment.container) places now.empty = subst (λ es. ArePlaced now.before es places now.empty) extents-in now.placed in
+      let sizes = length-placed now.before (extents_of linked_fragment.container) places now.empty here ∙ length-extents script k linked linked_fragment.container linked_fragment.loader read_as_linked.of in
       let are = addressed s.present now.before now.empty places now.placed in (
         record {
           before = now.before;
           empty = now.empty;
-          placed = subst (λ es. ArePlaced now.before es places now.empty) (extents_are script k linked whole.container whole.loader own.of) here;
+          placed = subst (λ es. ArePlaced now.before es places now.empty) (extents_are script k linked linked_fragment.container linked_fragment.loader read_as_linked.of) here;
           stand = λ i under.
               now.stand i under
-              ∙ ap Some (prepared-in (addresses_at places imports) i ∙ prepared_is script k linked whole.container whole.loader own.of (addresses_at places imports) are i (omega (arith, under, sizes))
+              ∙ ap Some (prepared-in (addresses_at places imports) i ∙ prepared_is script k linked linked_fragment.container linked_fragment.loader read_as_linked.of (addresses_at places imports) are i (omega (arith, under, sizes))
               ∙ ap (λ n. described_at (address_of (addresses_at places (addresses_from pairs s.present p 0 n))) script i) count-is);
         },
         refl,
@@ -97,13 +98,13 @@ closure-described script k pairs limit steps s t name number p linked holds run 
 
 -- such a fragment is read, and neither an image nor a relocation header of it is refused
 pub linked-read : (script : DescribedScript) (k : LinkedContainer) (pairs : List Pair) (p : ℕ) → IsLinked script k → (pair_of pairs p).bytes ≡ k.bytes → (f : Fragment) × (fragment_of pairs p ≡ Ok f)
-linked-read script k pairs p linked holds = (whole script k linked pairs p holds, (own script k linked pairs p holds).read)
+linked-read script k pairs p linked holds = (linked_fragment script k linked pairs p holds, (read_as_linked script k linked pairs p holds).read)
 
 pub linked-filled : (script : DescribedScript) (k : LinkedContainer) (pairs : List Pair) (p : ℕ) → IsLinked script k → (pair_of pairs p).bytes ≡ k.bytes → image_refusal_in pairs p ≡ None
 linked-filled script k pairs p linked holds =
     let f = read_fragment script k linked pairs p in
     ap (λ o. option_and_then (λ (c : Contained). first_image_refusal c c.header.instantiated_section_count) o) (container-is script k linked pairs p holds)
-    ∙ images_sound script k linked f.container f.loader (own script k linked pairs p holds).of
+    ∙ images_sound script k linked f.container f.loader (read_as_linked script k linked pairs p holds).of
 
 pub linked-relocated : (script : DescribedScript) (k : LinkedContainer) (pairs : List Pair) (p : ℕ) (all : List Present) (before empty : Layout) (places : List Place) → IsLinked script k → (pair_of pairs p).bytes ≡ k.bytes → ArePlaced before (extents_in pairs p) places empty
     → reloc_refusal_in pairs (addresses_of pairs all (record { position = p; places = places })) p ≡ None
@@ -112,4 +113,4 @@ linked-relocated script k pairs p all before empty places linked holds placed =
     let a = addresses_at places (addresses_from pairs all p 0 (import_count pairs p)) in
     ap (λ o. option_and_then (λ (c : Contained). option_and_then (λ (l : Loaded). first_reloc_refusal c l a) (loader_at pairs p)) o) (container-is script k linked pairs p holds)
     ∙ ap (λ o. option_and_then (λ (l : Loaded). first_reloc_refusal f.container l a) o) (loader-is script k linked pairs p holds)
-    ∙ headers_sound script k linked f.container f.loader (own script k linked pairs p holds).of a (addressed script k linked pairs p holds all before empty places placed)
+    ∙ headers_sound script k linked f.container f.loader (read_as_linked script k linked pairs p holds).of a (addressed script k linked pairs p holds all before empty places placed)

@@ -55,9 +55,9 @@ later_others k from (s ∷ sections) (instrs ∷ programs) before = go s.fixups 
     go (fixup ∷ fixups) later = ((λ same. absurd (omega (arith, before, same))), later)
 
 -- a section's own program before those of others
-own_first : (count k : ℕ) (fixups : List Fixup) (instrs : List Instr) (later : List ProgramEntry) → IsProgramFor count fixups instrs → AreOthers k later → Owns count k fixups (program_of k fixups instrs ++ later)
-own_first count k [] instrs later program others = inr (refl, others)
-own_first count k (fixup ∷ fixups) instrs later program others = inl (record {
+owns-first : (count k : ℕ) (fixups : List Fixup) (instrs : List Instr) (later : List ProgramEntry) → IsProgramFor count fixups instrs → AreOthers k later → Owns count k fixups (program_of k fixups instrs ++ later)
+owns-first count k [] instrs later program others = inr (refl, others)
+owns-first count k (fixup ∷ fixups) instrs later program others = inl (record {
   instrs = instrs;
   program = program;
   place = 0;
@@ -70,10 +70,10 @@ own_first count k (fixup ∷ fixups) instrs later program others = inl (record {
     other (suc j) p at apart = all-get (λ (q : ProgramEntry). q.section ≢ k) later j p others at
 
 -- after another section's program
-own_later : (count k j : ℕ) (own fixups : List Fixup) (instrs : List Instr) (later : List ProgramEntry) → j ≢ k → Owns count k own later → Owns count k own (program_of j fixups instrs ++ later)
-own_later count k j own [] instrs later apart owns = owns
-own_later count k j own (fixup ∷ fixups) instrs later apart (inr none) = inr (none.0, (apart, none.1))
-own_later count k j own (fixup ∷ fixups) instrs later apart (inl has) = inl (record {
+owns-later : (count k j : ℕ) (wanted fixups : List Fixup) (instrs : List Instr) (later : List ProgramEntry) → j ≢ k → Owns count k wanted later → Owns count k wanted (program_of j fixups instrs ++ later)
+owns-later count k j wanted [] instrs later apart owns = owns
+owns-later count k j wanted (fixup ∷ fixups) instrs later apart (inr none) = inr (none.0, (apart, none.1))
+owns-later count k j wanted (fixup ∷ fixups) instrs later apart (inl has) = inl (record {
   instrs = has.instrs;
   program = has.program;
   place = suc has.place;
@@ -86,18 +86,18 @@ own_later count k j own (fixup ∷ fixups) instrs later apart (inl has) = inl (r
     others (suc i) p at other = has.others i p at (λ same. other (ap suc same))
 
 -- each of some sections has its relocation program among theirs
-pub owns_program : (count i j : ℕ) (sections : List DescribedSection) (programs : List (List Instr)) (s : DescribedSection) → AreProgramsFor count sections programs → slice_get sections i ≡ Some s
+pub owns-program : (count i j : ℕ) (sections : List DescribedSection) (programs : List (List Instr)) (s : DescribedSection) → AreProgramsFor count sections programs → slice_get sections i ≡ Some s
     → Owns count (j + i) s.fixups (programs_from j sections programs)
-owns_program count i j [] programs s are there = absurd (cc)
-owns_program count i j (t ∷ sections) [] s are there = absurd are
-owns_program count zero j (t ∷ sections) (instrs ∷ programs) s are there =
+owns-program count i j [] programs s are there = absurd (cc)
+owns-program count i j (t ∷ sections) [] s are there = absurd are
+owns-program count zero j (t ∷ sections) (instrs ∷ programs) s are there =
     let same : t ≡ s = cc in
     let here : j + 0 ≡ j = omega arith in
     rw here (subst (λ (u : DescribedSection). Owns count j u.fixups (programs_from j (t ∷ sections) (instrs ∷ programs))) same
-    (own_first count j t.fixups instrs (programs_from (j + 1) sections programs) are.0 (later_others j (j + 1) sections programs (omega arith))))
-owns_program count (suc i) j (t ∷ sections) (instrs ∷ programs) s are there =
+    (owns-first count j t.fixups instrs (programs_from (j + 1) sections programs) are.0 (later_others j (j + 1) sections programs (omega arith))))
+owns-program count (suc i) j (t ∷ sections) (instrs ∷ programs) s are there =
     let next : j + suc i ≡ j + 1 + i = omega arith in
-    rw next (own_later count (j + 1 + i) j s.fixups t.fixups instrs (programs_from (j + 1) sections programs) (λ same. absurd (omega (arith, same))) (owns_program count i (j + 1) sections programs s are.1 there))
+    rw next (owns-later count (j + 1 + i) j s.fixups t.fixups instrs (programs_from (j + 1) sections programs) (λ same. absurd (omega (arith, same))) (owns-program count i (j + 1) sections programs s are.1 there))
 
 is_other : (k : ℕ) (o : Option ProgramEntry) → ((p : ProgramEntry) → o ≡ Some p → p.section ≢ k) → IsOther k (option_map program_read o)
 is_other k None none = tt

@@ -33,7 +33,7 @@ use Rattle.pef_headline.specs.Now.{described_extents}
 use Rattle.pef_headline.specs.Others.{HasForeign}
 use Rattle.pef_tool.specs.Show.{FailsToBind, IsShown, ShowOutcome, it_alone, refuses, show_answer, shows, unbound, unplaced, unplaced_text}
 use Rattle.pef_tool.proofs.AloneLemmas.{is-found, new-is, open-is, prepared-alone, root-is}
-use Rattle.pef_headline.proofs.Laws.{described-from, extents-in, extents_are, linked-read, loader-is, own, refused-image, refused-program, whole}
+use Rattle.pef_headline.proofs.Laws.{described-from, extents-in, extents_are, linked-read, linked_fragment, loader-is, read_as_linked, refused-image, refused-program}
 
 -- if all fragments are read, the refusal of a closure isn't because of their bytes
 fails_to_bind : (bytes : List ℕ) (fault : BindFault) → ((r : BindRefusal) → closed_of (it_alone bytes) 0 ≡ Err r → IsOfBinding r) → FailsAs fault (closed_of (it_alone bytes) 0) → FailsToBind bytes fault
@@ -72,7 +72,7 @@ module _ (script : DescribedScript) (k : LinkedContainer) (linked : IsLinked scr
       let described = described-from script k linked alone 0 refl s stands.now in
       let places = places_of s.present 0 in
       let loader = loader-is script k linked alone 0 refl in
-      let tables = (own script k linked alone 0 refl).of.tables in
+      let tables = (read_as_linked script k linked alone 0 refl).of.tables in
       let connected = open-is k.bytes memory_limit s number done in
       let main : option_and_then main_of (loader_at alone 0) ≡ script.main = ap (option_and_then main_of) loader ∙ tables.main in
       record {
@@ -95,9 +95,9 @@ module _ (script : DescribedScript) (k : LinkedContainer) (linked : IsLinked scr
   -- if it is refused for lack of room, its sections find none, and the refusal names it
   no_room : (new : List ℕ) (name : List ℕ) → new ≡ 0 ∷ [] → LacksRoom alone (no_instances memory_limit) new name → LackRoom (no_instances memory_limit) (described_extents script) × (name ≡ codes "it")
   no_room new name is lacks =
-      let fragment = whole script k linked alone 0 refl in
+      let fragment = linked_fragment script k linked alone 0 refl in
       let P : List ℕ → Type 0 = λ ps. LacksRoom alone (no_instances memory_limit) ps name in
-      let extents = extents-in script k linked alone 0 refl ∙ extents_are script k linked fragment.container fragment.loader (own script k linked alone 0 refl).of in
+      let extents = extents-in script k linked alone 0 refl ∙ extents_are script k linked fragment.container fragment.loader (read_as_linked script k linked alone 0 refl).of in
       go extents (subst P is lacks)
     where
       go : extents_in alone 0 ≡ described_extents script → LacksRoom alone (no_instances memory_limit) (0 ∷ []) name → LackRoom (no_instances memory_limit) (described_extents script) × (name ≡ codes "it")
