@@ -13,6 +13,7 @@ use crate::rows::Rows;
 use crate::targets::Target;
 use pef_loader::Loader;
 use pef_views::Container;
+use std::fmt;
 use std::marker::Model;
 
 /// The closure of a fragment: the fragment and all that it needs, with the targets of its imports and the
@@ -37,6 +38,15 @@ impl<'a> Model for Closure<'a> {
     ghost view = { λ c. record { pairs = c.bindings.pairs; order = c.bindings.order; init_order = c.init_order.items } };
 
     ghost invariant = { λ c. AreTargets c.bindings.pairs c.bindings.order c.targets };
+}
+
+impl fmt::Debug for Closure<'_> {
+    fn fmt<W: fmt::Write>(&self, f: &mut fmt::Formatter<W>) -> fmt::Result {
+        f.debug_struct("Closure")
+            .field("order", &self.bindings.order())
+            .field("init_order", &self.init_order)
+            .finish()
+    }
 }
 
 impl<'a> Closure<'a> {

@@ -7,6 +7,7 @@ ghost use Rattle.cfm_closure.specs.Limits.{most_pairs};
 use crate::store_fault::StoreFault;
 use indexmap::IndexMap;
 use std::alloc::Global;
+use std::fmt;
 use std::marker::Model;
 
 /// The most pairs of a store.
@@ -34,6 +35,14 @@ impl<'a> Model for Store<'a> {
     ghost view = { λ s. map pair_seen s.pairs.items };
 
     ghost invariant = { λ s. IsStore (map pair_seen s.pairs.items) s.places.entries };
+}
+
+impl fmt::Debug for Store<'_> {
+    fn fmt<W: fmt::Write>(&self, f: &mut fmt::Formatter<W>) -> fmt::Result {
+        f.debug_struct("Store")
+            .field("pairs", &self.pairs.len())
+            .finish()
+    }
 }
 
 impl<'a> Store<'a> {
