@@ -262,11 +262,11 @@ fn print_routine<W: Sink>(
 }
 
 /// Prints the line of a fragment's routine, if it has one: a word, the fragment's name and the address.
-fn print_entry<W: Sink>(
+fn print_entry<'t, W: Sink>(
     out: &mut W,
     page: &mut Page,
-    word: &[u8],
-    name: &[u8],
+    word: &'t [u8],
+    name: &'t [u8],
     address: Option<u32>,
 ) -> Result<(), StreamFault>
     ensures { Sends result (W.stream out.old) (W.stream out.new) page.old.items page.new.items (entry_text (entry_label word.now name.now) address) }

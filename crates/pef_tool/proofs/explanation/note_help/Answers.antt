@@ -8,5 +8,5 @@ use Rattle.pef_tool.proofs.explanation.note_help.Goals as goal
 pub returns-in-Some : goal.returns-in-Some
 returns-in-Some g c =
     let stream = g.W.Sink.stream in
-    let P : List ℕ → Type 0 = λ text. IsNoted (stream c.args.notes.now) (stream c.deliver.new.notes) (text ++ end_text c.args.detail) in
+    let P : List ℕ → Type 0 = λ text. IsNoted (stream c.args.notes.now) (stream c.deliver.new.out) (text ++ end_text c.args.detail) in
     rw (c.in-Some.is) (subst P c.as_bytes.ensures.value (status_of c.deliver.result, c.deliver.ensures))

@@ -1,8 +1,9 @@
 -- The number and the name, then the path.
-use Rattle.std.proofs.Common.{codes, ap, ap₂}
+use Rattle.std.proofs.Common.{List, ℕ, codes, ap₂, subst}
+use Rattle.pef_ports.specs.Sent.{Sends}
 use Rattle.pef_ports.proofs.Laws.Sending.{Prints-then, Sends-short, Sends-then, StopsShort-longer, StopsShort-then}
 use Rattle.pef_tool.specs.Answers.Refusals.{name_end, path_of, refused_text}
-use Rattle.pef_tool.proofs.AnswersProofs.PieceLemmas.{same_printed, same_sent, same_short}
+use Rattle.pef_tool.proofs.AnswersProofs.PieceLemmas.{same_printed, same_short}
 use Rattle.pef_tool.proofs.answers.refusal.FileRefusalReply.print.Goals as goal
 
 pub returns-in_err-print_refused : goal.returns-in_err-print_refused
@@ -18,5 +19,6 @@ returns-in_err-send g c =
 pub returns : goal.returns
 returns g c =
     let start = same_printed (ap₂ refused_text c.number.ensures c.name.ensures) c.in_ok-print_refused.ensures in
-    let path = same_sent c.print_name_end.result (ap name_end c.path.ensures) c.print_name_end.ensures in
-    Sends-then c.print_name_end.result (g.W.Sink.stream c.print_name_end.new.out) c.print_name_end.new.page.items (name_end (path_of c.args.self.now)) (Prints-then start c.in_ok-send.ensures) path
+    let stream = g.W.Sink.stream in
+    let P : List ℕ → Type 0 = λ path. Sends c.print_name_end.result (stream c.send.new.out) (stream c.print_name_end.new.out) c.send.new.page.items c.print_name_end.new.page.items (name_end path) in
+    Sends-then c.print_name_end.result (stream c.print_name_end.new.out) c.print_name_end.new.page.items (name_end (path_of c.args.self.now)) (Prints-then start c.in_ok-send.ensures) (subst P c.path.ensures c.print_name_end.ensures)
