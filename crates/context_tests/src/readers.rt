@@ -167,13 +167,15 @@ fn test_sections(rt: &impl Abort, alloc: Global, context: &mut Context<'_>) {
     );
 }
 
-/// Tests the order of the closure of a connection that is open, and that one that isn't has none.
-fn test_closure(rt: &impl Abort, context: &mut Context<'_>) {
+/// Tests how the store and the closure of a connection that is open print themselves, and that a connection
+/// that isn't open has no closure.
+fn test_closure(rt: &impl Abort, alloc: Global, context: &mut Context<'_>) {
     assert!(rt; context.prepare(b"A") == Ok(Connection(1)));
-    let order = context
-        .closure(Connection(1))
-        .map(|closure| closure.order());
-    assert!(rt; order == Some(&[1, 0][..]));
+    let (store, closure) = (context.store(), context.closure(Connection(1)));
+    let told = format!(in alloc; "{store:?}, {closure:?}").expect(rt, "memory");
+    assert!(rt;
+        told.as_str() == "Store { pairs: 2 }, Some(Closure { order: [1, 0], init_order: [1, 0] })"
+    );
     assert!(rt; context.closure(Connection(0)).is_none());
 }
 
@@ -182,7 +184,7 @@ fn sections_and_closures(rt: HostRuntime) {
     let containers = containers(rt.alloc(), FRAGMENTS).expect(&rt, "containers");
     let mut context = context_of(&rt, rt.alloc(), FRAGMENTS, &containers, LIMIT);
     test_sections(&rt, rt.alloc(), &mut context);
-    test_closure(&rt, &mut context);
+    test_closure(&rt, rt.alloc(), &mut context);
 }
 
 /// Returns the number of a connection to a fragment, or that of its refusal.
