@@ -136,9 +136,7 @@ fn rows_at_their_indices(rt: HostRuntime) {
 #[test]
 fn rows_with_the_last_first(rt: HostRuntime) {
     for (width, rows, reversed) in TURNED {
-        let turned = rows_of(&rt, rt.alloc(), *width, rows)
-            .reversed(rt.alloc())
-            .expect(&rt, "memory");
+        let turned = rows_of(&rt, rt.alloc(), *width, rows).reversed();
         assert!(rt; turned.width() == *width);
         assert_rows(&rt, &turned, reversed);
     }

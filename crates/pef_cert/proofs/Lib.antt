@@ -13,6 +13,7 @@ mod LabelFacts
 mod MinimaLemmas
 mod NeededTests
 mod RegisterLemmas
+mod ReversedRows
 mod RunLemmas
 mod SetLemmas
 mod SharedLemmas

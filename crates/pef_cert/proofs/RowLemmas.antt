@@ -1,23 +1,23 @@
 -- The kept form of rows of labels: how many there are, where one is, and one more.
 use Rattle.std.proofs.Common.{◌≡◌, ◌≢◌, ◌==◌, Bool, false, eqb, inl, inr, ℕ, zero, suc, ◌+◌, ◌-◌, ◌*◌, ◌<◌, ◌≤◌, true, nat_lt, List, [], ◌∷◌, ◌++◌, length, take, drop, replicate, None, Some, refl, ap, sym, ◌∙◌, subst, arith, slice_index, slice_get, length-append, append_assoc}
-use Rattle.std.specs.Prelude.{reverse, slice_index_or, slice_set}
+use Rattle.std.specs.Prelude.{slice_index_or, slice_set}
 use Rattle.std.proofs.lemmas.Bool.{ltb-false, ltb-true, lt-ltb, and_from, and_parts}
 use Rattle.std.proofs.lemmas.Bool.Decides.{Decides-eqb, eqb_tells}
 use Rattle.std.proofs.lemmas.Slice.Eq.{slice_eq-Decides}
 use Rattle.std.specs.Cmp.Lexicographic.{pointwise}
 use Rattle.std.proofs.Math.Path.{ap₂}
 use Rattle.pef_cert.specs.Fixups.Answers.{Says}
-use Rattle.std.proofs.lemmas.List.{append-nil, length-set, drop-append-le, drop-drop, drop_all, drop_at, length_push, length-take-le, get_or-append_right, get_or-replicate, get_or_append_left, length-drop, length-replicate, take-append-le, take_all, take-append-drop, nil_from_length, reverse-append}
+use Rattle.std.proofs.lemmas.List.{append-nil, length-set, drop-append-le, drop-drop, drop_all, drop_at, length_push, length-take-le, get_or-append_right, get_or-replicate, get_or_append_left, length-drop, length-replicate, take-append-le, take_all, take-append-drop, nil_from_length}
 use Rattle.pef_cert.specs.Kept.RowsKept.{EndsWith, PlaceOf, RunsFull}
 use Rattle.pef_cert.specs.Rows.{NeighboursDiffer, RowsFull, rows_from}
 use Rattle.pef_cert.specs.Rising.{above_all}
 
 -- how many rows there are up to the last kept one
-pub last_end : ℕ → List ℕ → ℕ
+unfoldable pub last_end : ℕ → List ℕ → ℕ
 last_end low [] = low
 last_end low (end ∷ ends) = last_end end ends
 
-last_end-above : (low : ℕ) (ends : List ℕ) → above_all low ends ≡ true → low ≤ last_end low ends
+pub last_end-above : (low : ℕ) (ends : List ℕ) → above_all low ends ≡ true → low ≤ last_end low ends
 unfolding last_end
 last_end-above low [] up = omega arith
 last_end-above low (end ∷ ends) up =
@@ -420,71 +420,3 @@ row-placed w ends values index place full at =
     let same : index - 0 ≡ index = omega arith in
     sym (rows-at w 0 ends values place index full.rising at.under (before_place ends index place at) at.here)
     ∙ ap (λ n. slice_index_or (rows_from w 0 ends values) n []) same
-
--- how many rows there are before a kept one, and which come with it
-taken-count : (w low : ℕ) (ends values : List ℕ) (k : ℕ) → above_all low ends ≡ true → k ≤ length ends → length (rows_from w low (take k ends) values) + low ≡ end_before low ends k
-unfolding end_before
-taken-count w low ends values zero up under = omega arith
-taken-count w low [] values (suc k) up under = absurd (omega (arith, under))
-taken-count w low (end ∷ ends) values (suc k) up under =
-    let both = and_parts (nat_lt low end) (above_all end ends) up in
-    let first = ltb-true low end both.0 in
-    let later = taken-count w end ends (drop w values) k both.1 (omega (arith, under)) in
-    omega (arith, first, later, length-append (replicate (end - low) (take w values)) (rows_from w end (take k ends) (drop w values)), length-replicate (end - low) (take w values))
-
-taken-more : (w low : ℕ) (ends values : List ℕ) (k : ℕ) → k < length ends → rows_from w low (take (suc k) ends) values ≡ rows_from w low (take k ends) values ++ replicate (slice_index ends k - end_before low ends k) (take w (drop (k * w) values))
-unfolding end_before
-taken-more w low [] values k under = absurd (omega (arith, under))
-taken-more w low (end ∷ ends) values zero under =
-    let start : zero * w ≡ 0 = omega arith in
-    append-nil (replicate (end - low) (take w values)) ∙ ap (λ n. replicate (end - low) (take w (drop n values))) (sym start)
-taken-more w low (end ∷ ends) values (suc k) under =
-    let start : w + k * w ≡ suc k * w = omega arith in
-    let many = slice_index ends k - end_before end ends k in
-    let row : take w (drop (k * w) (drop w values)) ≡ take w (drop (suc k * w) values) = ap (take w) (drop-drop (k * w) w values ∙ ap (λ n. drop n values) start) in
-    ap (λ rows. replicate (end - low) (take w values) ++ rows) (taken-more w end ends (drop w values) k (omega (arith, under)) ∙ ap (λ r. rows_from w end (take k ends) (drop w values) ++ replicate many r) row)
-    ∙ sym (append_assoc (replicate (end - low) (take w values)) (rows_from w end (take k ends) (drop w values)) (replicate many (take w (drop (suc k * w) values))))
-
--- how many rows there are up to a kept one, by its end
-pub taken-some : (w k : ℕ) (ends values : List ℕ) → RowsFull w ends values → k < length ends → slice_index ends k ≡ length (rows_from w 0 (take (suc k) ends) values)
-taken-some w k ends values full under =
-    let count = taken-count w 0 ends values (suc k) full.rising (omega (arith, under)) in
-    let is = end_before-suc 0 ends k under in
-    omega (arith, count, is)
-
--- equal rows are the same backwards
-replicate_last : (n : ℕ) (row : List ℕ) → replicate n row ++ row ∷ [] ≡ row ∷ replicate n row
-replicate_last zero row = refl
-replicate_last (suc n) row = ap (λ rows. row ∷ rows) (replicate_last n row)
-
-reverse_replicate : (n : ℕ) (row : List ℕ) → reverse (replicate n row) ≡ replicate n row
-reverse_replicate zero row = refl
-reverse_replicate (suc n) row =
-    reverse-append (row ∷ []) (replicate n row)
-    ∙ (ap (λ rows. rows ++ row ∷ []) (reverse_replicate n row)
-    ∙ replicate_last n row)
-
--- one more kept row makes the rows no fewer
-pub taken-up : (w k left : ℕ) (ends values : List ℕ) → suc k ≡ left → k < length ends → length (rows_from w 0 (take k ends) values) ≤ length (rows_from w 0 (take left ends) values)
-taken-up w k left ends values next under =
-    let before = rows_from w 0 (take k ends) values in
-    let many = slice_index ends k - end_before 0 ends k in
-    let row = take w (drop (k * w) values) in
-    let sum : length (rows_from w 0 (take left ends) values) ≡ length (before ++ replicate many row) = ap (λ n. length (rows_from w 0 (take n ends) values)) (sym next) ∙ ap length (taken-more w 0 ends values k under) in
-    omega (arith, sum, length-append before (replicate many row))
-
--- one step of the reversal: the rows before, followed by the reverse of the pushed ones, are still all rows
-pub reverse-more : (w k left n : ℕ) (ends values : List ℕ) (rows all : List (List ℕ)) → RowsFull w ends values → suc k ≡ left → k < length ends → n ≡ length (rows_from w 0 (take left ends) values) - length (rows_from w 0 (take k ends) values) → rows_from w 0 (take left ends) values ++ reverse rows ≡ all → rows_from w 0 (take k ends) values ++ reverse (rows ++ replicate n (take w (drop (k * w) values))) ≡ all
-reverse-more w k left n ends values rows all full next under many is =
-    let row = take w (drop (k * w) values) in
-    let before = rows_from w 0 (take k ends) values in
-    let taken : rows_from w 0 (take (suc k) ends) values ≡ rows_from w 0 (take left ends) values = ap (λ m. rows_from w 0 (take m ends) values) next in
-    let longer = ap length taken in
-    let here = taken-some w k ends values full under in
-    let count = taken-count w 0 ends values k full.rising (omega (arith, under)) in
-    let same : n ≡ slice_index ends k - end_before 0 ends k = omega (arith, many, here, count, longer) in
-    ap (λ rs. before ++ rs) (reverse-append rows (replicate n row) ∙ ap (λ rs. rs ++ reverse rows) (reverse_replicate n row))
-    ∙ (sym (append_assoc before (replicate n row) (reverse rows))
-    ∙ (ap (λ m. (before ++ replicate m row) ++ reverse rows) same
-    ∙ (ap (λ rs. rs ++ reverse rows) (sym (taken-more w 0 ends values k under) ∙ taken)
-    ∙ is)))

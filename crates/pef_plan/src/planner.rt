@@ -58,7 +58,7 @@ pub fn counted_plan(
         looks,
     };
     let program = least_program(known, alloc, fixups)?;
-    let labels = tables.labels.reversed(alloc)?;
+    let labels = tables.labels.reversed();
     Ok(Certificate {
         section,
         program,
