@@ -3,7 +3,7 @@ ghost use Rattle.arrayvec.specs.ArrayVec.{array_vec_len};
 ghost use Rattle.pef_ports.specs.Sent.{Sends};
 ghost use Rattle.pef_ports.specs.Text.{dump_text, group_text, row_text};
 
-use crate::line::{Line, push_hex, push_word};
+use crate::line::{Line, push_hex, push_word, word_digits};
 use crate::page::{Page, send};
 use crate::ports::{Sink, StreamFault};
 
@@ -24,18 +24,43 @@ pub fn print_memory<W: Sink>(
     ensures { Sends result (W.stream out.old) (W.stream out.new) page.old.items page.new.items (dump_text address bytes.now) }
 {
     let mut rest = bytes;
-    while !rest.is_empty() {
+    while rest.len() >= ROW {
         let here = address + (bytes.len() - rest.len()) as u32;
-        let (row, others) = rest.split_at(ROW.min(rest.len()));
-        let line = line_of(here, row);
-        send(out, page, line.as_slice())?;
+        let (row, others) = rest.split_at(ROW);
+        send(out, page, &full_row(here, row))?;
         rest = others;
     }
-    Ok(())
+    if rest.is_empty() {
+        return Ok(());
+    }
+    let here = address + (bytes.len() - rest.len()) as u32;
+    send(out, page, short_row(here, rest).as_slice())
 }
 
-/// Returns the line of some bytes of memory.
-fn line_of(address: u32, bytes: &[u8]) -> Line
+/// Returns the line of sixteen bytes. All of it stands in one array, so that the compiler makes its digits together.
+#[inline(always)]
+fn full_row(address: u32, bytes: &[u8]) -> [u8; 45]
+    requires { length bytes.now ≡ 16 }
+    ensures { result ≡ row_text address bytes.now }
+{
+    let (front, back) = bytes.split_at(2 * GROUP);
+    let (first, second) = front.split_at(GROUP);
+    let (third, fourth) = back.split_at(GROUP);
+    let at = word_digits(&address.to_be_bytes());
+    let a = word_digits(first);
+    let b = word_digits(second);
+    let c = word_digits(third);
+    let d = word_digits(fourth);
+    [
+        at[0], at[1], at[2], at[3], at[4], at[5], at[6], at[7], b' ', a[0], a[1], a[2], a[3], a[4],
+        a[5], a[6], a[7], b' ', b[0], b[1], b[2], b[3], b[4], b[5], b[6], b[7], b' ', c[0], c[1],
+        c[2], c[3], c[4], c[5], c[6], c[7], b' ', d[0], d[1], d[2], d[3], d[4], d[5], d[6], d[7],
+        b'\n',
+    ]
+}
+
+/// Returns the line of at most sixteen bytes.
+fn short_row(address: u32, bytes: &[u8]) -> Line
     requires { length bytes.now ≤ 16 }
     ensures { result.items ≡ row_text address bytes.now }
 {

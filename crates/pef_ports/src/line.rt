@@ -1,4 +1,4 @@
-ghost use Rattle.std.specs.Prelude.{◌≡◌, ◌≤◌, ◌<◌, ◌+◌, ◌*◌, ◌++◌, length};
+ghost use Rattle.std.specs.Prelude.{◌≡◌, ◌≤◌, ◌<◌, ◌+◌, ◌*◌, ◌/◌, ◌%◌, ◌++◌, length};
 ghost use Rattle.arrayvec.specs.ArrayVec.{array_vec_len};
 ghost use Rattle.pef_ports.specs.Text.{hex_digit, hex_text, word_text};
 
@@ -51,7 +51,7 @@ fn push_each(line: &mut Line, bytes: &[u8])
     ensures len { array_vec_len line.new ≡ array_vec_len line.old + 2 * length bytes.now }
 {
     for b in bytes {
-        push_text(line, &[digit(*b / 16), digit(*b % 16)]);
+        push_text(line, &[high(*b), low(*b)]);
     }
 }
 
@@ -62,21 +62,46 @@ fn push_four(line: &mut Line, bytes: &[u8])
     ensures text { line.new.items ≡ line.old.items ++ hex_text bytes.now }
     ensures len { array_vec_len line.new ≡ array_vec_len line.old + 8 }
 {
+    push_text(line, &word_digits(bytes));
+}
+
+/// Returns the digits of four bytes.
+#[inline(always)]
+pub(crate) fn word_digits(bytes: &[u8]) -> [u8; 8]
+    requires { length bytes.now ≡ 4 }
+    ensures { result ≡ hex_text bytes.now }
+{
     let (a, b, c, d) = (bytes[0], bytes[1], bytes[2], bytes[3]);
-    let digits = [
-        digit(a / 16),
-        digit(a % 16),
-        digit(b / 16),
-        digit(b % 16),
-        digit(c / 16),
-        digit(c % 16),
-        digit(d / 16),
-        digit(d % 16),
-    ];
-    push_text(line, &digits);
+    [
+        high(a),
+        low(a),
+        high(b),
+        low(b),
+        high(c),
+        low(c),
+        high(d),
+        low(d),
+    ]
+}
+
+/// Returns the first digit of a byte.
+#[inline(always)]
+pub(crate) fn high(byte: u8) -> u8
+    ensures { result ≡ hex_digit (byte / 16) }
+{
+    digit(byte / 16)
+}
+
+/// Returns the second digit of a byte.
+#[inline(always)]
+pub(crate) fn low(byte: u8) -> u8
+    ensures { result ≡ hex_digit (byte % 16) }
+{
+    digit(byte % 16)
 }
 
 /// Returns the upper-case digit of a number below sixteen.
+#[inline(always)]
 fn digit(d: u8) -> u8
     requires { d < 16 }
     ensures { result ≡ hex_digit d }

@@ -1,9 +1,8 @@
 -- The lines left.
-use Rattle.std.proofs.Common.{◌≡◌, ◌<◌, ◌+◌, ◌-◌, ◌++◌, length, take, drop, sym, ap, ◌∙◌, arith, rules}
-use Rattle.std.proofs.lemmas.List.{take_min, drop_min}
+use Rattle.std.proofs.Common.{◌≡◌, ◌<◌, ◌≤◌, ◌+◌, ◌-◌, ◌++◌, length, take, drop, sym, ap, ◌∙◌, arith, rules}
 use Rattle.pef_ports.specs.Text.{dump_text, row_text}
-use Rattle.pef_ports.proofs.Laws.Sending.{Sends-short, sent-all, sent-nothing, sent-piece, sent-short}
-use Rattle.pef_ports.proofs.TextLemmas.{dump_text-left, dump_text-none}
+use Rattle.pef_ports.proofs.Laws.Sending.{Sends-short, Sends-then, sent-all, sent-nothing, sent-piece, sent-short}
+use Rattle.pef_ports.proofs.TextLemmas.{dump_text-last, dump_text-left, dump_text-none}
 use Rattle.pef_ports.proofs.dump.print_memory.Goals as goal
 
 pub loop-rest-init : goal.loop-rest-init
@@ -17,11 +16,10 @@ returns-in_err-send g c =
     let rest = c.loop-rest.rest.now in
     let address = c.args.address in
     let n = length c.args.bytes.now in
-    let some : 0 < length rest = search rules in
-    let row : c.split_at.result.0.now ≡ take 16 rest = c.split_at.ensures.front ∙ ap (λ k. take k rest) c.min.ensures ∙ take_min 16 rest in
-    let line : row_text (address + (n - length rest)) (take 16 rest) ≡ c.as_slice.result.now = sym (c.as_slice.ensures.value ∙ c.line_of-line.ensures ∙ ap (row_text (address + (n - length rest))) row) in
+    let some : 0 < length rest = omega (arith, c.loop-rest-test.true) in
+    let line : row_text (address + (n - length rest)) (take 16 rest) ≡ c.full_row.result = sym (c.full_row.ensures ∙ ap (row_text (address + (n - length rest))) c.split_at.ensures.front) in
     let left = dump_text (address + (n - length (drop 16 rest))) (drop 16 rest) in
-    let next : dump_text (address + (n - length rest)) rest ≡ c.as_slice.result.now ++ left = dump_text-left address n rest some c.loop-rest.invariant.inside ∙ ap (λ t. t ++ left) line in
+    let next : dump_text (address + (n - length rest)) rest ≡ c.full_row.result ++ left = dump_text-left address n rest some c.loop-rest.invariant.inside ∙ ap (λ t. t ++ left) line in
     Sends-short _ c.from_residual.result _ c.from_residual.ensures.1 (sent-short left c.loop-rest.invariant.sent next c.in_err-send.ensures)
 
 pub loop-rest-preserved : goal.loop-rest-preserved
@@ -29,19 +27,27 @@ loop-rest-preserved g c =
     let rest = c.loop-rest.rest.now in
     let address = c.args.address in
     let n = length c.args.bytes.now in
-    let some : 0 < length rest = search rules in
-    let others : c.split_at.result.1.now ≡ drop 16 rest = c.split_at.ensures.back ∙ ap (λ k. drop k rest) c.min.ensures ∙ drop_min 16 rest in
-    let row : c.split_at.result.0.now ≡ take 16 rest = c.split_at.ensures.front ∙ ap (λ k. take k rest) c.min.ensures ∙ take_min 16 rest in
-    let line : row_text (address + (n - length rest)) (take 16 rest) ≡ c.as_slice.result.now = sym (c.as_slice.ensures.value ∙ c.line_of-line.ensures ∙ ap (row_text (address + (n - length rest))) row) in
+    let some : 0 < length rest = omega (arith, c.loop-rest-test.true) in
+    let line : row_text (address + (n - length rest)) (take 16 rest) ≡ c.full_row.result = sym (c.full_row.ensures ∙ ap (row_text (address + (n - length rest))) c.split_at.ensures.front) in
     let left = dump_text (address + (n - length (drop 16 rest))) (drop 16 rest) in
-    let next : dump_text (address + (n - length rest)) rest ≡ c.as_slice.result.now ++ left = dump_text-left address n rest some c.loop-rest.invariant.inside ∙ ap (λ t. t ++ left) line in
+    let next : dump_text (address + (n - length rest)) rest ≡ c.full_row.result ++ left = dump_text-left address n rest some c.loop-rest.invariant.inside ∙ ap (λ t. t ++ left) line in
     record {
       inside = omega (arith, c.split_at.ensures.back_len, c.loop-rest.invariant.inside);
-      sent = rw others (sent-piece left c.loop-rest.invariant.sent next c.in_ok-send.ensures);
+      sent = rw c.split_at.ensures.back (sent-piece left c.loop-rest.invariant.sent next c.in_ok-send.ensures);
     }
+
+pub returns-then-is_empty : goal.returns-then-is_empty
+returns-then-is_empty g c =
+    let rest = c.loop-rest.rest.now in
+    let none : length rest ≡ 0 = search rules in
+    sent-all c.loop-rest.invariant.sent (dump_text-none _ rest none)
 
 pub returns : goal.returns
 returns g c =
     let rest = c.loop-rest.rest.now in
-    let none : length rest ≡ 0 = search rules in
-    sent-all c.loop-rest.invariant.sent (dump_text-none _ rest none)
+    let at = c.args.address + (length c.args.bytes.now - length rest) in
+    let some : 0 < length rest = search rules in
+    let few : length rest ≤ 16 = omega (arith, c.loop-rest-test.false) in
+    let last : dump_text at rest ≡ c.as_slice.result.now = dump_text-last at rest some few ∙ sym (c.as_slice.ensures.value ∙ c.short_row.ensures) in
+    let sent = c.loop-rest.invariant.sent in
+    rw (← sent.whole, last) (Sends-then c.send-2.result _ _ _ sent.prints c.send-2.ensures)
