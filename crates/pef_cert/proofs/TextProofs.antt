@@ -9,5 +9,4 @@ pub mod RoundLemmas
 pub mod TextLemmas
 pub mod TextsRead
 pub mod ValidPrints
-pub mod WordLemmas
 pub mod WordsRead

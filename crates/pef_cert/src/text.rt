@@ -12,7 +12,6 @@ mod printer;
 mod program;
 mod reader;
 mod theorems;
-mod words;
 
 pub use fault::CertFault;
 pub use theorems::{printed_texts, read_texts, valid_certificates_print};

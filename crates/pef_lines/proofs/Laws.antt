@@ -6,3 +6,5 @@ pub use Rattle.pef_lines.proofs.LineLemmas.{parts_of-last, parts_of-cut}
 pub use Rattle.pef_lines.proofs.LineLemmas.{lines_of-last, lines_of-cut}
 -- a text is what is before a cut, its byte, and what is after it, which is shorter than the text
 pub use Rattle.pef_lines.proofs.LineLemmas.{cut_at-parts, cut_at-shorter}
+-- the first word of a line ends at its first space; a line has a word
+pub use Rattle.pef_lines.proofs.CursorLemmas.{words_of-cut, words_of-some}

@@ -1,4 +1,5 @@
 pub mod Laws
+mod CursorLemmas
 mod Cuts
 mod Digits
 mod FirstNumber

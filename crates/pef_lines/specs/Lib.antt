@@ -1,3 +1,4 @@
+pub mod Cursor
 pub mod Kept
 pub mod Lines
 pub mod Numbers

@@ -1,8 +1,7 @@
--- The words of a line (docs/SCRIPTS.md, "Text"): bytes 21 to 7E (hex), with one space between two words.
-use Rattle.std.specs.Prelude.{ℕ, ◌==◌, ◌&&◌, not, Bool, List, Option, None, Some, length, nat_le, option_map, if◌then◌else◌}
+-- The words of a script's line (docs/SCRIPTS.md, "Text"): bytes 21 to 7E (hex), with one space between two words.
+use Rattle.std.specs.Prelude.{ℕ, ◌==◌, ◌&&◌, not, Bool, List, Option, None, Some, length, nat_le, if◌then◌else◌}
 use Rattle.std.specs.List.{list_all}
 use Rattle.pef_lines.specs.Lines.{cut_at}
-use Rattle.pef_lines.specs.Numbers.{decimal_number}
 
 -- a printing byte, and no space
 abbrev pub is_printing : ℕ → Bool
@@ -24,12 +23,3 @@ word_before (Some p) = if is_word p.0 then Some p else None
 -- the next word of a line, and what follows the space behind it
 unfoldable pub next_word : List ℕ → Option (List ℕ × List ℕ)
 next_word line = word_before (cut_at 0x20 line)
-
--- the number that the part before a space spells, and what is after the space; or that the whole line spells
-abbrev pub number_before : Option (List ℕ × List ℕ) → List ℕ → Option (ℕ × Option (List ℕ))
-number_before None line = option_map (λ n. (n, None)) (decimal_number line)
-number_before (Some p) line = option_map (λ n. (n, Some p.1)) (decimal_number p.0)
-
--- the number that the first word of a line spells, and what follows the space behind it, if there is one
-abbrev pub first_number : List ℕ → Option (ℕ × Option (List ℕ))
-first_number line = number_before (cut_at 0x20 line) line

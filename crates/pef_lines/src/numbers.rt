@@ -1,8 +1,9 @@
 ghost use Rattle.std.specs.Prelude.{◌≡◌, ◌≤◌, IfSome, option_map};
 ghost use Rattle.std.specs.Option.{option_and_then, option_copied};
+ghost use Rattle.pef_lines.specs.Cursor.{first_number, words_of};
 ghost use Rattle.pef_lines.specs.Kept.Numbers.{digits_parted, limited, separated};
 ghost use Rattle.pef_lines.specs.Numbers.{below, decimal_number, digits_number, hex_number, hex_value};
-ghost use Rattle.pef_lines.specs.Words.{first_number};
+ghost use Rattle.pef_lines.specs.Views.{words_in};
 
 /// The most hex digits of a number.
 const MAX_HEX_DIGITS: usize = 8;
@@ -103,7 +104,7 @@ pub fn decimal_number(digits: &[u8]) -> Option<u32>
 /// is one. It looks at each byte once.
 #[inline(always)]
 pub fn first_number(line: &[u8]) -> Option<(u32, Option<&[u8]>)>
-    ensures { option_map (λ p. (p.0, option_copied p.1)) result ≡ first_number line.now }
+    ensures { option_map (λ p. (p.0, words_in (option_copied p.1))) result ≡ first_number (words_of line.now) }
 {
     let (first, rest) = line.split_first()?;
     if *first == b'0' {
@@ -117,7 +118,7 @@ pub fn first_number(line: &[u8]) -> Option<(u32, Option<&[u8]>)>
 /// Returns a number and what follows the space after it, if the line doesn't end there.
 #[inline(always)]
 fn separated(number: u32, behind: &[u8]) -> Option<(u32, Option<&[u8]>)>
-    ensures { option_map (λ p. (p.0, option_copied p.1)) result ≡ separated (number, behind.now) }
+    ensures { option_map (λ p. (p.0, words_in (option_copied p.1))) result ≡ separated (number, behind.now) }
 {
     match behind.split_first() {
         None => Some((number, None)),

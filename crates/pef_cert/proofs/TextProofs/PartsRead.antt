@@ -6,6 +6,7 @@ use Rattle.std.specs.Option.{is_none}
 use Rattle.std.specs.Str.{bytes_eq}
 use Rattle.std.proofs.lemmas.Bool.{eqb-true, leb-true, le-ltb, lt-ltb, ltb-true, and_parts}
 use Rattle.pef_cert.specs.Valid.{rises}
+use Rattle.pef_lines.specs.Cursor.{behind, first_number, first_of, none_left, provided, words_of}
 use Rattle.pef_lines.specs.Numbers.{decimal_number}
 use Rattle.pef_ports.specs.Text.{hex_digit, hex_text}
 use Rattle.pef_reloc.specs.declared.fault.RelocFault.{RelocFault}
@@ -20,7 +21,7 @@ use Rattle.pef_cert.specs.declared.text.fields.Version.{Version}
 use Rattle.pef_cert.specs.declared.text.fields.Version.TheVariants.{One, Two}
 use Rattle.pef_cert.specs.Text.Lines.{Range, bytes_spelled, fixups_line, head_line, length_line, most_text_fixups, most_text_registers, number_line, program_in, program_line, range_line, registers_in, registers_line, row_line, version_line}
 use Rattle.pef_cert.specs.Text.Printed.{IsNumber, IsRow, halfword_words, number_words, program_words, version_word, words_text}
-use Rattle.pef_cert.specs.Text.Words.{behind, bytes_in, digit_in, ended, first_number, first_of, halfword_in, halfwords_in, none_left, numbers_in, provided, words_of}
+use Rattle.pef_cert.specs.Text.Words.{bytes_in, digit_in, ended, halfword_in, halfwords_in, numbers_in}
 use Rattle.pef_cert.proofs.TextProofs.RangeLemmas.{labels_differ}
 use Rattle.pef_cert.proofs.TextProofs.RoundLemmas.{ArePairs}
 use Rattle.pef_cert.proofs.TextProofs.WordsRead.{decimal_number-is, first_of-some, is_word, line-is, none_left-true, numbers_in-are, provided-some, then_some}

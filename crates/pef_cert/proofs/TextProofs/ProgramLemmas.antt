@@ -4,13 +4,14 @@ use Rattle.std.specs.Prelude.{codes}
 use Rattle.std.proofs.lemmas.Iterator.Adapters.{option_map_id}
 use Rattle.std.specs.Option.{ok_or}
 use Rattle.std.specs.Str.{bytes_eq}
+use Rattle.pef_lines.specs.Cursor.{behind, first_of, words_of}
 use Rattle.pef_reloc.specs.declared.instr.Instr.{Instr}
 use Rattle.pef_cert.specs.declared.text.fault.CertFault.{CertFault}
 use Rattle.pef_cert.specs.Text.Kept.Reading.{Says}
 use Rattle.pef_cert.specs.Text.Lines.{bytes_spelled, program_in, program_line}
 use Rattle.pef_cert.specs.Text.Views.{FailsAs}
 use Rattle.pef_words.specs.Refusals.{◌>>=◌}
-use Rattle.pef_cert.specs.Text.Words.{behind, first_of, halfwords_in, words_of}
+use Rattle.pef_cert.specs.Text.Words.{halfwords_in}
 use Rattle.pef_cert.proofs.TextProofs.ReadLemmas.{fails_first, said_first, then_read}
 
 -- the rest after its first word

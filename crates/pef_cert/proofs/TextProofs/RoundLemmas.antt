@@ -6,6 +6,7 @@ use Rattle.std.specs.Str.{bytes_eq}
 use Rattle.std.proofs.lemmas.Bool.{and_from, le-leb, lt-ltb, ne_eqb}
 use Rattle.std.proofs.lemmas.List.{append-nil, length-append, length-replicate}
 use Rattle.pef_cert.specs.Valid.{rises}
+use Rattle.pef_lines.specs.Cursor.{none_left}
 use Rattle.pef_ports.specs.Text.{hex_digit, hex_text}
 use Rattle.pef_reloc.specs.declared.instr.Instr.{Instr}
 use Rattle.pef_reloc.specs.Instrs.{halfword_bytes, halfwords_of, instrs_fit, program_length, spelled}
@@ -14,7 +15,7 @@ use Rattle.pef_reloc.proofs.Laws.{instrs_of-spelled, spelled-nothing, spelled-on
 use Rattle.pef_cert.specs.Text.Grammar.{Left, labels_read, last_labels, range_rows, ranges_read, rows_read}
 use Rattle.pef_cert.specs.Text.Lines.{Range, bytes_spelled, most_text_registers, number_line, program_line, range_line, registers_in, registers_line, row_line}
 use Rattle.pef_cert.specs.Text.Printed.{IsNumber, IsRow, halfword_words, labels_text, line_text, number_words, program_words, range_text, ranges_of, ranges_text, rows_text, words_text}
-use Rattle.pef_cert.specs.Text.Words.{digit_in, halfword_in, halfwords_in, none_left, numbers_in}
+use Rattle.pef_cert.specs.Text.Words.{digit_in, halfword_in, halfwords_in, numbers_in}
 use Rattle.pef_cert.specs.declared.text.fields.Version.{Version}
 use Rattle.pef_cert.specs.declared.text.fields.Version.TheVariants.{One, Two}
 use Rattle.pef_cert.proofs.TextProofs.RangeLemmas.{Split, last_labels-more, other_labels, ranges_of-run, split}

@@ -6,12 +6,12 @@ use Rattle.std.specs.Option.{option_and_then}
 use Rattle.std.proofs.lemmas.Bool.{ltb-true, lt-ltb, ne_eqb, and_from, and_parts}
 use Rattle.std.proofs.lemmas.Fmt.{decimal_by_steps, decimal_digit, first_decimal}
 use Rattle.std.proofs.lemmas.List.{append-nil}
+use Rattle.pef_lines.specs.Cursor.{words_of}
 use Rattle.pef_lines.specs.Lines.{cut_at}
 use Rattle.pef_lines.specs.Numbers.{below, decimal_number, digits_value, hex_value}
+use Rattle.pef_lines.proofs.Laws.{words_of-cut}
 use Rattle.pef_cert.specs.Text.Grammar.{line_read}
 use Rattle.pef_cert.specs.Text.Printed.{line_text, words_text}
-use Rattle.pef_cert.specs.Text.Words.{words_of}
-use Rattle.pef_cert.proofs.TextProofs.WordLemmas.{words_of-cut}
 
 -- all bytes are above a low one
 abbrev pub above : ℕ → List ℕ → Bool

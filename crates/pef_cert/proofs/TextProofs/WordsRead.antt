@@ -8,12 +8,13 @@ use Rattle.std.proofs.lemmas.Fmt.{decimal_digit, decimal_step}
 use Rattle.std.proofs.lemmas.List.{append-nil}
 use Rattle.std.proofs.lemmas.Option.{option_and_then_some}
 use Rattle.std.proofs.lemmas.Slice.Eq.{bytes_eq-Decides}
+use Rattle.pef_lines.specs.Cursor.{behind, first_of, none_left, provided, words_of}
 use Rattle.pef_lines.specs.Lines.{longer_first}
 use Rattle.pef_lines.specs.Numbers.{below, decimal_number, digits_value, hex_value, zero_before}
+use Rattle.pef_lines.proofs.Laws.{words_of-some}
 use Rattle.pef_words.specs.Refusals.{◌>>=◌}
 use Rattle.pef_cert.specs.Text.Printed.{IsNumber, number_words, words_text}
-use Rattle.pef_cert.specs.Text.Words.{behind, first_of, none_left, numbers_in, provided, words_of}
-use Rattle.pef_cert.proofs.TextProofs.WordLemmas.{words_of-some}
+use Rattle.pef_cert.specs.Text.Words.{numbers_in}
 
 -- the results of steps
 

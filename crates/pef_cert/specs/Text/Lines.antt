@@ -4,6 +4,7 @@ use Rattle.std.specs.Prelude.{ℕ, ◌*◌, ◌==◌, ◌&&◌, Bool, List, [], 
 use Rattle.std.specs.Option.{is_none}
 use Rattle.std.specs.Str.{bytes_eq}
 use Rattle.pef_cert.specs.Valid.{rises}
+use Rattle.pef_lines.specs.Cursor.{behind, first_number, first_of, provided, words_of}
 use Rattle.pef_lines.specs.Numbers.{decimal_number}
 use Rattle.pef_reloc.specs.declared.instr.Instr.{Instr}
 use Rattle.pef_reloc.specs.Unrolled.{instrs_of, program_fault}
@@ -12,7 +13,7 @@ use Rattle.pef_cert.specs.declared.text.fields.Head.{Head}
 use Rattle.pef_cert.specs.declared.text.fields.Head.TheVariants.{Section, End}
 use Rattle.pef_cert.specs.declared.text.fields.Version.{Version}
 use Rattle.pef_cert.specs.declared.text.fields.Version.TheVariants.{One, Two}
-use Rattle.pef_cert.specs.Text.Words.{behind, ended, first_number, first_of, halfwords_in, numbers_in, provided, words_of}
+use Rattle.pef_cert.specs.Text.Words.{ended, halfwords_in, numbers_in}
 
 -- the most fixups of a certificate in a text, and the most sections that count as values of a register in it
 abbrev pub most_text_fixups : ℕ

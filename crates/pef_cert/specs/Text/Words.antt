@@ -1,45 +1,13 @@
--- The words of a line (docs/FORMATS.md, "Texts of certificates"): the parts between its spaces. A number is decimal
--- without a leading zero. The bytes of a program are in words of four upper-case hex digits.
-use Rattle.std.specs.Prelude.{ℕ, ◌+◌, ◌*◌, ◌-◌, ◌==◌, ◌&&◌, Bool, true, false, List, [], ◌∷◌, ◌++◌, Option, None, Some, length, nat_le, if◌then◌else◌}
-use Rattle.std.specs.Str.{bytes_eq}
-use Rattle.pef_lines.specs.Lines.{parts_of}
+-- What the words of a line spell (docs/FORMATS.md, "Texts of certificates"). A number is decimal without a leading
+-- zero. The bytes of a program are in words of four upper-case hex digits.
+use Rattle.std.specs.Prelude.{ℕ, ◌+◌, ◌*◌, ◌-◌, ◌==◌, ◌&&◌, List, [], ◌∷◌, ◌++◌, Option, None, Some, length, nat_le, if◌then◌else◌}
+use Rattle.pef_lines.specs.Cursor.{none_left, provided}
 use Rattle.pef_lines.specs.Numbers.{decimal_number}
 use Rattle.pef_words.specs.Refusals.{◌>>=◌}
-
--- the words of a line; one is empty if two spaces, or an end and a space, are adjacent
-abbrev pub words_of : List ℕ → List (List ℕ)
-words_of line = parts_of 0x20 line
-
--- a value under a condition
-abbrev pub provided : {A : Type 0} → Bool → A → Option A
-provided condition x = if condition then Some x else None
-
--- the first word and those after it
-abbrev pub first_of : List (List ℕ) → Option (List ℕ × List (List ℕ))
-first_of [] = None
-first_of (word ∷ words) = Some (word, words)
-
--- the words after an expected first word
-abbrev pub behind : List ℕ → List (List ℕ) → Option (List (List ℕ))
-behind wanted words = do
-  first ← first_of words
-  provided (bytes_eq first.0 wanted) first.1
-
--- whether no word is left
-abbrev pub none_left : List (List ℕ) → Bool
-none_left [] = true
-none_left (word ∷ words) = false
 
 -- a value if no word is left
 abbrev pub ended : {A : Type 0} → List (List ℕ) → A → Option A
 ended words x = provided (none_left words) x
-
--- the number that the first word spells, and the words after it
-abbrev pub first_number : List (List ℕ) → Option (ℕ × List (List ℕ))
-first_number words = do
-  first ← first_of words
-  number ← decimal_number first.0
-  Some (number, first.1)
 
 -- the numbers that all words spell
 abbrev pub numbers_in : List (List ℕ) → Option (List ℕ)

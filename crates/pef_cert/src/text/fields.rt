@@ -1,8 +1,7 @@
 ghost use Rattle.std.specs.Prelude.{◌≡◌, ◌≤◌, IfSome};
 ghost use Rattle.pef_cert.specs.Text.Lines.{fixups_line, head_line, length_line, number_line, version_line};
 
-use crate::text::words::Words;
-use pef_lines::decimal_number;
+use pef_lines::{Words, decimal_number};
 
 /// The most fixups of a certificate in a text.
 const MAX_FIXUPS: u32 = 65_536;

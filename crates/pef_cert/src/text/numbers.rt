@@ -1,14 +1,14 @@
 ghost use Rattle.std.specs.Prelude.{◌≡◌, ◌<◌, ◌≤◌, ◌++◌, option_map, vec_len, IfOk, OnOk};
+ghost use Rattle.pef_lines.specs.Views.{words_left};
 ghost use Rattle.pef_words.specs.Refusals.{result_map};
-ghost use Rattle.pef_cert.specs.Text.Kept.Reading.{Says, words_left};
+ghost use Rattle.pef_cert.specs.Text.Kept.Reading.{Says};
 ghost use Rattle.pef_cert.specs.Text.Lines.{range_line, registers_in, registers_line, row_line};
 ghost use Rattle.pef_cert.specs.Text.Words.{numbers_in};
 
 use crate::rise;
 use crate::text::CertFault;
 use crate::text::lines::Line;
-use crate::text::words::Words;
-use pef_lines::decimal_number;
+use pef_lines::{Words, decimal_number};
 use std::alloc::Global;
 
 /// The most sections that count as values of a register.

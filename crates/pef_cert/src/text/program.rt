@@ -1,14 +1,15 @@
 ghost use Rattle.std.specs.Prelude.{◌≡◌, ◌≤◌, ◌*◌, ◌++◌, option_map, IfOk, IfSome};
+ghost use Rattle.pef_lines.specs.Views.{words_left};
 ghost use Rattle.pef_words.specs.Refusals.{result_map};
 ghost use Rattle.pef_reloc.specs.Unrolled.{instrs_of};
 ghost use Rattle.pef_reloc.specs.Views.{program_bytes};
-ghost use Rattle.pef_cert.specs.Text.Kept.Reading.{Says, words_left};
+ghost use Rattle.pef_cert.specs.Text.Kept.Reading.{Says};
 ghost use Rattle.pef_cert.specs.Text.Lines.{bytes_spelled, program_in, program_line};
 ghost use Rattle.pef_cert.specs.Text.Words.{digit_in, halfword_in, halfwords_in};
 
 use crate::text::CertFault;
 use crate::text::lines::Line;
-use crate::text::words::Words;
+use pef_lines::Words;
 use pef_reloc::{Instr, Program};
 use std::alloc::{AllocError, Global};
 

@@ -1,16 +1,14 @@
 -- The values of the reader's types, and of its steps.
 use Rattle.std.specs.Prelude.{◌≡◌, ℕ, ◌+◌, ◌<◌, ◌≤◌, length, List, [], Option, None, Some, Result, Ok, Err}
-use Rattle.std.specs.Option.{ok_or, option_copied}
+use Rattle.std.specs.Option.{ok_or}
 use Rattle.pef_cert.specs.Certified.{Certified}
 use Rattle.pef_lines.specs.Lines.{cut_at}
 use Rattle.pef_cert.specs.declared.text.fault.CertFault.{CertFault}
 use Rattle.pef_cert.specs.declared.text.fields.Version.{Version}
 use Rattle.pef_cert.specs.declared.text.lines.Line.{Line}
 use Rattle.pef_cert.specs.declared.text.lines.Lines.{Lines}
-use Rattle.pef_cert.specs.declared.text.words.Words.{Words}
 use Rattle.pef_cert.specs.Text.Grammar.{Left, certificates_of, certificates_read, ranges_read}
 use Rattle.pef_cert.specs.Text.Views.{FailsAs, ReadsAs}
-use Rattle.pef_cert.specs.Text.Words.{words_of}
 
 -- a result and the rest are the expected ones, unless an allocation failed
 abbrev pub Takes : {A : Type 0} → Result A CertFault → Left → Result (A × Left) ℕ → Type 0
@@ -20,15 +18,6 @@ Takes (Err fault) left wanted = FailsAs fault wanted
 -- a result is the value of the line with a number, unless an allocation failed
 abbrev pub Says : {A : Type 0} → Result A CertFault → ℕ → Option A → Type 0
 Says result number wanted = ReadsAs result (ok_or wanted number)
-
--- the words that are left of a line: none after the last one
-
-abbrev pub words_in : Option (List ℕ) → List (List ℕ)
-words_in None = []
-words_in (Some rest) = words_of rest
-
-abbrev pub words_left : Words → List (List ℕ)
-words_left words = words_in (option_copied words.rest)
 
 -- the rest of a text
 abbrev pub left : Lines → Left

@@ -1,5 +1,5 @@
 use Rattle.std.proofs.Common.{◌≡◌, ◌++◌, length, option_map}
-use Rattle.pef_cert.specs.Text.Kept.Reading.{words_left}
+use Rattle.pef_lines.specs.Views.{words_left}
 use Rattle.pef_cert.specs.Text.Words.{numbers_in}
 use Rattle.pef_cert.proofs.text.numbers.append_numbers.Given as goal
 

@@ -1,5 +1,5 @@
 use Rattle.std.proofs.Common.{◌≡◌, ◌++◌, length, option_map}
-use Rattle.pef_cert.specs.Text.Kept.Reading.{words_left}
+use Rattle.pef_lines.specs.Views.{words_left}
 use Rattle.pef_cert.specs.Text.Words.{halfwords_in}
 use Rattle.pef_cert.proofs.text.program.append_halfwords.Given as goal
 

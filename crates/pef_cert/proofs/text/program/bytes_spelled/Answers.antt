@@ -1,7 +1,7 @@
 -- Words that aren't `-` spell halfwords.
 use Rattle.std.proofs.lemmas.Result.{err_from_is_err_and}
 use Rattle.std.proofs.Common.{Err, Ok}
-use Rattle.pef_cert.specs.Text.Kept.Reading.{words_left}
+use Rattle.pef_lines.specs.Views.{words_left}
 use Rattle.pef_cert.proofs.TextProofs.ProgramLemmas.{halfwords_say}
 use Rattle.pef_cert.proofs.text.program.bytes_spelled.Goals as goal
 

@@ -2,7 +2,7 @@
 use Rattle.std.proofs.Common.{sym, ap, ◌∙◌}
 use Rattle.std.proofs.lemmas.Result.{err_from_is_err_and}
 use Rattle.std.specs.Prelude.{codes}
-use Rattle.pef_cert.specs.Text.Words.{behind}
+use Rattle.pef_lines.specs.Cursor.{behind}
 use Rattle.pef_cert.proofs.TextProofs.ProgramLemmas.{program_fails, program_taken}
 use Rattle.pef_cert.proofs.text.program.program_line.Goals as goal
 

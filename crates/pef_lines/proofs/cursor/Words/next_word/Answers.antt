@@ -1,7 +1,7 @@
 -- The next word ends at the first space, or with the line.
 use Rattle.std.proofs.Common.{refl, sym}
-use Rattle.pef_cert.proofs.TextProofs.WordLemmas.{words_of-cut, words_of-last}
-use Rattle.pef_cert.proofs.text.words.Words.next_word.Goals as goal
+use Rattle.pef_lines.proofs.CursorLemmas.{words_of-cut, words_of-last}
+use Rattle.pef_lines.proofs.cursor.Words.next_word.Goals as goal
 
 pub returns-in-Some-cut_near : goal.returns-in-Some-cut_near
 returns-in-Some-cut_near c =

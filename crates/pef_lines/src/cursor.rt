@@ -1,18 +1,22 @@
 ghost use Rattle.std.specs.Prelude.{◌≡◌, option_map};
-ghost use Rattle.pef_cert.specs.Text.Kept.Reading.{words_left};
-ghost use Rattle.pef_cert.specs.Text.Words.{behind, first_number, first_of, none_left, words_of};
+ghost use Rattle.pef_lines.specs.Cursor.{behind, first_number, first_of, none_left, words_of};
+ghost use Rattle.pef_lines.specs.Views.{words_left};
 
-use pef_lines::{cut_near, first_number};
+use crate::numbers::first_number;
+use crate::words::cut_near;
 
-/// The words that are left of a line.
-#[derive(Clone, Copy)]
+/// The words that are left of a line: the parts between its spaces.
+///
+/// A word may have any bytes but spaces. It is empty if two spaces are adjacent, or a space begins or ends the line.
+/// After a call that returned `None` it isn't specified which words are left.
+#[derive(Clone, Copy, Debug)]
 pub struct Words<'a> {
     /// The part of the line after the last word that was taken, if there is more.
     rest: Option<&'a [u8]>,
 }
 
 impl<'a> Words<'a> {
-    /// Returns the words of a line: the parts between its spaces.
+    /// Returns the words of a line, of which there is at least one.
     pub fn new(line: &'a [u8]) -> Words<'a>
         ensures { words_left result ≡ words_of line.entry.now }
     {
@@ -45,7 +49,8 @@ impl<'a> Words<'a> {
         }
     }
 
-    /// Takes the next word, and returns its number.
+    /// Takes the next word, and returns the number that it spells: decimal digits without a leading zero, below 2^32.
+    /// It looks at each byte once.
     #[inline(always)]
     pub fn next_number(&mut self) -> Option<u32>
         ensures { option_map (λ number. (number, words_left self.new)) result ≡ first_number (words_left self.old) }
@@ -58,7 +63,7 @@ impl<'a> Words<'a> {
         Some(number)
     }
 
-    /// Takes the next word if it is the expected one.
+    /// Takes the next word if it is the wanted one.
     pub fn expect(&mut self, wanted: &[u8]) -> Option<()>
         ensures { option_map (λ _. words_left self.new) result ≡ behind wanted.now (words_left self.old) }
     {
