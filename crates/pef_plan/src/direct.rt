@@ -1,14 +1,13 @@
-ghost use Rattle.std.specs.Prelude.{◌≡◌, ◌+◌, ◌*◌, ◌==◌, ◌<◌, ◌≤◌, ℕ, length, true};
+ghost use Rattle.std.specs.Prelude.{◌≡◌, ◌+◌, ◌*◌, ◌≤◌, ℕ, length, true};
 ghost use Rattle.pef_cert.specs.Extension.{extension};
-ghost use Rattle.pef_cert.specs.Labels.{Labels, class_of};
-ghost use Rattle.pef_cert.specs.LabelTests.{base_test, import_cost, second_test};
+ghost use Rattle.pef_cert.specs.Labels.{Labels};
+ghost use Rattle.pef_cert.specs.LabelTests.{base_test, import_cost};
 ghost use Rattle.pef_plan.specs.Runs.Places.{Chosen, HereOf};
-ghost use Rattle.pef_plan.specs.Runs.Runs.{Holds};
-ghost use Rattle.pef_plan.specs.Kept.Met.{MetInC, MetInD, PairsMet};
 ghost use Rattle.pef_plan.specs.Runs.Tables.{Agrees};
 ghost use Rattle.pef_reloc.specs.declared.fixup.Base.TheVariants.{Import, Section};
 
 use crate::runs::{Choice, OpenState, PlanState, Run, SolvedSuffix, Step};
+use crate::section_runs::{Classed, best_in_c, best_in_d};
 use pef_cert::{WORD, class_of};
 use pef_reloc::{Base, Instr};
 
@@ -45,6 +44,7 @@ pub(crate) fn direct<'a>(known: SolvedSuffix<'a>, here: OpenState<'a>) -> Choice
     }
 }
 
+#[tactic(auto, using(crate::proofs::RunTests::section_met))]
 fn direct_section<'a>(known: SolvedSuffix<'a>, here: OpenState<'a>, section: u32) -> Choice<'a>
     requires here { HereOf known here }
     requires at { here.place.position ≡ here.first.offset }
@@ -54,8 +54,10 @@ fn direct_section<'a>(known: SolvedSuffix<'a>, here: OpenState<'a>, section: u32
     ensures small { result.value ≤ 4 * length here.entry.others.now + 4 }
 {
     let one = single_section(known, here, section);
-    let best = best_in_c(known, here, section, one);
-    best_in_d(known, here, section, best)
+    let class = class_of(known.registers, section);
+    let of = Classed { section, class };
+    let best = best_in_c(known, here, of, one);
+    best_in_d(known, here, of, best)
 }
 
 /// Returns the instruction that adds a section once.
@@ -84,110 +86,7 @@ pub(crate) fn value_after<'a>(known: SolvedSuffix<'a>, here: OpenState<'a>) -> u
     known.value(here.others, position, here.place.c, here.place.d)
 }
 
-/// Returns the better of a choice and a section's runs. Only runs that need the section in register C are
-/// tried, and only if it holds it.
-fn best_in_c<'a>(
-    known: SolvedSuffix<'a>,
-    here: OpenState<'a>,
-    section: u32,
-    first: Choice<'a>,
-) -> Choice<'a>
-    requires here { HereOf known here }
-    requires at { here.place.position ≡ here.first.offset }
-    requires base { here.first.base ≡ Section section }
-    requires first { Chosen known here first }
-    ensures chosen { Chosen known.entry here.entry result }
-    ensures better { result.value ≤ first.entry.value }
-    ensures least { (l : Labels) (value : ℕ) → Agrees l known.entry here.entry.others.now → value ≤ result.value → (class_of l.registers section == here.entry.place.c) ≡ true → MetInC l here.entry section value }
-{
-    if class_of(known.registers, section) != here.place.c {
-        return first;
-    }
-    let from = here.place.position;
-    let words = known.best_of_run(here, Run::WordsOfC(section), from, first);
-    best_of_pairs(known, here, section, words)
-}
-
-/// Returns the better of a choice and a section's runs. Only runs that need the section in register D are
-/// tried, and only if it holds it.
-fn best_in_d<'a>(
-    known: SolvedSuffix<'a>,
-    here: OpenState<'a>,
-    section: u32,
-    first: Choice<'a>,
-) -> Choice<'a>
-    requires here { HereOf known here }
-    requires at { here.place.position ≡ here.first.offset }
-    requires base { here.first.base ≡ Section section }
-    requires first { Chosen known here first }
-    ensures chosen { Chosen known.entry here.entry result }
-    ensures better { result.value ≤ first.entry.value }
-    ensures least { (l : Labels) (value : ℕ) → Agrees l known.entry here.entry.others.now → value ≤ result.value → (class_of l.registers section == here.entry.place.d) ≡ true → MetInD l here.entry section value }
-{
-    if class_of(known.registers, section) != here.place.d {
-        return first;
-    }
-    let from = here.place.position;
-    let words = known.best_of_run(here, Run::WordsOfD(section), from, first);
-    known.best_of_run(here, Run::Spaced(section), from, words)
-}
-
-/// Returns the better of a choice and the runs of pairs of a section in register C and one in D.
-fn best_of_pairs<'a>(
-    known: SolvedSuffix<'a>,
-    here: OpenState<'a>,
-    section: u32,
-    first: Choice<'a>,
-) -> Choice<'a>
-    requires here { HereOf known here }
-    requires at { here.place.position ≡ here.first.offset }
-    requires holds { Holds known.registers.now section here.place.c }
-    requires first { Chosen known here first }
-    ensures chosen { Chosen known.entry here.entry result }
-    ensures better { result.value ≤ first.entry.value }
-    ensures least { (l : Labels) (value : ℕ) → Agrees l known.entry here.entry.others.now → value ≤ result.value → second_test l value section here.entry.place.c here.entry.place.d here.entry.first here.entry.others.now ≡ true }
-{
-    match here.others.split_first() {
-        Some((next, _)) => match next.base {
-            Base::Section(second) => best_of_two(known, here, section, second, first),
-            Base::Import(_) => first,
-        },
-        None => first,
-    }
-}
-
-fn best_of_two<'a>(
-    known: SolvedSuffix<'a>,
-    here: OpenState<'a>,
-    section: u32,
-    second: u32,
-    first: Choice<'a>,
-) -> Choice<'a>
-    requires here { HereOf known here }
-    requires at { here.place.position ≡ here.first.offset }
-    requires holds { Holds known.registers.now section here.place.c }
-    requires counts { class_of known.registers.now second < length known.registers.now }
-    requires first { Chosen known here first }
-    ensures chosen { Chosen known.entry here.entry result }
-    ensures better { result.value ≤ first.entry.value }
-    ensures least { (l : Labels) (value : ℕ) → Agrees l known.entry here.entry.others.now → value ≤ result.value → PairsMet l here.entry section second value }
-{
-    if class_of(known.registers, second) != here.place.d {
-        return first;
-    }
-    let from = here.place.position;
-    let pairs = Run::Pairs {
-        first: section,
-        second,
-    };
-    let spaced = Run::SpacedPairs {
-        first: section,
-        second,
-    };
-    let near = known.best_of_run(here, pairs, from, first);
-    known.best_of_run(here, spaced, from, near)
-}
-
+#[tactic(auto, using(crate::proofs::RunTests::import_met, crate::proofs::RunTests::imports_met))]
 fn direct_import<'a>(known: SolvedSuffix<'a>, here: OpenState<'a>, import: u32) -> Choice<'a>
     requires here { HereOf known here }
     requires at { here.place.position ≡ here.first.offset }

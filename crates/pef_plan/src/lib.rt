@@ -3,7 +3,6 @@
 
 mod direct;
 mod fault;
-mod lows;
 mod moves;
 mod planner;
 mod program;
@@ -11,6 +10,7 @@ mod reading;
 mod registers;
 mod rows;
 mod runs;
+mod section_runs;
 mod skips;
 mod tables;
 mod theorems;

@@ -9,8 +9,8 @@ ghost use Rattle.pef_plan.specs.Kept.Rows.{Adds, AddsInBoth, AddsInC, AlongOf, C
 ghost use Rattle.pef_reloc.specs.Limits.{most_sections};
 
 use crate::direct::SMALL_IMPORTS;
-use crate::lows::{Classed, low_in_c, low_in_d};
 use crate::runs::{FixupState, OpenState, PlanState, Run, RunEnds, SolvedSuffix};
+use crate::section_runs::{Classed, LowValue, best_in_c, best_in_d};
 use pef_cert::class_of;
 use pef_reloc::Base;
 
@@ -96,7 +96,8 @@ fn lower_in_c(
     'classes: for d in 0..known.classes() {
         let place = known.place(of.class, d);
         let here = at_classes(at, of.class, d);
-        row[place] = low_in_c(known, here, ends, of, u64::from(row[place])) as u32;
+        let value = u64::from(row[place]);
+        row[place] = best_in_c(known, here, of, LowValue { value, ends }).value as u32;
     }
 }
 
@@ -120,7 +121,8 @@ fn lower_in_d(
     'classes: for c in 0..known.classes() {
         let place = known.place(c, of.class);
         let here = at_classes(at, c, of.class);
-        row[place] = low_in_d(known, here, ends, of, u64::from(row[place])) as u32;
+        let value = u64::from(row[place]);
+        row[place] = best_in_d(known, here, of, LowValue { value, ends }).value as u32;
     }
 }
 

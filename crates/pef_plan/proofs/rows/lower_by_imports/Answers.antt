@@ -1,7 +1,7 @@
-use Rattle.std.proofs.Common.{◌≡◌, ◌≢◌, ◌+◌, ◌<◌, ◌≤◌, ◌∙◌, ◌∷◌, ℕ, true, inl, inr, ap, arith, length, refl, slice_index, subst, sym}
+use Rattle.std.proofs.Common.{◌≡◌, ◌≢◌, ◌+◌, ◌<◌, ◌≤◌, ◌∙◌, ℕ, inl, inr, ap, arith, length, refl, slice_index, subst, sym}
 use Rattle.std.proofs.lemmas.List.{length-set}
 use Rattle.pef_cert.specs.Labels.{Labels}
-use Rattle.pef_cert.specs.LabelTests.{import_cost, numbered_test}
+use Rattle.pef_cert.specs.LabelTests.{import_cost}
 use Rattle.pef_plan.specs.declared.runs.run.Run.TheVariants.{Imports}
 use Rattle.pef_plan.specs.declared.runs.state.OpenState.{OpenState}
 use Rattle.pef_plan.specs.Kept.Rows.{Adds, DirectIs, state_of}
@@ -9,7 +9,7 @@ use Rattle.pef_plan.specs.Runs.Places.{Led}
 use Rattle.pef_plan.specs.Runs.Runs.{Ends}
 use Rattle.pef_plan.specs.Runs.Tables.{Agrees, number_in, place_of}
 use Rattle.pef_plan.proofs.DirectLemmas.{adds-lower, direct-import, here-of, lowered-set}
-use Rattle.pef_plan.proofs.RunTests.{ends_here, imports_met}
+use Rattle.pef_plan.proofs.RunTests.{imports_met}
 use Rattle.pef_plan.proofs.RunsProofs.PlaceLemmas.{class_under, next_along, next_line, place_under, same_place}
 use Rattle.pef_plan.proofs.rows.lower_by_imports.Goals.{then-d-classes, else-d-classes}
 use Rattle.pef_plan.proofs.rows.lower_by_imports.Goals as goal
@@ -47,9 +47,7 @@ places-preserved c =
     let new : DirectIs a.known a.at x y c.low_of_run.result = direct-import a.known a.at a.import x y c.low_of_run.result c.requires.at c.requires.base
     (adds-lower a.known h (import_cost a.import) (number_in r row x y) c.low_of_run.result old led (omega (arith, better, value)))
     (λ l n agrees low same.
-    subst (λ (m : ℕ). numbered_test l n x y 512 a.at.first.offset m (a.at.first ∷ a.at.others.now) ≡ true) c.requires.next
-    (imports_met l n a.at.first.offset a.at.import_index x y (a.at.first ∷ a.at.others.now)
-    (ends_here l a.known h Imports n (here-of a.known a.at x y c.requires.at under_c under_d) refl (ends l n agrees low)))) in
+    imports_met l a.known h a.import n (here-of a.known a.at x y c.requires.at under_c under_d) refl c.requires.next (ends l n agrees low)) in
     record {
       len = length-set row c.places.place c.low_of_run.result ∙ len;
       place = next.0;

@@ -25,23 +25,23 @@ classes-preserved c =
     let inside = c.place-place.ensures.inside in
     let len = i.len in
     let wide = c.requires.row in
-    let value : c.from.result ≡ number_in r row a.of.class d = c.from.ensures ∙ ap (slice_index row) c.place-place.ensures.is in
+    let value : c.from-value.result ≡ number_in r row a.of.class d = c.from-value.ensures ∙ ap (slice_index row) c.place-place.ensures.is in
     let old : Adds a.known h 1 (number_in r row a.of.class d) = elim (i.lowered a.of.class d (omega (arith, counts, class)) under) [
       | inl done ↦ (let low = done.0.1 in absurd (omega (arith, low)))
       | inr left ↦ left.1
     ] in
-    let e = c.low_in_c.ensures in
+    let e = c.best_in_c.ensures in
     let better = e.better in
     let is = c.at_classes-here.ensures.is in
-    let new : AddsInC a.known h a.of.section c.low_in_c.result = record {
-      adds = adds-lower a.known h 1 (number_in r row a.of.class d) c.low_in_c.result old (subst (λ (s : OpenState). Led a.known s c.low_in_c.result) is e.led) (omega (arith, better, value));
-      in_c = subst (λ (s : OpenState). (l : Labels) (n : ℕ) → Agrees l a.known s.others.now → n ≤ c.low_in_c.result → (class_of l.registers a.of.section == s.place.c) ≡ true → MetInC l s a.of.section n) is e.least;
+    let new : AddsInC a.known h a.of.section c.best_in_c.result.value = record {
+      adds = adds-lower a.known h 1 (number_in r row a.of.class d) c.best_in_c.result.value old (subst (λ (s : OpenState). Led a.known s c.best_in_c.result.value) is e.leads.1) (omega (arith, better, value));
+      in_c = subst (λ (s : OpenState). (l : Labels) (n : ℕ) → Agrees l a.known s.others.now → n ≤ c.best_in_c.result.value → (class_of l.registers a.of.section == s.place.c) ≡ true → MetInC l s a.of.section n) is e.least;
     } in
     record {
-      len = length-set row c.place-place.result c.low_in_c.result ∙ len;
+      len = length-set row c.place-place.result c.best_in_c.result.value ∙ len;
       lowered = lowered-set r (λ x y v. Adds a.known (state_of a.at x y) 1 v) (λ x y v. AddsInC a.known (state_of a.at x y) a.of.section v)
           (λ x y. (x ≡ a.of.class) × (y < d)) (λ x y. (x ≡ a.of.class) × (y < d + 1))
-          row c.place-place.result a.of.class d c.low_in_c.result c.place-place.ensures.is (omega (arith, inside, len, wide)) under
+          row c.place-place.result a.of.class d c.best_in_c.result.value c.place-place.ensures.is (omega (arith, inside, len, wide)) under
           (λ x y done. (done.0, let low = done.1 in omega (arith, low)))
           (λ x y inside done apart. (done.0, let low = done.1 in let other : y ≢ d = λ same. apart (done.0, same) in omega (arith, low, other)))
           (refl, omega arith) new i.lowered;

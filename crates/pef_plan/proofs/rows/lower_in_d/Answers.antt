@@ -26,23 +26,23 @@ classes-preserved c =
     let inside = c.place-place.ensures.inside in
     let len = i.len in
     let wide = c.requires.row in
-    let value : c.from.result ≡ number_in r row x a.of.class = c.from.ensures ∙ ap (slice_index row) c.place-place.ensures.is in
+    let value : c.from-value.result ≡ number_in r row x a.of.class = c.from-value.ensures ∙ ap (slice_index row) c.place-place.ensures.is in
     let old : AddsInC a.known h a.of.section (number_in r row x a.of.class) = elim (i.lowered x a.of.class under under_class) [
       | inl done ↦ (let low = done.0.1 in absurd (omega (arith, low)))
       | inr left ↦ left.1
     ] in
-    let e = c.low_in_d.ensures in
+    let e = c.best_in_d.ensures in
     let better = e.better in
     let is = c.at_classes-here.ensures.is in
-    let new : AddsInBoth a.known h a.of.section c.low_in_d.result = record {
-      first = in_c-lower a.known h a.of.section (number_in r row x a.of.class) c.low_in_d.result old (subst (λ (s : OpenState). Led a.known s c.low_in_d.result) is e.led) (omega (arith, better, value));
-      in_d = subst (λ (s : OpenState). (l : Labels) (n : ℕ) → Agrees l a.known s.others.now → n ≤ c.low_in_d.result → (class_of l.registers a.of.section == s.place.d) ≡ true → MetInD l s a.of.section n) is e.least;
+    let new : AddsInBoth a.known h a.of.section c.best_in_d.result.value = record {
+      first = in_c-lower a.known h a.of.section (number_in r row x a.of.class) c.best_in_d.result.value old (subst (λ (s : OpenState). Led a.known s c.best_in_d.result.value) is e.leads.1) (omega (arith, better, value));
+      in_d = subst (λ (s : OpenState). (l : Labels) (n : ℕ) → Agrees l a.known s.others.now → n ≤ c.best_in_d.result.value → (class_of l.registers a.of.section == s.place.d) ≡ true → MetInD l s a.of.section n) is e.least;
     } in
     record {
-      len = length-set row c.place-place.result c.low_in_d.result ∙ len;
+      len = length-set row c.place-place.result c.best_in_d.result.value ∙ len;
       lowered = lowered-set r (λ y z v. AddsInC a.known (state_of a.at y z) a.of.section v) (λ y z v. AddsInBoth a.known (state_of a.at y z) a.of.section v)
           (λ y z. (z ≡ a.of.class) × (y < x)) (λ y z. (z ≡ a.of.class) × (y < x + 1))
-          row c.place-place.result x a.of.class c.low_in_d.result c.place-place.ensures.is (omega (arith, inside, len, wide)) under_class
+          row c.place-place.result x a.of.class c.best_in_d.result.value c.place-place.ensures.is (omega (arith, inside, len, wide)) under_class
           (λ y z done. (done.0, let low = done.1 in omega (arith, low)))
           (λ y z inside done apart. (done.0, let low = done.1 in let other : y ≢ x = λ same. apart (same, done.0) in omega (arith, low, other)))
           (refl, omega arith) new i.lowered;

@@ -1,0 +1,156 @@
+ghost use Rattle.std.specs.Prelude.{◌≡◌, ◌==◌, ◌<◌, ◌≤◌, ◌∷◌, ℕ, length, true};
+ghost use Rattle.pef_cert.specs.Labels.{Labels, class_of};
+ghost use Rattle.pef_plan.specs.declared.runs.state.OpenState.{OpenState};
+ghost use Rattle.pef_plan.specs.declared.runs.suffix.SolvedSuffix.{SolvedSuffix};
+ghost use Rattle.pef_plan.specs.Runs.Ends.{EndsAt};
+ghost use Rattle.pef_plan.specs.Runs.Runs.{Ends, Holds, NextBase, RunBegins, RunOf};
+ghost use Rattle.pef_plan.specs.Runs.Places.{Chosen, HereOf, Led};
+ghost use Rattle.pef_plan.specs.Kept.Met.{MetInC, MetInD, PairsMet};
+ghost use Rattle.pef_plan.specs.Runs.Tables.{Agrees};
+ghost use Rattle.pef_reloc.specs.declared.fixup.Base.TheVariants.{Section};
+
+use crate::runs::{Choice, OpenState, Run, RunEnds, SolvedSuffix};
+use pef_cert::class_of;
+use pef_reloc::Base;
+
+/// The best instruction found so far at a fixup. Each type has its own way to find the best end of a run.
+pub(crate) trait Best<'a>: Copy {
+    /// The halfwords of the instruction plus the extension after it.
+    ghost value: { Self → ℕ };
+
+    /// The instruction leads on from a state.
+    ghost leads: { SolvedSuffix → OpenState → Self → Type 0 };
+
+    /// Returns the better of the instruction and a run that begins at the fixup.
+    fn or_run(self, known: SolvedSuffix<'a>, here: OpenState<'a>, run: Run) -> Self
+        requires here { HereOf known here }
+        requires at { here.place.position ≡ here.first.offset }
+        requires run { RunOf known.registers.now run here.place here.place.position }
+        requires begins { RunBegins run here.place.import_index here.first.base here.others.now }
+        requires leads { leads known here self }
+        ensures leads { leads known.entry here.entry result }
+        ensures better { value result ≤ value self }
+        ensures ends { (l : Labels) (n : ℕ) → Agrees l known.entry here.entry.others.now → n ≤ value result → Ends l run here.entry here.entry.place.position n };
+}
+
+/// Follows the run unit by unit.
+impl<'a> Best<'a> for Choice<'a> {
+    ghost value = { λ x. x.value };
+
+    ghost leads = { λ k h x. Chosen k h x };
+
+    fn or_run(self, known: SolvedSuffix<'a>, here: OpenState<'a>, run: Run) -> Choice<'a> {
+        known.best_of_run(here, run, here.place.position, self)
+    }
+}
+
+/// The value of an instruction, and the windows that have the values of the runs at its fixup.
+#[derive(Clone, Copy)]
+pub(crate) struct LowValue<'e> {
+    pub(crate) value: u64,
+    pub(crate) ends: &'e RunEnds,
+}
+
+/// Asks the run's window.
+impl<'a> Best<'a> for LowValue<'_> {
+    ghost value = { λ x. x.value };
+
+    ghost leads = { λ k h x. EndsAt k h.others.now (h.first ∷ h.others.now) x.ends.now × Led k h x.value };
+
+    fn or_run(self, known: SolvedSuffix<'a>, here: OpenState<'a>, run: Run) -> Self {
+        let value = self.ends.low_of_run(known, here, run, self.value);
+        LowValue { value, ..self }
+    }
+}
+
+/// A section and its class.
+#[derive(Clone, Copy)]
+pub(crate) struct Classed {
+    pub(crate) section: u32,
+    pub(crate) class: usize,
+}
+
+/// Returns the better of an instruction and a section's runs. Only runs that need the section in register C
+/// are tried, and only if it holds it.
+#[tactic(auto, using(crate::proofs::RunTests::words_c_met))]
+pub(crate) fn best_in_c<'a, B: Best<'a>>(
+    known: SolvedSuffix<'a>,
+    here: OpenState<'a>,
+    of: Classed,
+    first: B,
+) -> B
+    requires here { HereOf known here }
+    requires at { here.place.position ≡ here.first.offset }
+    requires base { here.first.base ≡ Section of.section }
+    requires class { class_of known.registers.now of.section ≡ of.class }
+    requires first { B.leads known here first }
+    ensures leads { B.leads known.entry here.entry result }
+    ensures better { B.value result ≤ B.value first }
+    ensures least { (l : Labels) (n : ℕ) → Agrees l known.entry here.entry.others.now → n ≤ B.value result → (class_of l.registers of.section == here.entry.place.c) ≡ true → MetInC l here.entry of.section n }
+{
+    let Classed { section, class } = of;
+    if class != here.place.c {
+        return first;
+    }
+    let words = first.or_run(known, here, Run::WordsOfC(section));
+    match here.others.split_first() {
+        Some((next, _)) => match next.base {
+            Base::Section(second) => best_of_pairs(known, here, (section, second), words),
+            Base::Import(_) => words,
+        },
+        None => words,
+    }
+}
+
+/// Returns the better of an instruction and a section's runs. Only runs that need the section in register D
+/// are tried, and only if it holds it.
+#[tactic(auto, using(crate::proofs::RunTests::words_d_met, crate::proofs::RunTests::spaced_met))]
+pub(crate) fn best_in_d<'a, B: Best<'a>>(
+    known: SolvedSuffix<'a>,
+    here: OpenState<'a>,
+    of: Classed,
+    first: B,
+) -> B
+    requires here { HereOf known here }
+    requires at { here.place.position ≡ here.first.offset }
+    requires base { here.first.base ≡ Section of.section }
+    requires class { class_of known.registers.now of.section ≡ of.class }
+    requires first { B.leads known here first }
+    ensures leads { B.leads known.entry here.entry result }
+    ensures better { B.value result ≤ B.value first }
+    ensures least { (l : Labels) (n : ℕ) → Agrees l known.entry here.entry.others.now → n ≤ B.value result → (class_of l.registers of.section == here.entry.place.d) ≡ true → MetInD l here.entry of.section n }
+{
+    let Classed { section, class } = of;
+    if class != here.place.d {
+        return first;
+    }
+    let words = first.or_run(known, here, Run::WordsOfD(section));
+    words.or_run(known, here, Run::Spaced(section))
+}
+
+/// Returns the better of an instruction and the runs of pairs of a section in register C and one in D.
+#[tactic(auto, using(crate::proofs::RunTests::pairs_met))]
+fn best_of_pairs<'a, B: Best<'a>>(
+    known: SolvedSuffix<'a>,
+    here: OpenState<'a>,
+    sections: (u32, u32),
+    best: B,
+) -> B
+    requires here { HereOf known here }
+    requires at { here.place.position ≡ here.first.offset }
+    requires base { here.first.base ≡ Section sections.0 }
+    requires next { NextBase (Section sections.1) here.others.now }
+    requires holds { Holds known.registers.now sections.0 here.place.c }
+    requires counts { class_of known.registers.now sections.1 < length known.registers.now }
+    requires best { B.leads known here best }
+    ensures leads { B.leads known.entry here.entry result }
+    ensures better { B.value result ≤ B.value best }
+    ensures least { (l : Labels) (n : ℕ) → Agrees l known.entry here.entry.others.now → n ≤ B.value result → PairsMet l here.entry sections.0 sections.1 n }
+{
+    let (first, second) = sections;
+    if class_of(known.registers, second) != here.place.d {
+        return best;
+    }
+    let near = best.or_run(known, here, Run::Pairs { first, second });
+    near.or_run(known, here, Run::SpacedPairs { first, second })
+}
