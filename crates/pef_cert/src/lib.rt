@@ -28,7 +28,7 @@ pub use checking::check;
 pub use classes::{change, class_of};
 pub use extension::{REACH, SKIP_REACH, moved_value};
 pub use fixups::{WORD, adds_at, after_first, after_import, program_length};
-pub use registers::{rise, uses_section};
+pub use registers::{are_rising, uses_section};
 pub use rows::{KeptRows, LabelRows, LabelRun, LabelRuns};
 pub use text::{CertFault, printed_texts, read_texts, valid_certificates_print};
 pub use theorems::{

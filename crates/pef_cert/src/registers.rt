@@ -12,7 +12,7 @@ use pef_reloc::{Base, Fixup};
 pub(crate) fn registers_hold(fixups: &[Fixup], registers: &[u32]) -> bool
     ensures { Says result (RegistersOf fixups.now registers.now) }
 {
-    if !rise(registers) {
+    if !are_rising(registers) {
         return false;
     }
     if !all_used(fixups, registers) {
@@ -22,7 +22,7 @@ pub(crate) fn registers_hold(fixups: &[Fixup], registers: &[u32]) -> bool
 }
 
 /// Returns whether numbers rise.
-pub fn rise(numbers: &[u32]) -> bool
+pub fn are_rising(numbers: &[u32]) -> bool
     ensures { result ≡ rises numbers.now }
 {
     match numbers.split_first() {

@@ -277,13 +277,13 @@ fn reverse_ends(ends: &mut [usize], total: usize)
 fn are_kept(width: usize, ends: &[usize], values: &[u32]) -> bool
     ensures { Says result (RowsFull width ends.now values.now) }
 {
-    rise(ends)
+    ends_rise(ends)
         && width.checked_mul(ends.len()) == Some(values.len())
         && neighbours_differ(width, ends.len().saturating_sub(1), values)
 }
 
 /// Returns whether ends rise, from above 0.
-fn rise(ends: &[usize]) -> bool
+fn ends_rise(ends: &[usize]) -> bool
     ensures { result ≡ above_all 0 ends.now }
 {
     let mut low = 0;

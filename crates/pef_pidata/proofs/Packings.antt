@@ -8,7 +8,7 @@ use Rattle.pef_pidata.specs.declared.instruction.Instruction.TheVariants.{Block,
 use Rattle.pef_pidata.specs.Instructions.{argument, by_opcode, counted, next_instruction}
 use Rattle.pef_pidata.specs.Kept.Runs.{part_len}
 use Rattle.pef_pidata.specs.Packing.{PackedExpands, Part, argument_bytes, block, bytes_before, counted_bytes, leading_byte, packed_of, part_bytes, parts_of, runs, spelling, without_short, zero_before, zeros}
-use Rattle.pef_pidata.specs.Pattern.{next_output, obeyed, pattern, pattern_text}
+use Rattle.pef_pidata.specs.Pattern.{next_output, output_of, pattern, pattern_text}
 use Rattle.pef_pidata.proofs.Arguments.{argument-read}
 use Rattle.pef_pidata.proofs.Steps.{pattern_next}
 
@@ -134,16 +134,16 @@ next-block : (count : ℕ) (rest all : List ℕ) → IsHead 1 count rest all →
 unfolding next_instruction by_opcode
 next-block count rest all h = rw (h.all_is, h.opcode_is, h.counted_is) refl
 
-obeyed-zeros : (room count : ℕ) (rest : List ℕ) → count ≤ room → obeyed room (Zeros count, rest) ≡ Ok (replicate count 0, rest)
-unfolding obeyed
-obeyed-zeros room count rest within = elim (leb_tells (suc room) count) [
+output_of-zeros : (room count : ℕ) (rest : List ℕ) → count ≤ room → output_of room (Zeros count, rest) ≡ Ok (replicate count 0, rest)
+unfolding output_of
+output_of-zeros room count rest within = elim (leb_tells (suc room) count) [
   | inl above ↦ absurd (omega (arith, within, above.1))
   | inr not ↦ rw (not.0, leb-suc-zero (length rest)) refl
 ]
 
-obeyed-block : (room : ℕ) (bytes rest : List ℕ) → length bytes ≤ room → obeyed room (Block (length bytes), bytes ++ rest) ≡ Ok (bytes, rest)
-unfolding obeyed
-obeyed-block room bytes rest within = elim (leb_tells (suc room) (length bytes)) [
+output_of-block : (room : ℕ) (bytes rest : List ℕ) → length bytes ≤ room → output_of room (Block (length bytes), bytes ++ rest) ≡ Ok (bytes, rest)
+unfolding output_of
+output_of-block room bytes rest within = elim (leb_tells (suc room) (length bytes)) [
   | inl above ↦ absurd (omega (arith, within, above.1))
   | inr not ↦ (elim (leb_tells (suc (length (bytes ++ rest))) (length bytes)) [
     | inl few ↦ absurd (omega (arith, few.1, length-append bytes rest))
@@ -156,10 +156,10 @@ part-read : (part : Part) (room : ℕ) (rest : List ℕ) → 0 < part_len part �
 unfolding next_output part_bytes
 part-read (zeros count) room rest some within fits =
     let next = next-zeros count rest (counted_bytes 0 count ++ rest) (head 0 count rest some fits) in
-    rw next (obeyed-zeros room count rest within)
+    rw next (output_of-zeros room count rest within)
 part-read (block bytes) room rest some within fits =
     let next = next-block (length bytes) (bytes ++ rest) (counted_bytes 1 (length bytes) ++ (bytes ++ rest)) (head 1 (length bytes) (bytes ++ rest) some fits) in
-    rw (append_assoc (counted_bytes 1 (length bytes)) bytes rest, next) (obeyed-block room bytes rest within)
+    rw (append_assoc (counted_bytes 1 (length bytes)) bytes rest, next) (output_of-block room bytes rest within)
 
 length-part_image : (part : Part) → length (part_image part) ≡ part_len part
 length-part_image (zeros count) = length-replicate count 0

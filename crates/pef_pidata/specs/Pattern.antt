@@ -50,15 +50,15 @@ output (Weave w) bytes = woven w.parts w.custom (take w.common bytes) (drop w.co
 output (WeaveZeros w) bytes = woven w.parts w.custom (replicate w.common 0) bytes
 
 -- an instruction that was read, if its output has room: its output, and the bytes after those that it copies
-unfoldable pub obeyed : ℕ → Instruction × List ℕ → Read (List ℕ)
-obeyed room (instruction, bytes) =
+unfoldable pub output_of : ℕ → Instruction × List ℕ → Read (List ℕ)
+output_of room (instruction, bytes) =
     if nat_lt room (spelled_len instruction) then Err TooLong
     else if nat_lt (length bytes) (copied_len instruction) then Err Truncated
     else Ok (output instruction (take (copied_len instruction) bytes), drop (copied_len instruction) bytes)
 
 -- the output of the next instruction, and the bytes after it
 unfoldable pub next_output : ℕ → List ℕ → Read (List ℕ)
-next_output room packed = next_instruction packed >>= obeyed room
+next_output room packed = next_instruction packed >>= output_of room
 
 -- the output of at most n instructions, until no room is left
 abbrev pub pattern : ℕ → List ℕ → ℕ → Result (List ℕ) PackFault

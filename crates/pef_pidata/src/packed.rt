@@ -1,6 +1,6 @@
 ghost use Rattle.std.specs.Prelude.{◌≡◌, ◌<◌, ◌≤◌, length, IfOk};
 ghost use Rattle.pef_words.specs.Refusals.{result_map};
-ghost use Rattle.pef_pidata.specs.Pattern.{copied_len, next_output, obeyed, pattern_text, spelled_len};
+ghost use Rattle.pef_pidata.specs.Pattern.{copied_len, next_output, output_of, pattern_text, spelled_len};
 ghost use Rattle.pef_pidata.specs.Kept.Views.{instruction_seen, step_seen};
 
 use crate::fault::PackFault;
@@ -49,12 +49,12 @@ fn next_step(packed: &[u8], room: usize) -> Result<Step<'_>, PackFault>
     ensures shorter { IfOk result (λ s. length s.rest.now < length packed.now) }
 {
     let decoded = read_instruction(packed)?;
-    obey(decoded, room)
+    step_of(decoded, room)
 }
 
-#[tactic(auto, unfolding(crate::specs::Pattern::obeyed))]
-fn obey(decoded: Decoded<'_>, room: usize) -> Result<Step<'_>, PackFault>
-    ensures step { result_map step_seen result ≡ obeyed room (instruction_seen decoded.entry) }
+#[tactic(auto, unfolding(crate::specs::Pattern::output_of))]
+fn step_of(decoded: Decoded<'_>, room: usize) -> Result<Step<'_>, PackFault>
+    ensures step { result_map step_seen result ≡ output_of room (instruction_seen decoded.entry) }
     ensures target { IfOk result (λ s. (s.len ≡ spelled_len s.instruction) × (s.len ≤ room)) }
     ensures bytes { IfOk result (λ s. length s.bytes.now ≡ copied_len s.instruction) }
     ensures shorter { IfOk result (λ s. length s.rest.now ≤ length decoded.entry.rest.now) }

@@ -31,12 +31,12 @@ use Rattle.pef_tool.specs.Kept.Showing.{ScriptEnds}
 use Rattle.pef_tool.specs.Limits.{memory_limit}
 use Rattle.pef_headline.specs.Now.{described_extents}
 use Rattle.pef_headline.specs.Others.{HasForeign}
-use Rattle.pef_tool.specs.Show.{FailsToBind, IsShown, ShowOutcome, it_alone, refuses, show_answer, shows, unbound, unplaced, unplaced_text}
+use Rattle.pef_tool.specs.Show.{FailsToBind, IsShown, ShowOutcome, single_store, refuses, show_answer, shows, unbound, unplaced, unplaced_text}
 use Rattle.pef_tool.proofs.AloneLemmas.{is-found, new-is, open-is, prepared-alone, root-is}
 use Rattle.pef_headline.proofs.Laws.{described-from, extents-in, extents_are, linked-read, linked_fragment, loader-is, read_as_linked, refused-image, refused-program}
 
 -- if all fragments are read, the refusal of a closure isn't because of their bytes
-fails_to_bind : (bytes : List ℕ) (fault : BindFault) → ((r : BindRefusal) → closed_of (it_alone bytes) 0 ≡ Err r → IsOfBinding r) → FailsAs fault (closed_of (it_alone bytes) 0) → FailsToBind bytes fault
+fails_to_bind : (bytes : List ℕ) (fault : BindFault) → ((r : BindRefusal) → closed_of (single_store bytes) 0 ≡ Err r → IsOfBinding r) → FailsAs fault (closed_of (single_store bytes) 0) → FailsToBind bytes fault
 fails_to_bind bytes (bind_fault.Container f v) of fails = of _ fails
 fails_to_bind bytes (bind_fault.Loader f v) of fails = of _ fails
 fails_to_bind bytes (bind_fault.LibraryMissing f l) of fails = fails
@@ -60,7 +60,7 @@ pub record EndsRooted (script : DescribedScript) (root : RootOutcome) : Type 0 w
 
 module _ (script : DescribedScript) (k : LinkedContainer) (linked : IsLinked script k) where
   abbrev alone : List Pair
-  alone = it_alone k.bytes
+  alone = single_store k.bytes
 
   abbrev start : ContextState
   start = fresh_state alone memory_limit

@@ -36,8 +36,8 @@ pub record WasRead (before after : Stream) (text : List ℕ) : Type 0 where
   pub sound : NoneFailed before after
 
 -- the store of the fragment `it` and no other
-abbrev pub it_alone : List ℕ → List Pair
-it_alone bytes = record { name = codes "it"; bytes = bytes } ∷ []
+abbrev pub single_store : List ℕ → List Pair
+single_store bytes = record { name = codes "it"; bytes = bytes } ∷ []
 
 -- the addresses of the entry points of a script's fragment, by the addresses of its sections
 abbrev pub described_entries : DescribedScript → List Place → Entries
@@ -61,9 +61,9 @@ pub record IsAlone (script : DescribedScript) (s : ContextState) (number : ℕ) 
 pub record IsShown (script : DescribedScript) (s : ContextState) (number : ℕ) : Type 0 where
   pub container : LinkedContainer
   pub linked : IsLinked script container
-  pub prepared : Prepares (fresh_state (it_alone container.bytes) memory_limit) (codes "it") number s
+  pub prepared : Prepares (fresh_state (single_store container.bytes) memory_limit) (codes "it") number s
   pub alone : IsAlone script s number
-  pub described : IsDescribedNow (it_alone container.bytes) s script 0
+  pub described : IsDescribedNow (single_store container.bytes) s script 0
   pub first : described.before ≡ no_instances memory_limit
   pub others : given_back s.memory (places_of s.present 0) ≡ no_instances memory_limit
 
@@ -72,7 +72,7 @@ pub record IsShown (script : DescribedScript) (s : ContextState) (number : ℕ) 
 abbrev pub FailsToBind : List ℕ → BindFault → Type 0
 FailsToBind bytes (bind_fault.Container f v) = ⊥
 FailsToBind bytes (bind_fault.Loader f v) = ⊥
-FailsToBind bytes fault = FailsAs fault (closed_of (it_alone bytes) 0)
+FailsToBind bytes fault = FailsAs fault (closed_of (single_store bytes) 0)
 
 -- the container that is linked of a script has no closure alone, or an allocation for it failed
 pub record LacksClosure (script : DescribedScript) (fault : BindFault) : Type 0 where
@@ -86,7 +86,7 @@ pub record LacksPlaces (script : DescribedScript) : Type 0 where
   pub container : LinkedContainer
   pub linked : IsLinked script container
   pub closed : Closed
-  pub closure : closed_of (it_alone container.bytes) 0 ≡ Ok closed
+  pub closure : closed_of (single_store container.bytes) 0 ≡ Ok closed
   pub lacks : LackRoom (no_instances memory_limit) (described_extents script)
 
 -- the input is a script, and this is shown of it

@@ -3,7 +3,7 @@ ghost use Rattle.pef_tool.specs.Answers.Answers.{Answer, IsDelivered, status_of}
 ghost use Rattle.pef_script.specs.Script.{DescribedScript};
 ghost use Rattle.pef_write.specs.Linked.{IsLinked};
 ghost use Rattle.pef_tool.specs.Kept.Showing.{ScriptEnds};
-ghost use Rattle.pef_tool.specs.Show.{ShowAnswers, ShowOutcome, it_alone, show_answer};
+ghost use Rattle.pef_tool.specs.Show.{ShowAnswers, ShowOutcome, single_store, show_answer};
 
 use crate::answers::{Outcome, Refusal, deliver, input_refusal};
 use crate::linking::link_text;
@@ -41,10 +41,10 @@ fn show_linked<W: Sink>(alloc: Global, linked: &Linked, out: &mut W) -> Outcome
         × ScriptEnds script outcome
         × IsDelivered (W.stream out.old) (W.stream out.new) (show_answer outcome) (status_of result) }
 {
-    let Ok(store) = it_alone(alloc, linked.bytes()) else {
+    let Ok(store) = single_store(alloc, linked.bytes()) else {
         return deliver(out, &Refusal::OutOfMemory);
     };
-    let alone = Alone {
+    let alone = SingleContainer {
         bytes: linked.bytes(),
     };
     deliver_root(alloc, store, b"it", &alone, out)
@@ -52,11 +52,11 @@ fn show_linked<W: Sink>(alloc: Global, linked: &Linked, out: &mut W) -> Outcome
 
 /// The container of the fragment `it`, and no other.
 #[derive(Clone, Copy)]
-struct Alone<'a> {
+struct SingleContainer<'a> {
     bytes: &'a [u8],
 }
 
-impl<'a> Shelf for Alone<'a> {
+impl<'a> Shelf for SingleContainer<'a> {
     fn container(&self, name: &[u8]) -> Option<&[u8]> {
         if name == b"it".as_slice() {
             Some(self.bytes)
@@ -67,8 +67,8 @@ impl<'a> Shelf for Alone<'a> {
 }
 
 /// Returns the store that has the fragment `it` and no other.
-fn it_alone<'a>(alloc: Global, bytes: &'a [u8]) -> Result<Store<'a>, StoreFault>
-    ensures { IfOk result (λ store. store ≡ it_alone bytes.now) }
+fn single_store<'a>(alloc: Global, bytes: &'a [u8]) -> Result<Store<'a>, StoreFault>
+    ensures { IfOk result (λ store. store ≡ single_store bytes.now) }
 {
     let mut store = Store::new(alloc);
     store.add(b"it", bytes)?;

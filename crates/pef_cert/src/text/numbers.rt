@@ -5,7 +5,7 @@ ghost use Rattle.pef_cert.specs.Text.Kept.Reading.{Says};
 ghost use Rattle.pef_cert.specs.Text.Lines.{range_line, registers_in, registers_line, row_line};
 ghost use Rattle.pef_cert.specs.Text.Words.{numbers_in};
 
-use crate::rise;
+use crate::are_rising;
 use crate::text::CertFault;
 use crate::text::lines::Line;
 use pef_lines::{Words, decimal_number};
@@ -60,7 +60,7 @@ pub fn registers_line(alloc: Global, line: Line<'_>) -> Result<Vec<u32>, CertFau
         return Err(line.fault());
     };
     let registers = registers_in(alloc, line, words)?;
-    if !rise(&registers) || registers.len() > MAX_REGISTERS {
+    if !are_rising(&registers) || registers.len() > MAX_REGISTERS {
         return Err(line.fault());
     }
     Ok(registers)
