@@ -67,5 +67,5 @@ module _ (pairs : List Pair) where
       sym (follow-order pairs order complete p j there) ∙ follow-on pairs (exports_among pairs order) (p, j) goes
 
   -- an import after another on a way
-  pub on_way-more : (order : List ℕ) (start : ℕ × ℕ) (p j q e k : ℕ) → IsOnWay pairs order start (p, j) → hop pairs p j ≡ Ok (through q e k) → Contains order q → k < import_count pairs q → IsOnWay pairs order start (q, k)
-  on_way-more order start p j q e k on is there under = record { place = there; import = under; leads = led-through p j q e k is ∙ on.leads }
+  pub on_way-more : (order : List ℕ) (end : Option (Result (Option Target) BindRefusal)) (p j q e k : ℕ) → IsOnWay pairs order end (p, j) → hop pairs p j ≡ Ok (through q e k) → Contains order q → k < import_count pairs q → IsOnWay pairs order end (q, k)
+  on_way-more order end p j q e k on is there under = record { place = there; import = under; leads = led-through p j q e k is ∙ on.leads }

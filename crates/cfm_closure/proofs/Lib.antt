@@ -12,6 +12,7 @@ mod KnownLemmas
 pub mod Laws
 mod LeadLemmas
 mod LoopLemmas
+mod NoteLemmas
 mod NumberLemmas
 mod OrderFacts
 mod PathLemmas

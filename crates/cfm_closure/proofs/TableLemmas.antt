@@ -1,5 +1,5 @@
 -- The tables of a walk stay sound.
-use Rattle.std.proofs.Common.{◌≡◌, ℕ, Bool, true, List, [], ◌∷◌, ◌++◌, length, replicate, Option, None, Some, sym, ap, ◌∙◌, subst, get_or, set, inl, inr, arith}
+use Rattle.std.proofs.Common.{◌≡◌, ℕ, ◌<◌, Bool, true, List, [], ◌∷◌, ◌++◌, length, replicate, Option, None, Some, sym, ap, ◌∙◌, subst, get_or, set, inl, inr, arith}
 use Rattle.std.specs.Prelude.{option_map}
 use Rattle.std.specs.List.{AllByRecursion}
 use Rattle.std.proofs.lemmas.Bool.Decides.{eqb_tells}
@@ -9,10 +9,25 @@ use Rattle.cfm_closure.specs.Stores.{Pair}
 use Rattle.cfm_closure.specs.declared.fragment.ClosedFragment.{ClosedFragment}
 use Rattle.cfm_closure.specs.declared.fragment.FragmentView.{FragmentView}
 use Rattle.cfm_closure.specs.declared.walk.Frame.{Frame}
-use Rattle.cfm_closure.specs.Kept.Paths.{AreTables, IsFrame, IsWalked, count_of}
+use Rattle.cfm_closure.specs.Kept.Paths.{AreTables, IsClosed, IsFrame, IsWalked, count_of}
+use Rattle.cfm_closure.specs.Kept.Targets.{Row}
 use Rattle.cfm_closure.specs.Kept.Views.{AreKept, AreRead, fragment_at}
 use Rattle.cfm_closure.specs.Views.{fragment_seen}
+use Rattle.cfm_closure.proofs.KnownLemmas.{right-none}
 use Rattle.cfm_closure.proofs.RowLemmas.{none-at}
+
+module _ (pairs : List Pair) (closed : List (Option ClosedFragment)) (p : ℕ) (f : ClosedFragment) (place : p < length pairs) (inside : p < length closed) (is : IsClosed pairs p f) where
+  -- a fragment that is put into its place is there
+  walked-here : IsWalked pairs (set closed p (Some f)) p
+  walked-here = record { inside = place; fragment = f; stands = get_or-set_same closed p (Some f) None inside; is = is }
+
+  -- and the others still are
+  pub walked-set : (q : ℕ) → IsWalked pairs closed q → IsWalked pairs (set closed p (Some f)) q
+  walked-set q was = elim (eqb_tells q p) [
+    | inl same ↦ subst (IsWalked pairs (set closed p (Some f))) (sym same.1) walked-here
+    | inr other ↦ (let e = get_or-set_other closed p q (Some f) None other.1 in
+        record { inside = was.inside; fragment = was.fragment; stands = e ∙ was.stands; is = was.is })
+  ]
 
 -- a table without values has as many places
 places-none : {T : Type 0} (table : List (Option T)) (n : ℕ) → table ≡ replicate n None → length table ≡ n
@@ -78,9 +93,9 @@ module _ (pairs : List Pair) (table : List (Option FragmentView)) (closed : List
   }
 
   -- one more fragment that is done
-  pub tables-joined : (f : Frame) → IsFrame pairs table f → length f.libraries ≡ count_of f
-      → AreTables pairs table (set closed f.p (Some (record { view = f.fragment; libraries = f.libraries }))) marked path (order ++ f.p ∷ [])
-  tables-joined f is all = record {
+  pub tables-joined : (f : Frame) (row : Row) (n : ℕ) → IsFrame pairs table f → length f.libraries ≡ count_of f → row ≡ replicate n None → n ≡ (fragment_seen f.fragment).loader.header.import_count
+      → AreTables pairs table (set closed f.p (Some (record { view = f.fragment; libraries = f.libraries; targets = row }))) marked path (order ++ f.p ∷ [])
+  tables-joined f row n is all none count = record {
     fragments_size = are.fragments_size;
     closed_size = length-set closed f.p (Some fragment) ∙ are.closed_size;
     marked_size = are.marked_size;
@@ -90,25 +105,25 @@ module _ (pairs : List Pair) (table : List (Option FragmentView)) (closed : List
   }
     where
       fragment : ClosedFragment
-      fragment = record { view = f.fragment; libraries = f.libraries }
+      fragment = record { view = f.fragment; libraries = f.libraries; targets = row }
 
       later : List (Option ClosedFragment)
       later = set closed f.p (Some fragment)
 
-      here : get_or (set closed f.p (Some fragment)) f.p None ≡ Some fragment
-      here = get_or-set_same closed f.p (Some fragment) None (let a = is.inside in let b = are.closed_size in omega arith)
+      inside : f.p < length closed
+      inside = let a = is.inside in let b = are.closed_size in omega arith
 
-      this : IsWalked pairs (set closed f.p (Some fragment)) f.p
-      this = record {
-        inside = is.inside;
-        fragment = fragment;
-        stands = here;
-        is = record { read = are.read f.p (fragment_seen f.fragment) is.read; bound = is.bound; all = all };
+      done : IsClosed pairs f.p fragment
+      done = record {
+        read = are.read f.p (fragment_seen f.fragment) is.read;
+        bound = is.bound;
+        all = all;
+        imports = ap length none ∙ length-replicate n None ∙ count;
+        right = right-none pairs f.p n row none;
       }
 
-      others : (q : ℕ) → IsWalked pairs closed q → IsWalked pairs (set closed f.p (Some fragment)) q
-      others q was = elim (eqb_tells q f.p) [
-        | inl same ↦ subst (IsWalked pairs (set closed f.p (Some fragment))) (sym same.1) this
-        | inr other ↦ (let e = get_or-set_other closed f.p q (Some fragment) None other.1 in
-            record { inside = was.inside; fragment = was.fragment; stands = e ∙ was.stands; is = was.is })
-      ]
+      this : IsWalked pairs later f.p
+      this = walked-here pairs closed f.p fragment is.inside inside done
+
+      others : (q : ℕ) → IsWalked pairs closed q → IsWalked pairs later q
+      others q was = walked-set pairs closed f.p fragment is.inside inside done q was

@@ -4,11 +4,6 @@ use Rattle.cfm_closure.specs.Stores.{Pair}
 use Rattle.cfm_closure.specs.Fragments.{Fragment, fragment_of}
 use Rattle.cfm_closure.specs.Libraries.{bound_to}
 
--- a store, and the fragments of a closure by their places, in closure order
-pub record Ordered : Type 0 where
-  pub pairs : List Pair
-  pub order : List ℕ
-
 -- a library entry wasn't refused, and its fragment, if it isn't absent, is in the order
 pub record HasLibrary (pairs : List Pair) (order : List ℕ) (p l : ℕ) : Type 0 where
   pub bound : Option ℕ

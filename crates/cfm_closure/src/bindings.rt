@@ -1,9 +1,11 @@
-ghost use Rattle.std.specs.Prelude.{◌≡◌, ◌<◌, ◌≤◌, length, replicate, Contains, None, Ok, IfOk, IfSome};
+ghost use Rattle.std.specs.Prelude.{◌≡◌, ◌<◌, ◌≤◌, [], length, replicate, slice_index_or, option_map, Contains, None, Some, Ok, IfOk, IfSome};
 ghost use Rattle.cfm_closure.specs.Limits.{most_pairs};
 ghost use Rattle.cfm_closure.specs.Faults.{Answers};
 ghost use Rattle.cfm_closure.specs.Fragments.{fragment_of, import_count, library_count};
 ghost use Rattle.cfm_closure.specs.Libraries.{bound_to};
+ghost use Rattle.cfm_closure.specs.Kept.Found.{meant};
 ghost use Rattle.cfm_closure.specs.Kept.Paths.{IsClosed};
+ghost use Rattle.cfm_closure.specs.Kept.Targets.{IsKnown, Keeps, known_at, led_to};
 ghost use Rattle.cfm_closure.specs.Orders.{IsComplete};
 ghost use Rattle.cfm_closure.specs.Walk.{order_of};
 ghost use Rattle.cfm_closure.specs.Views.{fragment_seen};
@@ -12,12 +14,14 @@ use crate::fault::BindFault;
 use crate::fragment::{ClosedFragment, FragmentView};
 use crate::place_table::PlaceTable;
 use crate::store::Store;
+use crate::targets::Found;
 use crate::walk::Walk;
 use std::alloc::{AllocError, Global};
 use std::marker::Model;
 
-/// The closure order of a fragment: the fragment with its libraries, theirs, and so on, with these fragments
-/// and the fragments of their library entries. Only [`Bindings::of`] and [`Bindings::table`] allocate.
+/// The closure order of a fragment: the fragment with its libraries, theirs, and so on, with these fragments,
+/// the fragments of their library entries, and the targets of their imports, as far as they are known. Only
+/// [`Bindings::of`] and [`Bindings::table`] allocate.
 #[derive(Drop)]
 pub(crate) struct Bindings<'a> {
     /// The pairs of the store. All other tables are indexed by their places.
@@ -27,21 +31,22 @@ pub(crate) struct Bindings<'a> {
 }
 
 impl<'a> Model for Bindings<'a> {
-    ghost use Rattle.cfm_closure.specs.Orders.{Ordered};
+    ghost use Rattle.cfm_closure.specs.Kept.Targets.{Ordered};
 
     ghost Value = { Ordered };
 
     ghost use Rattle.std.specs.Prelude.{map};
     ghost use Rattle.cfm_closure.specs.Seen.{pair_seen};
     ghost use Rattle.cfm_closure.specs.Kept.Bindings.{AreBindings};
+    ghost use Rattle.cfm_closure.specs.Kept.Rows.{rows_of};
 
-    ghost view = { λ b. record { pairs = map pair_seen b.pairs.items; order = b.order.items } };
+    ghost view = { λ b. record { pairs = map pair_seen b.pairs.items; order = b.order.items; rows = rows_of b.fragments } };
 
     ghost invariant = { λ b. AreBindings (map pair_seen b.pairs.items) b.fragments b.order.items };
 }
 
 impl<'a> Bindings<'a> {
-    /// Returns the closure order of the fragment in a place of a store.
+    /// Returns the closure order of the fragment in a place of a store, with no target known.
     ///
     /// # Errors
     ///
@@ -82,6 +87,7 @@ impl<'a> Bindings<'a> {
     /// possible, and the fragment that needs all of them last.
     pub fn order(&self) -> &[usize]
         ensures order { result.now ≡ self.now.order }
+        ensures complete { IsComplete self.now.pairs self.now.order }
         ensures few { length self.now.order ≤ most_pairs }
     {
         &self.order
@@ -125,10 +131,33 @@ impl<'a> Bindings<'a> {
         }
     }
 
+    /// Returns the target of import `j` of a fragment of the order, if it is known.
+    pub fn target(&self, p: usize, j: usize) -> Option<Found>
+        requires { Contains self.now.order p }
+        ensures known { option_map meant result ≡ known_at self.now.rows p j }
+        ensures right { IfSome result (λ found. led_to self.now.pairs (p, j) ≡ Some (Ok (meant found))) }
+        ensures complete { IsComplete self.now.pairs self.now.order }
+    {
+        self.closed(p).targets.get(j)
+    }
+
+    /// Notes the target of import `j` of a fragment of the order.
+    pub fn note(&mut self, p: usize, j: usize, found: Found)
+        requires place { Contains self.old.order p }
+        requires import { j < import_count self.old.pairs p }
+        requires right { led_to self.old.pairs (p, j) ≡ Some (Ok (meant found)) }
+        ensures keeps { Keeps self.old self.new }
+        ensures known { IsKnown self.new.rows p j }
+    {
+        let fragment = self.fragments.value_mut(p);
+        fragment.targets.note(j, found);
+    }
+
     /// Returns the tables of a fragment of the order.
     fn closed(&self, p: usize) -> &ClosedFragment<'a>
         requires { Contains self.now.order p }
         ensures closed { IsClosed self.now.pairs p result.now }
+        ensures targets { result.now.targets ≡ slice_index_or self.now.rows p [] }
         ensures complete { IsComplete self.now.pairs self.now.order }
         ensures few { length self.now.pairs ≤ most_pairs }
     {

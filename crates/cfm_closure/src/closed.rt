@@ -9,7 +9,6 @@ ghost use Rattle.cfm_closure.specs.Stores.{pair_of};
 ghost use Rattle.cfm_closure.specs.Targets.{target_of};
 
 use crate::bindings::Bindings;
-use crate::rows::Rows;
 use crate::targets::Target;
 use pef_loader::Loader;
 use pef_views::Container;
@@ -24,7 +23,6 @@ use std::marker::Model;
 #[derive(Drop)]
 pub struct Closure<'a> {
     pub(crate) bindings: Bindings<'a>,
-    pub(crate) targets: Rows,
     pub(crate) init_order: Vec<usize>,
 }
 
@@ -33,11 +31,11 @@ impl<'a> Model for Closure<'a> {
 
     ghost Value = { Closed };
 
-    ghost use Rattle.cfm_closure.specs.Kept.Targets.{AreTargets};
+    ghost use Rattle.cfm_closure.specs.Kept.Targets.{AreResolved};
 
     ghost view = { λ c. record { pairs = c.bindings.pairs; order = c.bindings.order; init_order = c.init_order.items } };
 
-    ghost invariant = { λ c. AreTargets c.bindings.pairs c.bindings.order c.targets };
+    ghost invariant = { λ c. AreResolved c.bindings };
 }
 
 impl fmt::Debug for Closure<'_> {
@@ -110,7 +108,7 @@ impl<'a> Closure<'a> {
         ensures target { target_of self.now.pairs p import ≡ Ok result }
         ensures inside { LiesInside self.now.pairs self.now.order result }
     {
-        match self.targets.get(p, import) {
+        match self.bindings.target(p, import) {
             Some(found) => found.target(),
             None => unreachable!(),
         }

@@ -6,7 +6,7 @@ use crate::bindings::Bindings;
 use crate::closed::Closure;
 use crate::fault::BindFault;
 use crate::init_order::initialized;
-use crate::resolve::targets_of;
+use crate::resolve::resolve_targets;
 use crate::store::Store;
 use std::alloc::Global;
 
@@ -26,12 +26,11 @@ pub fn closure<'a>(
     requires { root < length store.now }
     ensures { Answers (λ c. c) result (closed_of store.now root) }
 {
-    let bindings = Bindings::of(alloc, store, root)?;
-    let targets = targets_of(alloc, &bindings)?;
+    let mut bindings = Bindings::of(alloc, store, root)?;
+    resolve_targets(alloc, &mut bindings)?;
     let init_order = initialized(alloc, &bindings)?;
     Ok(Closure {
         bindings,
-        targets,
         init_order,
     })
 }

@@ -8,6 +8,7 @@ use crate::fault::BindFault;
 use crate::libraries::Libraries;
 use crate::place_table::PlaceTable;
 use crate::store::Store;
+use crate::targets::Targets;
 use pef_loader::Loader;
 use pef_views::Container;
 
@@ -25,6 +26,8 @@ pub(crate) struct ClosedFragment<'a> {
     pub view: FragmentView<'a>,
     /// The fragments of its library entries.
     pub libraries: Libraries,
+    /// The targets of its imports, as far as they are known.
+    pub targets: Targets,
 }
 
 impl<'a> FragmentView<'a> {

@@ -19,7 +19,6 @@ mod init_order;
 mod libraries;
 mod place_table;
 mod resolve;
-mod rows;
 mod store;
 mod store_fault;
 mod symbols;

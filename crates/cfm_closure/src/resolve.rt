@@ -1,4 +1,4 @@
-ghost use Rattle.std.specs.Prelude.{◌≡◌, ◌+◌, ◌<◌, ◌≤◌, ◌^◌, [], Ok, Err, Some, Option, Contains, IfOk, OnOk};
+ghost use Rattle.std.specs.Prelude.{◌≡◌, ◌<◌, ◌≤◌, ◌^◌, [], Ok, Err, Some, Option, Contains, IfOk, OnOk};
 ghost use Rattle.std.specs.List.{AllByRecursion};
 ghost use Rattle.cfm_closure.specs.Stores.{pair_of};
 ghost use Rattle.cfm_closure.specs.Faults.{Answers, FailsAs, reexport_loop};
@@ -8,12 +8,11 @@ ghost use Rattle.cfm_closure.specs.Targets.{exports_among, symbol_of, target_of}
 ghost use Rattle.cfm_closure.specs.declared.targets.Target.{Target};
 ghost use Rattle.cfm_closure.specs.Kept.Found.{meant};
 ghost use Rattle.cfm_closure.specs.Kept.Resolvers.{IsResolver};
-ghost use Rattle.cfm_closure.specs.Kept.Targets.{AreRows, AreTargets, IsInTable, IsKnown, IsOnWay, IsResolved, KeepsKnown, Passes, all_noted};
+ghost use Rattle.cfm_closure.specs.Kept.Targets.{AreResolved, IsKnown, IsOnWay, IsResolved, Keeps, Passes, led_to};
 
 use crate::bindings::Bindings;
 use crate::fault::BindFault;
 use crate::hops::{Hop, import_hop};
-use crate::rows::Rows;
 use crate::symbols::Symbols;
 use crate::targets::Found;
 use std::alloc::{AllocError, Global};
@@ -25,19 +24,6 @@ pub(crate) struct Resolver<'a> {
     /// How many exports the fragments have. An import that takes more hops is endless.
     exports: usize,
     symbols: Symbols<'a>,
-    /// The targets that are known.
-    rows: Rows,
-}
-
-/// Returns a row for the imports of each fragment, with no target known yet.
-fn unknown_targets<'a>(alloc: Global, bindings: &Bindings<'a>) -> Result<Rows, AllocError>
-    ensures { IfOk result (λ rows. AreRows bindings.now.pairs bindings.now.order rows) }
-{
-    let mut rows = Rows::new(alloc, bindings)?;
-    for p in bindings.order() {
-        rows.add(alloc, *p, bindings.imports(*p))?;
-    }
-    Ok(rows)
 }
 
 /// Returns how many exports the fragments of the closure have.
@@ -53,12 +39,12 @@ fn exports<'a>(bindings: &Bindings<'a>) -> usize
 }
 
 /// Notes the target of all imports on a way.
-fn note_way(rows: &mut Rows, way: &[(usize, usize)], found: Found)
-    requires { AllByRecursion (IsInTable rows.old) way.now }
-    ensures { rows.new ≡ all_noted rows.old way.now (meant found) }
+fn note_way<'a>(bindings: &mut Bindings<'a>, way: &[(usize, usize)], found: Found)
+    requires { AllByRecursion (IsOnWay bindings.old.pairs bindings.old.order (Some (Ok (meant found)))) way.now }
+    ensures { Keeps bindings.old bindings.new }
 {
     for import in way {
-        rows.note(import.0, import.1, found);
+        bindings.note(import.0, import.1, found);
     }
 }
 
@@ -79,17 +65,15 @@ fn endless<'a>(bindings: &Bindings<'a>, p: usize, j: usize) -> BindFault<'a>
 }
 
 impl<'a> Resolver<'a> {
-    /// Returns a search in which no target is known.
+    /// Returns a search in which no imports were read.
     fn new(alloc: Global, bindings: &Bindings<'a>) -> Result<Resolver<'a>, AllocError>
         ensures { IfOk result (λ resolver. IsResolver bindings.now.pairs bindings.now.order resolver) }
     {
-        let rows = unknown_targets(alloc, bindings)?;
         let symbols = Symbols::new(alloc, bindings)?;
         Ok(Resolver {
             alloc,
             exports: exports(bindings),
             symbols,
-            rows,
         })
     }
 
@@ -107,13 +91,12 @@ impl<'a> Resolver<'a> {
         requires resolver { IsResolver bindings.now.pairs bindings.now.order self.old }
         requires way { way.old.items ≡ [] }
         ensures resolver { IsResolver bindings.now.pairs bindings.now.order self.new }
-        ensures rows { self.new.rows ≡ self.old.rows }
         ensures answer { Answers meant result (target_of bindings.now.pairs p j) }
-        ensures way { OnOk result (AllByRecursion (IsOnWay bindings.now.pairs bindings.now.order (p, j)) way.new.items) }
+        ensures way { OnOk result (AllByRecursion (IsOnWay bindings.now.pairs bindings.now.order (led_to bindings.now.pairs (p, j))) way.new.items) }
     {
         let mut at = (p, j);
         for _hop in 0..self.exports + 1 {
-            if let Some(found) = self.rows.get(at.0, at.1) {
+            if let Some(found) = bindings.target(at.0, at.1) {
                 return Ok(found);
             }
             match import_hop(bindings, &mut self.symbols, at.0, at.1)? {
@@ -128,33 +111,37 @@ impl<'a> Resolver<'a> {
     /// Finds the target of an import, and notes it for all imports on the way.
     fn resolve(
         &mut self,
-        bindings: &Bindings<'a>,
+        bindings: &mut Bindings<'a>,
         p: usize,
         j: usize,
     ) -> Result<Found, BindFault<'a>>
-        requires place { Contains bindings.now.order p }
-        requires import { j < import_count bindings.now.pairs p }
-        requires resolver { IsResolver bindings.now.pairs bindings.now.order self.old }
-        ensures resolver { IsResolver bindings.now.pairs bindings.now.order self.new }
-        ensures answer { Answers meant result (target_of bindings.now.pairs p j) }
-        ensures kept { KeepsKnown self.old.rows self.new.rows }
-        ensures known { OnOk result (IsKnown self.new.rows p j) }
+        requires place { Contains bindings.old.order p }
+        requires import { j < import_count bindings.old.pairs p }
+        requires resolver { IsResolver bindings.old.pairs bindings.old.order self.old }
+        ensures resolver { IsResolver bindings.old.pairs bindings.old.order self.new }
+        ensures answer { Answers meant result (target_of bindings.old.pairs p j) }
+        ensures keeps { OnOk result (Keeps bindings.old bindings.new) }
+        ensures known { OnOk result (IsKnown bindings.new.rows p j) }
     {
         let mut way = Vec::new(self.alloc);
         let found = self.follow(bindings, &mut way, p, j)?;
-        note_way(&mut self.rows, &way, found);
-        self.rows.note(p, j, found);
+        note_way(bindings, &way, found);
+        bindings.note(p, j, found);
         Ok(found)
     }
 
     /// Resolves the imports of a fragment, import by import.
-    fn resolve_imports(&mut self, bindings: &Bindings<'a>, p: usize) -> Result<(), BindFault<'a>>
-        requires place { Contains bindings.now.order p }
-        requires resolver { IsResolver bindings.now.pairs bindings.now.order self.old }
-        ensures resolver { IsResolver bindings.now.pairs bindings.now.order self.new }
-        ensures answer { Passes result (imports_refusal bindings.now.pairs p) }
-        ensures kept { KeepsKnown self.old.rows self.new.rows }
-        ensures known { OnOk result (IsResolved bindings.now.pairs self.new.rows p) }
+    fn resolve_imports(
+        &mut self,
+        bindings: &mut Bindings<'a>,
+        p: usize,
+    ) -> Result<(), BindFault<'a>>
+        requires place { Contains bindings.old.order p }
+        requires resolver { IsResolver bindings.old.pairs bindings.old.order self.old }
+        ensures resolver { IsResolver bindings.old.pairs bindings.old.order self.new }
+        ensures answer { Passes result (imports_refusal bindings.old.pairs p) }
+        ensures keeps { OnOk result (Keeps bindings.old bindings.new) }
+        ensures known { OnOk result (IsResolved bindings.old.pairs bindings.new.rows p) }
     {
         for j in 0..bindings.imports(p) {
             self.resolve(bindings, p, j)?;
@@ -164,16 +151,20 @@ impl<'a> Resolver<'a> {
     }
 }
 
-/// Returns the targets of all imports of a closure's fragments, which are resolved fragment by fragment in
+/// Finds the targets of all imports of a closure's fragments, which are resolved fragment by fragment in
 /// closure order.
-pub(crate) fn targets_of<'a>(alloc: Global, bindings: &Bindings<'a>) -> Result<Rows, BindFault<'a>>
-    ensures answer { Passes result (first_refused bindings.now.pairs bindings.now.order) }
-    ensures targets { IfOk result (λ rows. AreTargets bindings.now.pairs bindings.now.order rows) }
+pub(crate) fn resolve_targets<'a>(
+    alloc: Global,
+    bindings: &mut Bindings<'a>,
+) -> Result<(), BindFault<'a>>
+    ensures answer { Passes result (first_refused bindings.old.pairs bindings.old.order) }
+    ensures keeps { OnOk result (Keeps bindings.old bindings.new) }
+    ensures resolved { OnOk result (AreResolved bindings.new) }
 {
     let mut resolver = Resolver::new(alloc, bindings)?;
-    for p in bindings.order() {
-        resolver.resolve_imports(bindings, *p)?;
+    for i in 0..bindings.order().len() {
+        let p = bindings.order()[i];
+        resolver.resolve_imports(bindings, p)?;
     }
-    let Resolver { rows, .. } = resolver;
-    Ok(rows)
+    Ok(())
 }

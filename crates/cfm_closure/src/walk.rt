@@ -12,6 +12,7 @@ use crate::fragment::{ClosedFragment, FragmentView, read_at};
 use crate::libraries::Libraries;
 use crate::place_table::PlaceTable;
 use crate::store::Store;
+use crate::targets::Targets;
 use std::alloc::{AllocError, Global};
 
 /// A fragment that was visited and isn't done: the walk is in one of its libraries.
@@ -143,9 +144,11 @@ impl<'a> Walk<'a> {
         ensures fewer { OnOk result (steps_left self.new < steps_left self.old + 1) }
     {
         let p = frame.p;
+        let targets = Targets::unknown(self.alloc, frame.fragment.loader.imports())?;
         let fragment = ClosedFragment {
             view: frame.fragment,
             libraries: frame.libraries,
+            targets,
         };
         self.closed.put(p, fragment)?;
         self.order.push(p)?;

@@ -13,6 +13,7 @@ use Rattle.cfm_closure.specs.Faults.{BindRefusal, FailsAs}
 use Rattle.cfm_closure.specs.Fragments.{fragment_of}
 use Rattle.cfm_closure.specs.Libraries.{bound_to}
 use Rattle.cfm_closure.specs.Walk.{Walked, is_marked, joining, left, walk, walks_from}
+use Rattle.cfm_closure.specs.Kept.Targets.{AreRight}
 use Rattle.cfm_closure.specs.Kept.Views.{AreRead, fragment_at}
 use Rattle.cfm_closure.specs.Views.{fragment_seen}
 
@@ -54,11 +55,14 @@ pub record IsFrame (pairs : List Pair) (table : List (Option FragmentView)) (f :
   pub bound : AreBound pairs f.p f.libraries
   pub few : length f.libraries ≤ count_of f
 
--- a fragment that is done was read, and all its library entries were bound
+-- a fragment that is done was read, all its library entries were bound, and the targets of its imports that are
+-- known are right
 pub record IsClosed (pairs : List Pair) (p : ℕ) (f : ClosedFragment) : Type 0 where
   pub read : fragment_of pairs p ≡ Ok (fragment_seen f.view)
   pub bound : AreBound pairs p f.libraries
   pub all : length f.libraries ≡ (fragment_seen f.view).loader.header.library_count
+  pub imports : length f.targets ≡ (fragment_seen f.view).loader.header.import_count
+  pub right : AreRight pairs p f.targets
 
 -- one is in this place
 pub record IsWalked (pairs : List Pair) (closed : List (Option ClosedFragment)) (p : ℕ) : Type 0 where

@@ -4,11 +4,9 @@ use Rattle.cfm_closure.specs.Stores.{Pair}
 use Rattle.cfm_closure.specs.declared.resolve.Resolver.{Resolver}
 use Rattle.cfm_closure.specs.Targets.{exports_among}
 use Rattle.cfm_closure.specs.Kept.Symbols.{AreSymbolsOf}
-use Rattle.cfm_closure.specs.Kept.Targets.{AreRows}
 
--- it is one for a closure order, and the known targets are right
+-- it is one for a closure order
 pub record IsResolver (pairs : List Pair) (order : List ℕ) (r : Resolver) : Type 0 where
   pub exports : r.exports ≡ exports_among pairs order
   pub few : r.exports ≤ 2 ^ 40
   pub symbols : AreSymbolsOf pairs order r.symbols
-  pub rows : AreRows pairs order r.rows

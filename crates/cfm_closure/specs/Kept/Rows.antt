@@ -1,11 +1,12 @@
--- The rows of targets that a table has.
+-- The known targets of the fragments that a table has.
 use Rattle.std.specs.Prelude.{List, [], map, Option, None, Some}
-use Rattle.cfm_closure.specs.declared.targets.Target.{Target}
+use Rattle.cfm_closure.specs.declared.fragment.ClosedFragment.{ClosedFragment}
+use Rattle.cfm_closure.specs.Kept.Targets.{Row, Rows}
 
--- a place without a row has one without imports
-abbrev pub row_of : Option (List (Option (Option Target))) → List (Option (Option Target))
+-- a place without a fragment has no imports
+abbrev pub row_of : Option ClosedFragment → Row
 row_of None = []
-row_of (Some row) = row
+row_of (Some f) = f.targets
 
-abbrev pub rows_of : List (Option (List (Option (Option Target)))) → List (List (Option (Option Target)))
+abbrev pub rows_of : List (Option ClosedFragment) → Rows
 rows_of table = map row_of table

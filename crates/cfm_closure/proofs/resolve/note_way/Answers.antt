@@ -1,25 +1,20 @@
--- The next import of the way has its place.
-use Rattle.std.proofs.Common.{◌+◌, drop, sym, subst, get_or, ◌∙◌, ap}
-use Rattle.std.specs.List.{AllByRecursion}
-use Rattle.std.proofs.lemmas.List.{at_drop_more}
-use Rattle.pef_words.proofs.Laws.Lists.{all-at, all-weaker}
+-- The next import of the way is one of the order.
+use Rattle.std.proofs.Common.{Some, Ok}
 use Rattle.cfm_closure.specs.Kept.Found.{meant}
-use Rattle.cfm_closure.specs.Kept.Targets.{IsInTable, all_noted, noted}
-use Rattle.cfm_closure.proofs.KnownLemmas.{inside-noted}
+use Rattle.cfm_closure.proofs.KnownLemmas.{keeps-more, keeps-none, on_way-still}
 use Rattle.cfm_closure.proofs.resolve.note_way.Goals as goal
 
+pub loop-import-init : goal.loop-import-init
+loop-import-init c = keeps-none c.args.bindings.now
+
+pub note-requires-clause-place : goal.note-requires-clause-place
+note-requires-clause-place c = (on_way-still c.args.bindings.now c.loop-import.bindings (Some (Ok (meant c.args.found))) c.args.way.now c.loop-import.import-index c.loop-import.invariant c.requires c.loop-import-test.true).place
+
+pub note-requires-clause-import : goal.note-requires-clause-import
+note-requires-clause-import c = (on_way-still c.args.bindings.now c.loop-import.bindings (Some (Ok (meant c.args.found))) c.args.way.now c.loop-import.import-index c.loop-import.invariant c.requires c.loop-import-test.true).import
+
+pub note-requires-clause-right : goal.note-requires-clause-right
+note-requires-clause-right c = (on_way-still c.args.bindings.now c.loop-import.bindings (Some (Ok (meant c.args.found))) c.args.way.now c.loop-import.import-index c.loop-import.invariant c.requires c.loop-import-test.true).leads
+
 pub loop-import-preserved : goal.loop-import-preserved
-loop-import-preserved c =
-    let rows = c.loop-import.rows in
-    let way = c.args.way.now in
-    let i = c.loop-import.import-index in
-    let v = get_or way i (0, 0) in
-    let here = all-at (IsInTable rows) way i (0, 0) c.loop-import.invariant.inside c.loop-import-test.true in
-    let after = noted rows v.0 v.1 (meant c.args.found) in
-    record {
-      inside = subst (λ rows. AllByRecursion (IsInTable rows) way) (sym c.note.ensures)
-          (all-weaker (IsInTable rows) (IsInTable after) way (λ w is. inside-noted rows v.0 v.1 (meant c.args.found) here w is) c.loop-import.invariant.inside);
-      rest = ap (λ rows. all_noted rows (drop (i + 1) way) (meant c.args.found)) c.note.ensures
-          ∙ sym (at_drop_more (λ way. all_noted rows way (meant c.args.found)) way i (0, 0) c.loop-import-test.true)
-          ∙ c.loop-import.invariant.rest;
-    }
+loop-import-preserved c = keeps-more c.args.bindings.now c.loop-import.bindings c.note.new.self c.loop-import.invariant c.note.ensures.keeps

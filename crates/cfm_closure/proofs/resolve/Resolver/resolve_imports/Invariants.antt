@@ -4,13 +4,13 @@ use Rattle.pef_words.specs.Refusals.{first_among}
 use Rattle.cfm_closure.specs.Fragments.{import_count}
 use Rattle.cfm_closure.specs.Closures.{import_refusal, imports_refusal}
 use Rattle.cfm_closure.specs.Kept.Resolvers.{IsResolver}
-use Rattle.cfm_closure.specs.Kept.Targets.{IsKnown, KeepsKnown}
+use Rattle.cfm_closure.specs.Kept.Targets.{IsKnown, Keeps}
 use Rattle.cfm_closure.proofs.resolve.Resolver.resolve_imports.Given as goal
 
 abbrev pub invariant-loop-j : goal.invariant-loop-j
 invariant-loop-j l = record {
-  resolver : IsResolver l.bindings.pairs l.bindings.order l.self;
-  kept : KeepsKnown l.fn.self.rows l.self.rows;
-  known : (k : ℕ) → k < l.j → IsKnown l.self.rows l.p k;
-  rest : first_among (import_refusal l.bindings.pairs l.p) l.j (import_count l.bindings.pairs l.p - l.j) ≡ imports_refusal l.bindings.pairs l.p;
+  resolver : IsResolver l.fn.bindings.pairs l.fn.bindings.order l.self;
+  keeps : Keeps l.fn.bindings l.bindings;
+  known : (k : ℕ) → k < l.j → IsKnown l.bindings.rows l.p k;
+  rest : first_among (import_refusal l.fn.bindings.pairs l.p) l.j (import_count l.fn.bindings.pairs l.p - l.j) ≡ imports_refusal l.fn.bindings.pairs l.p;
 }

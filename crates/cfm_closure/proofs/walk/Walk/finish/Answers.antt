@@ -7,7 +7,7 @@ pub returns-clause-walk : goal.returns-clause-walk
 returns-clause-walk c =
     rw (c.in_ok-put.ensures.ok, c.in_ok-push.ensures.items)
     (tables-joined c.args.store.now c.args.self.now.fragments c.args.self.now.closed c.args.self.now.marked.items c.args.self.now.path.items c.args.self.now.order.items
-    c.requires.walk c.args.frame c.requires.frame c.requires.all)
+    c.requires.walk c.args.frame c.in_ok-targets.targets c.imports.result c.requires.frame c.requires.all c.in_ok-targets.ensures c.imports.ensures.count)
 
 pub returns-clause-continues : goal.returns-clause-continues
 returns-clause-continues c = search rules
