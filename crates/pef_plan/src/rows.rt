@@ -14,26 +14,24 @@ use crate::section_runs::{Classed, LowValue, best_in_c, best_in_d};
 use pef_cert::class_of;
 use pef_reloc::Base;
 
-/// Fills in the labels at a fixup from the tables of the fixups after it. `lows` has room for one number for
-/// each class.
+/// The maximum number of classes.
+const MAX_CLASSES: usize = 17;
+
+/// Fills in the labels at a fixup from the tables of the fixups after it.
 pub(crate) fn fill_labels(
     known: SolvedSuffix<'_>,
     at: FixupState<'_>,
     ends: &RunEnds,
     row: &mut [u32],
-    lows: &mut [u32],
 )
     requires at { AtOf known at }
     requires ends { EndsAt known at.others.now (at.first ∷ at.others.now) ends.now }
     requires row { length row.old ≡ (length known.registers.now + 1) * (length known.registers.now + 1) }
-    requires lows { length lows.old ≡ length known.registers.now + 1 }
-    ensures row_len { length row.new ≡ length row.old }
-    ensures lows_len { length lows.new ≡ length lows.old }
+    ensures len { length row.new ≡ length row.old }
     ensures labels { RowOf known.entry at.entry row.new }
 {
     fill_direct(known, at, ends, row);
-    fill_lows(row, lows);
-    close_row(row, lows);
+    close_row(row, known.classes());
 }
 
 /// Fills in the values of the best instructions that add at a fixup. No register changes before them.
@@ -208,7 +206,48 @@ pub(crate) fn at_classes<'a>(at: FixupState<'a>, c: usize, d: usize) -> OpenStat
     }
 }
 
+/// Replaces each direct value by the least over all classes, with 1 added for each register that changes.
+///
+/// The loops are unrolled for up to 9 classes, which are those of 8 sections.
+fn close_row(row: &mut [u32], classes: usize)
+    requires some { 0 < classes }
+    requires few { classes ≤ most_sections + 1 }
+    requires row { length row.old ≡ classes * classes }
+    requires small { SmallLine (length row.old) row.old }
+    ensures len { length row.new ≡ length row.old }
+    ensures closed { ClosedOf classes row.old row.new }
+{
+    match classes {
+        2 => close_classes(row, 2),
+        3 => close_classes(row, 3),
+        4 => close_classes(row, 4),
+        5 => close_classes(row, 5),
+        6 => close_classes(row, 6),
+        7 => close_classes(row, 7),
+        8 => close_classes(row, 8),
+        9 => close_classes(row, 9),
+        _ => close_classes(row, classes),
+    }
+}
+
+/// Does the same. It is inlined with a known number of classes.
+#[inline(always)]
+fn close_classes(row: &mut [u32], classes: usize)
+    requires some { 0 < classes }
+    requires few { classes ≤ most_sections + 1 }
+    requires row { length row.old ≡ classes * classes }
+    requires small { SmallLine (length row.old) row.old }
+    ensures len { length row.new ≡ length row.old }
+    ensures closed { ClosedOf classes row.old row.new }
+{
+    let mut room = [0; MAX_CLASSES];
+    let lows = &mut room[..classes];
+    fill_lows(row, lows);
+    close_lines(row, lows);
+}
+
 /// Fills in the least of each column of a row, by the class of register D.
+#[inline(always)]
 fn fill_lows(row: &[u32], lows: &mut [u32])
     requires some { 0 < length lows.old }
     requires few { length lows.old ≤ most_sections + 1 }
@@ -225,6 +264,7 @@ fn fill_lows(row: &[u32], lows: &mut [u32])
 }
 
 /// Lowers each number to the one of a row's line, if that is less. The line begins at `start`.
+#[inline(always)]
 fn lower_to_line(lows: &mut [u32], row: &[u32], start: usize)
     requires inside { start + length lows.old ≤ length row.now }
     ensures len { length lows.new ≡ length lows.old }
@@ -235,9 +275,9 @@ fn lower_to_line(lows: &mut [u32], row: &[u32], start: usize)
     }
 }
 
-/// Replaces each direct value by the least over all classes, with 1 added for each register that changes.
-/// `lows` has the least of each column.
-fn close_row(row: &mut [u32], lows: &[u32])
+/// Does the same from the least of each column.
+#[inline(always)]
+fn close_lines(row: &mut [u32], lows: &[u32])
     requires some { 0 < length lows.now }
     requires few { length lows.now ≤ most_sections + 1 }
     requires row { length row.old ≡ length lows.now * length lows.now }
@@ -253,6 +293,7 @@ fn close_row(row: &mut [u32], lows: &[u32])
 }
 
 /// Does the same for one class of register C. Its line begins at `start`.
+#[inline(always)]
 fn close_line(row: &mut [u32], start: usize, lows: &[u32], low: u32)
     requires some { 0 < length lows.now }
     requires inside { start + length lows.now ≤ length row.old }
@@ -271,6 +312,7 @@ fn close_line(row: &mut [u32], start: usize, lows: &[u32], low: u32)
 
 /// Returns the least of the numbers of a line, or `low + 1` if that is less. None of them is below `low`. The line
 /// begins at `start`.
+#[inline(always)]
 fn least_along(row: &[u32], start: usize, count: usize, low: u32) -> u32
     requires inside { start + count ≤ length row.now }
     requires low { low ≤ 1048576 }
@@ -295,6 +337,7 @@ fn low_if_equal(number: u32, low: u32, along: u32) -> u32
 }
 
 /// Returns the least of `count` numbers, beginning at index `from`.
+#[inline(always)]
 fn least(numbers: &[u32], from: usize, count: usize) -> u32
     requires some { 0 < count }
     requires inside { from + count ≤ length numbers.now }

@@ -37,7 +37,6 @@ pub(crate) fn fill(
     let mut labels = LabelRows::new(alloc, classes * classes);
     let mut skips = Table::new(alloc, classes);
     let mut row = zeros(alloc, classes * classes)?;
-    let mut lows = zeros(alloc, classes)?;
     let mut line = zeros(alloc, classes)?;
     labels.push(&row)?;
     skips.push(&line)?;
@@ -53,7 +52,7 @@ pub(crate) fn fill(
             looks,
         };
         ends.pass(known, state)?;
-        fill_labels(known, state, &ends, &mut row, &mut lows);
+        fill_labels(known, state, &ends, &mut row);
         fill_skips(known, state, &ends, &mut line);
         labels.push(&row)?;
         skips.push(&line)?;

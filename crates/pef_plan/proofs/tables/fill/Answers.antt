@@ -39,7 +39,6 @@ fixups-init c =
       };
       ends = ends-none (drop (length fixups) fixups) c.args.registers.now c.push.new.self.rows r c.in_ok-ends.ends none refl c.in_ok-ends.ensures;
       row_len = c.in_ok-row.ensures.len;
-      lows_len = c.in_ok-lows.ensures.len;
       line_len = c.in_ok-line.ensures.len;
     }
 
@@ -88,11 +87,9 @@ fixups-preserved c =
     let i = c.fixups.invariant in
     let inside = i.inside in
     let rest = drop (c.fixups.at - 1) a.fixups.now in
-    let row_len = c.fill_labels.ensures.row_len ∙ ap length c.deref_mut.ensures.value in
-    let lows_len = c.fill_labels.ensures.lows_len ∙ ap length c.deref_mut-in-fixups.ensures.value in
-    let line_len = c.fill_skips.ensures.len ∙ ap length c.deref_mut-in-fixups-2.ensures.value in
+    let row_len = c.fill_labels.ensures.len ∙ ap length c.deref_mut.ensures.value in
+    let line_len = c.fill_skips.ensures.len ∙ ap length c.deref_mut-in-fixups.ensures.value in
     let row_items = with_items_is c.fixups.row c.fill_labels.new.row (row_len ∙ sym c.fixups.row.ok.0) in
-    let lows_items = with_items_is c.fixups.lows c.fill_labels.new.lows (lows_len ∙ sym c.fixups.lows.ok.0) in
     let line_items = with_items_is c.fixups.line c.fill_skips.new.skips (line_len ∙ sym c.fixups.line.ok.0) in
     let row = c.deref-in-fixups.ensures.value ∙ row_items in
     let line = c.deref-in-fixups-2.ensures.value ∙ line_items in
@@ -110,7 +107,6 @@ fixups-preserved c =
           (record { left = e.left; parts = e.parts; others = e.others; import_index = e.import_index })
           c.in_ok-pass.ensures);
       row_len = ap length row_items ∙ (row_len ∙ i.row_len);
-      lows_len = ap length lows_items ∙ (lows_len ∙ i.lows_len);
       line_len = ap length line_items ∙ (line_len ∙ i.line_len);
     }
 

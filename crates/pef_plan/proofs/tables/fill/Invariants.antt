@@ -14,6 +14,5 @@ invariant-fixups l = record {
   tables : TablesOf l.registers l.labels l.skips (index_after (take l.at l.fixups) 0) (drop l.at l.fixups);
   ends : EndsOf (λ labels. SameLabels labels l.registers l.labels.rows (length (drop l.at l.fixups))) (length l.registers + 1) (drop l.at l.fixups) l.ends;
   row_len : length l.row.items ≡ (length l.registers + 1) * (length l.registers + 1);
-  lows_len : length l.lows.items ≡ length l.registers + 1;
   line_len : length l.line.items ≡ length l.registers + 1;
 }

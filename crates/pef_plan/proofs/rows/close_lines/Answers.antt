@@ -5,7 +5,7 @@ use Rattle.pef_plan.specs.Runs.Tables.{number_in, place_of}
 use Rattle.pef_plan.proofs.RunsProofs.PlaceLemmas.{line_inside}
 use Rattle.pef_plan.specs.Kept.Rows.{LineOf}
 use Rattle.pef_plan.proofs.LineLemmas.{closed-of, least-from, line-same, small-lows}
-use Rattle.pef_plan.proofs.rows.close_row.Goals as goal
+use Rattle.pef_plan.proofs.rows.close_lines.Goals as goal
 
 pub close_line-requires-clause-inside : goal.close_line-requires-clause-inside
 close_line-requires-clause-inside c =

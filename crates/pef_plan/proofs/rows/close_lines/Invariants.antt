@@ -1,7 +1,7 @@
 use Rattle.std.proofs.Common.{◌≡◌, ◌*◌, ◌<◌, ◌≤◌, ℕ, length, slice_index}
 use Rattle.pef_plan.specs.Runs.Tables.{number_in}
 use Rattle.pef_plan.specs.Kept.Rows.{LineOf}
-use Rattle.pef_plan.proofs.rows.close_row.Given as goal
+use Rattle.pef_plan.proofs.rows.close_lines.Given as goal
 
 abbrev pub invariant-lines : goal.invariant-lines
 invariant-lines l = record {
