@@ -12,6 +12,7 @@ mod Reaching
 mod RegisterLemmas
 mod RowLemmas
 mod RunTests
+mod SetLemmas
 mod SkipFacts
 mod StepFacts
 mod WordByWord

@@ -1,4 +1,5 @@
 pub mod Met
+pub mod Near
 pub mod Rows
 pub mod Steps
 pub mod Tables

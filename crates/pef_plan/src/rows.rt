@@ -5,6 +5,7 @@ ghost use Rattle.pef_reloc.specs.declared.fixup.Base.TheVariants.{Import, Sectio
 ghost use Rattle.pef_plan.specs.Runs.Ends.{EndsAt};
 ghost use Rattle.pef_plan.specs.Runs.Places.{AtOf};
 ghost use Rattle.pef_plan.specs.Runs.Tables.{number_in, place_of};
+ghost use Rattle.pef_plan.specs.Kept.Near.{NearSteps};
 ghost use Rattle.pef_plan.specs.Kept.Rows.{Adds, AddsInBoth, AddsInC, AlongOf, ClosedOf, DirectRow, EachState, LeastOf, LineOf, LinesOf, RowOf, SmallLine, state_of};
 ghost use Rattle.pef_reloc.specs.Limits.{most_sections};
 
@@ -26,34 +27,23 @@ pub(crate) fn fill_labels(
 )
     requires at { AtOf known at }
     requires ends { EndsAt known at.others.now (at.first ∷ at.others.now) ends.now }
+    requires steps { NearSteps known ends.now }
     requires row { length row.old ≡ (length known.registers.now + 1) * (length known.registers.now + 1) }
     ensures len { length row.new ≡ length row.old }
     ensures labels { RowOf known.entry at.entry row.new }
-{
-    fill_direct(known, at, ends, row);
-    close_row(row, known.classes());
-}
-
-/// Fills in the values of the best instructions that add at a fixup. No register changes before them.
-fn fill_direct(known: SolvedSuffix<'_>, at: FixupState<'_>, ends: &RunEnds, row: &mut [u32])
-    requires at { AtOf known at }
-    requires ends { EndsAt known at.others.now (at.first ∷ at.others.now) ends.now }
-    requires row { length row.old ≡ (length known.registers.now + 1) * (length known.registers.now + 1) }
-    ensures len { length row.new ≡ length row.old }
-    ensures direct { DirectRow known.entry at.entry row.new }
-    ensures small { SmallLine (length row.old) row.new }
 {
     match at.first.base {
         Base::Section(section) => {
             let class = class_of(known.registers, section);
             fill_section(known, at, ends, Classed { section, class }, row);
+            close_row(row, known.classes());
         }
         Base::Import(import) => fill_import(known, at, ends, import, row),
     }
 }
 
-/// Does the same for a fixup that has a section. A run can begin only if a register holds the section: in one
-/// line and one column of the row.
+/// Fills in the values of the best instructions for a fixup that has a section. No register changes before them.
+/// A run can begin only if a register holds the section: in one line and one column of the row.
 fn fill_section(
     known: SolvedSuffix<'_>,
     at: FixupState<'_>,
@@ -124,7 +114,8 @@ fn lower_in_d(
     }
 }
 
-/// Fills in the values of the best instructions for a fixup that has an import.
+/// Fills in the labels at a fixup that has an import. If no run begins there, the values of one addition are
+/// already the labels, because a change of registers changes the extension by at most 1.
 fn fill_import(
     known: SolvedSuffix<'_>,
     at: FixupState<'_>,
@@ -135,13 +126,15 @@ fn fill_import(
     requires at { AtOf known at }
     requires base { at.first.base ≡ Import import }
     requires ends { EndsAt known at.others.now (at.first ∷ at.others.now) ends.now }
+    requires steps { NearSteps known ends.now }
     requires row { length row.old ≡ (length known.registers.now + 1) * (length known.registers.now + 1) }
     ensures len { length row.new ≡ length row.old }
-    ensures direct { DirectRow known.entry at.entry row.new }
+    ensures labels { RowOf known.entry at.entry row.new }
 {
     ends.fill_alone(import_cost(import), row);
     if u64::from(import) == at.import_index {
         lower_by_imports(known, at, ends, import, row);
+        close_row(row, known.classes());
     }
 }
 

@@ -4,7 +4,7 @@ use Rattle.pef_reloc.specs.Deliveries.{index_after}
 use Rattle.pef_plan.specs.Runs.Ends.{EndsOf}
 use Rattle.pef_plan.specs.Runs.Tables.{SameLabels}
 use Rattle.pef_plan.specs.Kept.Tables.{TablesOf}
-use Rattle.pef_plan.proofs.FillLemmas.{ends-at, ends-next, ends-none, fill-at, fill-none, tables-next}
+use Rattle.pef_plan.proofs.FillLemmas.{ends-at, ends-next, ends-none, fill-at, fill-none, fill-steps, tables-next}
 use Rattle.pef_plan.proofs.PlanFacts.{few_classes}
 use Rattle.pef_plan.proofs.tables.fill.Goals as goal
 
@@ -69,6 +69,16 @@ fill_labels-requires-clause-at c =
     fill-at c.args.fixups.now c.args.registers.now c.fixups.labels.rows c.fixups.skips.rows (c.fixups.at - 1) c.fixups.at _ _ c.state_at-state.result c.requires.fit c.requires.registers (omega (arith, t)) i.inside i.tables.tabled
     (record { registers_are = refl; labels_are = refl; skips_are = refl; labels_wide = i.tables.labels_wide; skips_wide = i.tables.skips_wide })
     (record { left = e.left; parts = e.parts; others = e.others; import_index = e.import_index })
+
+pub fill_labels-requires-clause-steps : goal.fill_labels-requires-clause-steps
+fill_labels-requires-clause-steps c =
+    let e = c.state_at-state.ensures in
+    let t = c.fixups-test.true in
+    let i = c.fixups.invariant in
+    fill-steps c.args.fixups.now c.args.registers.now c.fixups.labels.rows c.fixups.skips.rows (c.fixups.at - 1) c.fixups.at _ _ c.state_at-state.result c.pass.new.self c.requires.fit c.requires.registers (omega (arith, t)) i.inside i.tables.tabled
+    (record { registers_are = refl; labels_are = refl; skips_are = refl; labels_wide = i.tables.labels_wide; skips_wide = i.tables.skips_wide })
+    (record { left = e.left; parts = e.parts; others = e.others; import_index = e.import_index })
+    c.in_ok-pass.ensures
 
 pub fill_skips-requires-clause-at : goal.fill_skips-requires-clause-at
 fill_skips-requires-clause-at c =
