@@ -1,9 +1,12 @@
 -- The sections that fixups use, one after the other.
-use Rattle.std.proofs.Common.{◌≡◌, ℕ, ◌+◌, ◌<◌, ◌≤◌, inl, inr, Bool, true, false, ◌==◌, ◌||◌, nat_lt, List, [], ◌∷◌, ◌++◌, refl, ap, sym, ◌∙◌, arith, eq-eqb}
+use Rattle.std.proofs.Common.{◌≡◌, ℕ, zero, suc, ◌+◌, ◌<◌, ◌≤◌, inl, inr, Bool, true, false, ◌==◌, ◌||◌, nat_lt, List, [], ◌∷◌, ◌++◌, length, refl, ap, sym, ◌∙◌, arith, eq-eqb}
+use Rattle.std.specs.Prelude.{replicate, slice_index_or, slice_set}
+use Rattle.std.proofs.lemmas.List.{get_or-set_other, get_or-set_same}
 use Rattle.std.proofs.lemmas.Bool.{and_from, and_parts, eqb-true, false_from_ne_true, lt-ltb, ltb-false, ltb-true, ne_eqb, or_right}
 use Rattle.std.proofs.lemmas.Bool.Decides.{eqb_tells}
 use Rattle.pef_reloc.specs.declared.fixup.Fixup.{Fixup}
-use Rattle.pef_reloc.specs.Deliveries.{uses_section}
+use Rattle.pef_reloc.specs.declared.fixup.Base.{Base}
+use Rattle.pef_reloc.specs.Deliveries.{is_section, uses_section}
 use Rattle.pef_reloc.specs.Fixups.{fixups_fit}
 use Rattle.pef_reloc.specs.Limits.{most_sections}
 use Rattle.pef_reloc.proofs.Laws.{used_section-below}
@@ -17,9 +20,28 @@ pub record UsedBelow (fixups : List Fixup) (most : ℕ) (registers : List ℕ) :
   pub below : (k : ℕ) → is_among registers k ≡ true → k < most
   pub used : (k : ℕ) → k < most → is_among registers k ≡ uses_section fixups k
 
-or_false : (a : Bool) → (a || false) ≡ a
+pub or_false : (a : Bool) → (a || false) ≡ a
 or_false true = refl
 or_false false = refl
+
+-- no section is marked at first
+pub unmarked : (n k : ℕ) → slice_index_or (replicate n false) k false ≡ false
+unmarked zero k = refl
+unmarked (suc n) zero = refl
+unmarked (suc n) (suc k) = unmarked n k
+
+-- the marks after one more base
+pub marked-section : (used : List Bool) (section k : ℕ) → section < length used → slice_index_or (slice_set used section true) k false ≡ (slice_index_or used k false || section == k)
+marked-section used section k inside =
+    elim (eqb_tells k section) [
+      | inl same ↦ rw same.1 (get_or-set_same used section true false inside ∙ sym (or_right (slice_index_or used section false) (section == section) (eq-eqb section section refl)))
+      | inr other ↦ rw (ne_eqb section k (λ e. other.1 (sym e))) (get_or-set_other used section k true false other.1 ∙ sym (or_false (slice_index_or used k false)))
+    ]
+
+-- the sections marked so far, with those of the fixups left
+pub marked-more : (used new : List Bool) (base : Base) (rest : List Fixup) (all : Bool) (k : ℕ) → slice_index_or new k false ≡ (slice_index_or used k false || is_section k base) → (slice_index_or used k false || (is_section k base || uses_section rest k)) ≡ all → (slice_index_or new k false || uses_section rest k) ≡ all
+marked-more used new base rest all k next before =
+    ap (λ b. b || uses_section rest k) next ∙ sym (or_assoc (slice_index_or used k false) (is_section k base) (uses_section rest k)) ∙ before
 
 above-append : (low : ℕ) (rs : List ℕ) (k : ℕ) → above_all low rs ≡ true → low < k → ((j : ℕ) → is_among rs j ≡ true → j < k) → above_all low (rs ++ k ∷ []) ≡ true
 above-append low [] k up under below = and_from (nat_lt low k) true (lt-ltb low k under) refl
