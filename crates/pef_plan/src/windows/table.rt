@@ -1,4 +1,4 @@
-ghost use Rattle.std.specs.Prelude.{◌≡◌, ◌+◌, ◌-◌, ◌^◌, ◌<◌, ◌++◌, ◌∷◌, [], IfOk, if◌then◌else◌, is_ok, MatchOption, OnErr, OnOk, Some, None, length, replicate, slice_get, slice_index_or, take};
+ghost use Rattle.std.specs.Prelude.{◌≡◌, ◌+◌, ◌-◌, ◌^◌, ◌<◌, ◌≤◌, ◌++◌, ◌∷◌, [], IfOk, MatchOption, OnErr, OnOk, Some, None, drop, length, replicate, slice_get, slice_index_or, take};
 
 use std::alloc::{AllocError, Global};
 use std::marker::Model;
@@ -8,11 +8,13 @@ use std::marker::Model;
 pub struct Table {
     width: usize,
     rows: usize,
+    /// The numbers of the rows, and then those of rows that were removed. A new row replaces them, so that it
+    /// needs no allocation.
     values: Vec<u32>,
 }
 
 impl Model for Table {
-    ghost use Rattle.std.specs.Prelude.{◌≡◌, ◌*◌, length};
+    ghost use Rattle.std.specs.Prelude.{◌≤◌, ◌*◌, length};
     ghost use Rattle.pef_cert.specs.Rows.{LaidRows};
     ghost use Rattle.pef_plan.specs.Windows.Tables.{rows_of};
 
@@ -20,7 +22,7 @@ impl Model for Table {
 
     ghost view = { λ t. record { width = t.width; rows = rows_of t.rows t.width t.values.items } };
 
-    ghost invariant = { λ t. length t.values.items ≡ t.rows * t.width };
+    ghost invariant = { λ t. t.rows * t.width ≤ length t.values.items };
 }
 
 impl Table {
@@ -55,7 +57,7 @@ impl Table {
         ensures ok { OnOk result (self.new ≡ record { width = self.old.width; rows = self.old.rows ++ row.now ∷ [] }) }
         ensures err { OnErr result (self.new ≡ self.old) }
     {
-        append(&mut self.values, row)?;
+        write_row(&mut self.values, self.rows * self.width, row)?;
         self.rows += 1;
         Ok(())
     }
@@ -91,7 +93,6 @@ impl Table {
     {
         if self.rows > 0 {
             self.rows -= 1;
-            self.values.truncate(self.rows * self.width);
         }
     }
 
@@ -101,30 +102,41 @@ impl Table {
         ensures { self.new ≡ record { width = self.old.width; rows = [] } }
     {
         self.rows = 0;
-        self.values.clear();
     }
 }
 
-/// The most numbers that are appended one by one.
-const FEW: usize = 4;
-
-/// Appends the numbers of a row. A few are appended faster one by one than by a copy.
+/// Writes a row at an index, over the numbers that are there or after them.
 ///
 /// # Errors
 ///
-/// `AllocError`, if the allocation failed. The values are unchanged then.
+/// `AllocError`, if the allocation failed. The numbers before the index are unchanged then.
 #[inline(always)]
-pub(crate) fn append(values: &mut Vec<u32>, row: &[u32]) -> Result<(), AllocError>
-    ensures items { values.new.items ≡ (if is_ok result then values.old.items ++ row.now else values.old.items) }
+fn write_row(values: &mut Vec<u32>, start: usize, row: &[u32]) -> Result<(), AllocError>
+    requires { start ≤ length values.old.items }
+    ensures before { take start values.new.items ≡ take start values.old.items }
+    ensures inside { start ≤ length values.new.items }
+    ensures room { OnOk result (start + length row.now ≤ length values.new.items) }
+    ensures row { OnOk result (take (length row.now) (drop start values.new.items) ≡ row.now) }
 {
-    if row.len() > FEW {
+    if values.len() - start < row.len() {
+        values.truncate(start);
         return values.extend_from_slice(row);
     }
-    values.reserve(row.len())?;
-    'numbers: for i in 0..row.len() {
-        values.push(row[i])?;
-    }
+    let (_, rest) = values.split_at_mut(start);
+    copy_row(row, rest);
     Ok(())
+}
+
+/// Copies a row to the front of some numbers. Rows are short, and then this is faster than a copy by the
+/// library.
+#[inline(always)]
+pub(crate) fn copy_row(row: &[u32], numbers: &mut [u32])
+    requires { length row.now ≤ length numbers.old }
+    ensures { numbers.new ≡ row.now ++ drop (length row.now) numbers.old }
+{
+    'numbers: for i in 0..row.len() {
+        numbers[i] = row[i];
+    }
 }
 
 /// Returns `count` zeros.

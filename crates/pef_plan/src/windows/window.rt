@@ -2,7 +2,7 @@ ghost use Rattle.std.specs.Prelude.{◌≡◌, ◌+◌, ◌-◌, ◌^◌, ◌<�
 ghost use Rattle.pef_plan.specs.Windows.Windows.{BestOf, LesserOf, OlderOf, WindowOf};
 
 use crate::windows::looks::Looks;
-use crate::windows::table::{Table, append};
+use crate::windows::table::{Table, copy_row};
 use std::alloc::{AllocError, Global};
 use std::marker::Model;
 
@@ -18,7 +18,7 @@ pub struct Window {
     older: Table,
     /// The newer rows, the newest last.
     newer: Table,
-    /// The least number of the newer rows at each place.
+    /// The least number of the newer rows at each place, if there are any.
     low: Vec<u32>,
 }
 
@@ -89,8 +89,7 @@ impl Window {
         ensures lesser { OnOk result (0 < length self.old.newer → LesserOf self.old.width self.old.low row.now self.new.low) }
     {
         if self.newer.rows() == 0 {
-            self.low.clear();
-            append(&mut self.low, row)?;
+            replace(&mut self.low, row)?;
         } else {
             lower(&mut self.low, row);
         }
@@ -177,6 +176,19 @@ fn age_all(
         older.push(low)?;
         newer.pop();
     }
+    Ok(())
+}
+
+/// Replaces numbers by those of a row.
+#[inline(always)]
+fn replace(numbers: &mut Vec<u32>, row: &[u32]) -> Result<(), AllocError>
+    ensures { OnOk result (numbers.new.items ≡ row.now) }
+{
+    if numbers.len() != row.len() {
+        numbers.clear();
+        return numbers.extend_from_slice(row);
+    }
+    copy_row(row, numbers);
     Ok(())
 }
 
