@@ -24,6 +24,14 @@ slot_there t s whole some under =
     let word = number_there 4 t.bytes (4 * s) (omega arith) in
     rw (lt-ltb s (2 ^ t.power) under, word) refl
 
+-- .. and each key
+pub key_there : (t : ExportTable) (i : ℕ) → IsTrue (has_table t.power t.count t.bytes) → i < t.count → key_of t i ≡ Some (big_number 4 (drop (4 * 2 ^ t.power + 4 * i) t.bytes))
+unfolding key_of
+key_there t i whole under =
+    let all = table_whole t.power t.count i t.bytes whole under in
+    let key = number_there 4 t.bytes (4 * 2 ^ t.power + 4 * i) (omega arith) in
+    rw (lt-ltb i t.count under, key) refl
+
 -- a name is no longer than its key can express
 part-length : (bytes : List ℕ) (from n : ℕ) (part : List ℕ) → part_of bytes from n ≡ Some part → length part ≡ n
 unfolding part_of

@@ -1,12 +1,11 @@
 -- Tables whose slots lead to their exports.
 use Rattle.std.proofs.Common.{◌≡◌, ℕ, false, ◌+◌, ◌-◌, ◌^◌, ◌<◌, ◌≤◌, inl, inr, List, Option, None, Some, length, refl, sym, ap, ◌∙◌, arith}
 use Rattle.std.specs.Prelude.{IsTrue, nat_le, nat_lt}
-use Rattle.std.proofs.Math.Dec.{eqb}
-use Rattle.std.proofs.lemmas.Bool.{and_parts, eq-eqb, false_from_ne_true, leb-true, ltb-true}
+use Rattle.std.proofs.lemmas.Bool.{and_parts, false_from_ne_true, leb-true, ltb-true}
 use Rattle.std.proofs.lemmas.Bool.Decides.{eqb_tells, leb_tells}
 use Rattle.std.proofs.lemmas.Slice.Eq.{bytes_eq-Decides}
 use Rattle.std.proofs.lemmas.Option.{same_Some}
-use Rattle.std.specs.Option.{option_eq, option_map_or}
+use Rattle.std.specs.Option.{option_map_or}
 use Rattle.std.specs.Str.{bytes_eq}
 use Rattle.pef_words.specs.Refusals.{◌>>=◌, first_among}
 use Rattle.pef_words.proofs.Laws.Refusals.{first_among-at, first_among-none, none_among, some_among}
@@ -36,6 +35,10 @@ named_inside t name i is =
 pub unnamed : (t : ExportTable) (name : List ℕ) (i : ℕ) → (name_of t i ≡ Some name → ⊥) → named_at t name i ≡ None
 unnamed t name i not = none_of (named_at t name i) (λ x is. not (named_only (name_of t i) name i x is).1)
 
+-- past the exports none has it
+pub past_exports : (t : ExportTable) (name : List ℕ) (i n : ℕ) → t.count ≤ i → first_among (named_at t name) i n ≡ None
+past_exports t name i n past = first_among-none (named_at t name) i n (λ k low high. unnamed t name k (λ named. absurd (let below = named_inside t name k named in omega arith)))
+
 -- a slot word that leads to an export counts it
 leads_counts : (word i : ℕ) → IsTrue (leads_to (Some word) i) → IsCounted word i
 leads_counts word i leads =
@@ -56,15 +59,10 @@ unnamed_false : (o : Option (List ℕ)) (name : List ℕ) → (o ≡ Some name �
 unnamed_false None name not = refl
 unnamed_false (Some found) name not = false_from_ne_true (bytes_eq found name) (λ same. not (ap Some ((bytes_eq-Decides found name).0 same)))
 
-other_key : (o : Option ℕ) (word : ℕ) → option_eq eqb o (Some word) ≡ false → o ≡ Some word → ⊥
-other_key None word other is = absurd (cc)
-other_key (Some key) word other is =
-    let same = eq-eqb key word (same_Some key word is) in
-    absurd (cc)
-
-pub unkeyed : (t : ExportTable) (name : List ℕ) (word i : ℕ) (o : Option ℕ) → LeadsToAll t → word ≡ hash_word name → o ≡ key_of t i → option_eq eqb o (Some word) ≡ false → is_named t name i ≡ false
-unkeyed t name word i o leads is key other =
-    unnamed_false (name_of t i) name (λ named. other_key o word other (key ∙ (leads i name named).2 ∙ ap Some (sym is)))
+-- an export with another key has another name
+pub unkeyed : (t : ExportTable) (name : List ℕ) (word i key : ℕ) → LeadsToAll t → word ≡ hash_word name → key_of t i ≡ Some key → (key ≡ word → ⊥) → is_named t name i ≡ false
+unkeyed t name word i key leads is keyed other =
+    unnamed_false (name_of t i) name (λ named. other (same_Some key word (sym keyed ∙ (leads i name named).2 ∙ ap Some (sym is))))
 
 -- no export has a name that is too long, or whose slot doesn't exist
 pub long_none : (t : ExportTable) (name : List ℕ) → LeadsToAll t → 2 ^ 16 ≤ length name → export_named t name ≡ None

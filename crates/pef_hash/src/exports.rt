@@ -1,4 +1,4 @@
-ghost use Rattle.std.specs.Prelude.{◌≡◌, ◌-◌, ◌^◌, ◌<◌, ◌≤◌, length, IsTrue};
+ghost use Rattle.std.specs.Prelude.{◌≡◌, ◌-◌, ◌^◌, ◌<◌, ◌≤◌, length, IsTrue, Some};
 ghost use Rattle.std.specs.Option.{option_copied};
 ghost use Rattle.std.specs.Str.{bytes_eq};
 ghost use Rattle.pef_words.specs.Refusals.{first_among};
@@ -109,6 +109,17 @@ impl<'a> Exports<'a> {
         Cut::new(self.table).u32_at(key_place(self.power, i))
     }
 
+    /// Returns the hash word that the table has for export `i`, which must exist.
+    fn present_key(&self, i: usize) -> u32
+        requires { i < self.now.count }
+        ensures { key_of (table_of self.now) i ≡ Some result }
+    {
+        match self.key(i) {
+            Some(key) => key,
+            None => unreachable!(),
+        }
+    }
+
     /// Returns slot word `s`, or `None` if there is no such slot or it passes the end.
     #[tactic(auto, unfolding(crate::specs::Exports::slot_word_of))]
     pub(crate) fn slot_word(&self, s: usize) -> Option<u32>
@@ -184,7 +195,8 @@ impl<'a> Exports<'a> {
         requires word { word ≡ hash_word name.now }
         ensures { result ≡ first_among (named_at (table_of self.now) name.now) places.start (places.end - places.start) }
     {
-        for i in places.start..places.end {
+        let end = places.end.min(self.count as usize);
+        for i in places.start..end {
             if self.is_keyed(i, word, name) {
                 return Some(i);
             }
@@ -192,14 +204,15 @@ impl<'a> Exports<'a> {
         None
     }
 
-    /// Returns whether export `i` has this name. Its key is compared first, since that rules out most
-    /// others.
+    /// Returns whether export `i`, which must exist, has this name. Its key is compared first, since that rules out
+    /// most others.
     fn is_keyed(&self, i: usize, word: u32, name: &[u8]) -> bool
+        requires there { i < self.now.count }
         requires leads { LeadsToAll (table_of self.now) }
         requires word { word ≡ hash_word name.now }
         ensures { result ≡ is_named (table_of self.now) name.now i }
     {
-        self.key(i) == Some(word) && self.is_named(i, name)
+        self.present_key(i) == word && self.is_named(i, name)
     }
 
     /// Returns the first of some exports with this name.
