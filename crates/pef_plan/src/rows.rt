@@ -15,7 +15,7 @@ use crate::section_runs::{Classed, LowValue, best_in_c, best_in_d};
 use pef_cert::class_of;
 use pef_reloc::Base;
 
-/// The maximum number of classes.
+/// The maximum number of classes: one for each section, and one for all others.
 const MAX_CLASSES: usize = 17;
 
 /// Fills in the labels at a fixup from the tables of the fixups after it.
