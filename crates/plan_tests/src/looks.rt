@@ -25,11 +25,12 @@ fn looks_and_labels(rt: &impl Abort, alloc: Global, fixups: &[Fixup]) -> (u64, u
 /// two classes of a register, so a row has four labels, and a column of it two.
 ///
 /// For each word the values right after it (4) and a word further on with register D holding the section (2) are read,
-/// and three windows take in a row: of words (4), of skips (2), of words a word apart (2). The two windows of pairs
-/// take in a number each (2) for each word but the last. That is 14 for each word, and 2 for each but the last. Then
-/// the program is read off at the first word: the end after one word, each end of the run of words, and the one end of
-/// a run a word apart. For two words that makes 28 + 2 + 4. For 64 words it makes 896 + 126 + 66. In addition the
-/// window of skips, which has room for 63, looks once more at 63 rows of two as they grow old, 126 looks.
+/// and four windows take in a row: of words with register C holding the section (2) and with register D holding it (2),
+/// of skips (2), of words a word apart (2). The two windows of pairs take in a number each (2) for each word but the
+/// last. That is 14 for each word, and 2 for each but the last. Then the program is read off at the first word: the end
+/// after one word, each end of the run of words, and the one end of a run a word apart. For two words that makes 28 + 2
+/// + 4. For 64 words it makes 896 + 126 + 66. In addition the window of skips, which has room for 63, looks once more
+/// at 63 rows of two as they grow old, 126 looks.
 const LOOKS: &[(u32, u64)] = &[(2, 34), (64, 1_214)];
 
 #[test]

@@ -10,7 +10,7 @@ use Rattle.pef_plan.specs.declared.runs.run.Run.{Run}
 use Rattle.pef_plan.specs.declared.runs.run.Run.TheVariants.{WordsOfC, WordsOfD, Spaced, Pairs, SpacedPairs, Imports, Skip}
 use Rattle.pef_plan.specs.declared.runs.ends.RunEnds.{RunEnds}
 use Rattle.pef_plan.specs.Runs.Runs.{EndAmong, EndOf, Ends, EndsFrom, Holds, NextBase, RunBegins, RunOf, limit, stride, units}
-use Rattle.pef_plan.specs.Runs.Ends.{EndRows, EndsAt, FarPairsAt, FarPairsKept, Holding, PairsAt, PairsKept, SkipsAt, SkipsKept, SpacedAt, SpacedKept, WordsAt, WordsKept, place_in, window_of}
+use Rattle.pef_plan.specs.Runs.Ends.{EndRows, EndsAt, FarPairsAt, FarPairsKept, Holding, ImportsAt, ImportsKept, PairsAt, PairsKept, SpacedAt, SpacedKept, WordsOfCAt, WordsOfCKept, WordsOfDAt, WordsOfDKept, place_in, window_of}
 use Rattle.pef_plan.specs.Runs.Places.{HereOf, Led}
 use Rattle.pef_plan.specs.Runs.Tables.{Agrees, place_of}
 use Rattle.pef_plan.specs.Windows.Windows.{BestOf, IsOne, WindowOf, Windowed}
@@ -65,32 +65,27 @@ same_classes l k h agrees = ap (λ rs. length rs + 1) agrees.same.registers_are
 held_class : (l : Labels) (k : SolvedSuffix) (h : OpenState) (section class : ℕ) → Agrees l k h.others.now → Holds k.registers.now section class → class ≡ class_of l.registers section
 held_class l k h section class agrees holds = sym (ap (λ rs. class_of rs section) agrees.same.registers_are ∙ holds.0)
 
-word_rows : (k : SolvedSuffix) (h : OpenState) (section : ℕ) (rows : List (List ℕ)) (l : Labels) → HereOf k h → h.first.base ≡ Section section → Agrees l k h.others.now → WordsKept l (h.first ∷ h.others.now) rows → EndRows l (WordsOfD section) 512 (h.first ∷ h.others.now) h.first.offset 0 h.place.c h.place.d (place_of (length k.registers.now + 1) h.place.c h.place.d) rows
-word_rows k h section rows l here base agrees kept =
-    subst (λ (n : ℕ). EndRows l (WordsOfD section) 512 (h.first ∷ h.others.now) h.first.offset 0 h.place.c h.place.d (place_of n h.place.c h.place.d) rows) (same_classes l k h agrees)
-    (subst (λ (b : Base). WordsAt l h.first.offset (h.first ∷ h.others.now) rows b) base kept h.place.c h.place.d (under_c l k h here agrees) (under_d l k h here agrees))
-
-import_rows : (k : SolvedSuffix) (h : OpenState) (import : ℕ) (rows : List (List ℕ)) (l : Labels) → HereOf k h → h.first.base ≡ Import import → Agrees l k h.others.now → WordsKept l (h.first ∷ h.others.now) rows → EndRows l Imports 512 (h.first ∷ h.others.now) h.first.offset import h.place.c h.place.d (place_of (length k.registers.now + 1) h.place.c h.place.d) rows
+import_rows : (k : SolvedSuffix) (h : OpenState) (import : ℕ) (rows : List (List ℕ)) (l : Labels) → HereOf k h → h.first.base ≡ Import import → Agrees l k h.others.now → ImportsKept l (h.first ∷ h.others.now) rows → EndRows l Imports 512 (h.first ∷ h.others.now) h.first.offset import h.place.c h.place.d (place_of (length k.registers.now + 1) h.place.c h.place.d) rows
 import_rows k h import rows l here base agrees kept =
     subst (λ (n : ℕ). EndRows l Imports 512 (h.first ∷ h.others.now) h.first.offset import h.place.c h.place.d (place_of n h.place.c h.place.d) rows) (same_classes l k h agrees)
-    (subst (λ (b : Base). WordsAt l h.first.offset (h.first ∷ h.others.now) rows b) base kept h.place.c h.place.d (under_c l k h here agrees) (under_d l k h here agrees))
+    (subst (λ (b : Base). ImportsAt l h.first.offset (h.first ∷ h.others.now) rows b) base kept h.place.c h.place.d (under_c l k h here agrees) (under_d l k h here agrees))
 
-words_c_best : (k : SolvedSuffix) (h : OpenState) (section first value : ℕ) (w : Windowed) → HereOf k h → h.place.position ≡ h.first.offset → RunOf k.registers.now (WordsOfC section) h.place h.place.position → h.first.base ≡ Section section → Holding (λ l. Agrees l k h.others.now) ((length k.registers.now + 1) * (length k.registers.now + 1)) 512 (λ l rows. WordsKept l (h.first ∷ h.others.now) rows) w → Bests w (place_of (length k.registers.now + 1) h.place.c h.place.d) first value → RunBest k h (WordsOfC section) first value
+words_c_best : (k : SolvedSuffix) (h : OpenState) (section first value : ℕ) (w : Windowed) → HereOf k h → h.place.position ≡ h.first.offset → RunOf k.registers.now (WordsOfC section) h.place h.place.position → h.first.base ≡ Section section → Holding (λ l. Agrees l k h.others.now) (length k.registers.now + 1) 512 (λ l rows. WordsOfCKept l (h.first ∷ h.others.now) rows) w → Bests w h.place.d first value → RunBest k h (WordsOfC section) first value
 words_c_best k h section first value w here at of base held bests =
-    run_best k h (WordsOfC section) (WordsOfD section) 0 first value (place_of (length k.registers.now + 1) h.place.c h.place.d) held.rows here at of (as_c section h.first.offset h.place.import_index) refl
-    (λ l agrees. word_rows k h section held.rows l here base agrees (held.kept l agrees))
-    (bests ((length k.registers.now + 1) * (length k.registers.now + 1)) 512 held.rows held.is)
+    run_best k h (WordsOfC section) (WordsOfD section) 0 first value h.place.d held.rows here at of (as_c section h.first.offset h.place.import_index) refl
+    (λ l agrees. subst (λ (b : Base). WordsOfCAt l h.first.offset (h.first ∷ h.others.now) held.rows b) base (held.kept l agrees) h.place.c h.place.d (held_class l k h section h.place.c agrees of.0) (under_d l k h here agrees))
+    (bests (length k.registers.now + 1) 512 held.rows held.is)
 
-words_d_best : (k : SolvedSuffix) (h : OpenState) (section first value : ℕ) (w : Windowed) → HereOf k h → h.place.position ≡ h.first.offset → RunOf k.registers.now (WordsOfD section) h.place h.place.position → h.first.base ≡ Section section → Holding (λ l. Agrees l k h.others.now) ((length k.registers.now + 1) * (length k.registers.now + 1)) 512 (λ l rows. WordsKept l (h.first ∷ h.others.now) rows) w → Bests w (place_of (length k.registers.now + 1) h.place.c h.place.d) first value → RunBest k h (WordsOfD section) first value
+words_d_best : (k : SolvedSuffix) (h : OpenState) (section first value : ℕ) (w : Windowed) → HereOf k h → h.place.position ≡ h.first.offset → RunOf k.registers.now (WordsOfD section) h.place h.place.position → h.first.base ≡ Section section → Holding (λ l. Agrees l k h.others.now) (length k.registers.now + 1) 512 (λ l rows. WordsOfDKept 512 l (h.first ∷ h.others.now) rows) w → Bests w h.place.c first value → RunBest k h (WordsOfD section) first value
 words_d_best k h section first value w here at of base held bests =
-    run_best k h (WordsOfD section) (WordsOfD section) 0 first value (place_of (length k.registers.now + 1) h.place.c h.place.d) held.rows here at of (as_d section h.first.offset h.place.import_index) refl
-    (λ l agrees. word_rows k h section held.rows l here base agrees (held.kept l agrees))
-    (bests ((length k.registers.now + 1) * (length k.registers.now + 1)) 512 held.rows held.is)
+    run_best k h (WordsOfD section) (WordsOfD section) 0 first value h.place.c held.rows here at of (as_d section h.first.offset h.place.import_index) refl
+    (λ l agrees. subst (λ (b : Base). WordsOfDAt 512 l h.first.offset (h.first ∷ h.others.now) held.rows b) base (held.kept l agrees) h.place.c h.place.d (under_c l k h here agrees) (held_class l k h section h.place.d agrees of.0))
+    (bests (length k.registers.now + 1) 512 held.rows held.is)
 
-skips_best : (k : SolvedSuffix) (h : OpenState) (words section first value : ℕ) (w : Windowed) → HereOf k h → h.place.position ≡ h.first.offset → RunOf k.registers.now (Skip words section) h.place h.place.position → h.first.base ≡ Section section → Holds k.registers.now section h.place.d → Holding (λ l. Agrees l k h.others.now) (length k.registers.now + 1) 63 (λ l rows. SkipsKept l (h.first ∷ h.others.now) rows) w → Bests w h.place.c first value → RunBest k h (Skip words section) first value
+skips_best : (k : SolvedSuffix) (h : OpenState) (words section first value : ℕ) (w : Windowed) → HereOf k h → h.place.position ≡ h.first.offset → RunOf k.registers.now (Skip words section) h.place h.place.position → h.first.base ≡ Section section → Holds k.registers.now section h.place.d → Holding (λ l. Agrees l k h.others.now) (length k.registers.now + 1) 63 (λ l rows. WordsOfDKept 63 l (h.first ∷ h.others.now) rows) w → Bests w h.place.c first value → RunBest k h (Skip words section) first value
 skips_best k h words section first value w here at of base holds held bests =
     run_best k h (Skip words section) (WordsOfD section) 0 first value h.place.c held.rows here at of (as_skip words section h.first.offset h.place.import_index) refl
-    (λ l agrees. subst (λ (b : Base). SkipsAt l h.first.offset (h.first ∷ h.others.now) held.rows b) base (held.kept l agrees) h.place.c h.place.d (under_c l k h here agrees) (held_class l k h section h.place.d agrees holds))
+    (λ l agrees. subst (λ (b : Base). WordsOfDAt 63 l h.first.offset (h.first ∷ h.others.now) held.rows b) base (held.kept l agrees) h.place.c h.place.d (under_c l k h here agrees) (held_class l k h section h.place.d agrees holds))
     (bests (length k.registers.now + 1) 63 held.rows held.is)
 
 spaced_best : (k : SolvedSuffix) (h : OpenState) (section first value : ℕ) (w : Windowed) → HereOf k h → h.place.position ≡ h.first.offset → RunOf k.registers.now (Spaced section) h.place h.place.position → h.first.base ≡ Section section → Holds k.registers.now section h.place.d → Holding (λ l. Agrees l k h.others.now) (length k.registers.now + 1) 512 (λ l rows. SpacedKept l (h.first ∷ h.others.now) rows) w → Bests w h.place.c first value → RunBest k h (Spaced section) first value
@@ -121,20 +116,20 @@ far_pairs_best k h j s first value w here at of base next held bests =
     (λ l agrees. far_pair_rows l h.first h.others.now j s h.place.c h.place.d held.rows base next (held.kept l agrees) (held_class l k h j h.place.c agrees of.0.0) (held_class l k h s h.place.d agrees of.0.1))
     (bests 1 512 held.rows held.is)
 
-imports_best : (k : SolvedSuffix) (h : OpenState) (import first value : ℕ) (w : Windowed) → HereOf k h → h.place.position ≡ h.first.offset → RunOf k.registers.now Imports h.place h.place.position → h.first.base ≡ Import import → import ≡ h.place.import_index → Holding (λ l. Agrees l k h.others.now) ((length k.registers.now + 1) * (length k.registers.now + 1)) 512 (λ l rows. WordsKept l (h.first ∷ h.others.now) rows) w → Bests w (place_of (length k.registers.now + 1) h.place.c h.place.d) first value → RunBest k h Imports first value
+imports_best : (k : SolvedSuffix) (h : OpenState) (import first value : ℕ) (w : Windowed) → HereOf k h → h.place.position ≡ h.first.offset → RunOf k.registers.now Imports h.place h.place.position → h.first.base ≡ Import import → import ≡ h.place.import_index → Holding (λ l. Agrees l k h.others.now) ((length k.registers.now + 1) * (length k.registers.now + 1)) 512 (λ l rows. ImportsKept l (h.first ∷ h.others.now) rows) w → Bests w (place_of (length k.registers.now + 1) h.place.c h.place.d) first value → RunBest k h Imports first value
 imports_best k h import first value w here at of base next held bests =
     run_best k h Imports Imports import first value (place_of (length k.registers.now + 1) h.place.c h.place.d) held.rows here at of (λ j. ap (λ m. units Imports j h.first.offset m) next) refl
     (λ l agrees. import_rows k h import held.rows l here base agrees (held.kept l agrees))
     (bests ((length k.registers.now + 1) * (length k.registers.now + 1)) 512 held.rows held.is)
 
 by_run : (k : SolvedSuffix) (h : OpenState) (r : Run) (first value : ℕ) (e : RunEnds) → HereOf k h → h.place.position ≡ h.first.offset → RunOf k.registers.now r h.place h.place.position → RunBegins r h.place.import_index h.first.base h.others.now → EndsAt k h.others.now (h.first ∷ h.others.now) e → Bests (window_of e r) (place_in (length k.registers.now + 1) r h.place.c h.place.d) first value → RunBest k h r first value
-by_run k h (WordsOfC section) first value e here at of begins ends bests = words_c_best k h section first value e.words here at of begins ends.words bests
-by_run k h (WordsOfD section) first value e here at of begins ends bests = words_d_best k h section first value e.words here at of begins ends.words bests
-by_run k h (Spaced section) first value e here at of begins ends bests = spaced_best k h section first value e.spaced here at of begins of.0 ends.spaced bests
+by_run k h (WordsOfC section) first value e here at of begins ends bests = words_c_best k h section first value e.words.in_c here at of begins ends.words.in_c bests
+by_run k h (WordsOfD section) first value e here at of begins ends bests = words_d_best k h section first value e.words.in_d here at of begins ends.words.in_d bests
+by_run k h (Spaced section) first value e here at of begins ends bests = spaced_best k h section first value e.words.spaced here at of begins of.0 ends.words.spaced bests
 by_run k h (Pairs j s) first value e here at of begins ends bests = pairs_best k h j s first value e.pairs.here here at of begins.0 begins.1 ends.pairs.here bests
 by_run k h (SpacedPairs j s) first value e here at of begins ends bests = far_pairs_best k h j s first value e.far_pairs.here here at of begins.0 begins.1 ends.far_pairs.here bests
-by_run k h Imports first value e here at of begins ends bests = imports_best k h h.place.import_index first value e.words here at of begins refl ends.words bests
-by_run k h (Skip words section) first value e here at of begins ends bests = skips_best k h words section first value e.skips here at of begins of.0.0 ends.skips bests
+by_run k h Imports first value e here at of begins ends bests = imports_best k h h.place.import_index first value e.imports here at of begins refl ends.imports bests
+by_run k h (Skip words section) first value e here at of begins ends bests = skips_best k h words section first value e.words.skips here at of begins of.0.0 ends.words.skips bests
 
 -- the same for the window that belongs to a run
 pub run_low : (k : SolvedSuffix) (h : OpenState) (r : Run) (first value i : ℕ) (e : RunEnds) (w : Windowed) → HereOf k h → h.place.position ≡ h.first.offset → RunOf k.registers.now r h.place h.place.position → RunBegins r h.place.import_index h.first.base h.others.now → EndsAt k h.others.now (h.first ∷ h.others.now) e → i ≡ place_in (length k.registers.now + 1) r h.place.c h.place.d → w ≡ window_of e r → Bests w i first value → RunBest k h r first value
@@ -145,10 +140,10 @@ run_low k h r first value i e w here at of begins ends place is bests =
 
 -- the place is in the window's rows
 pub place_inside : (k : SolvedSuffix) (h : OpenState) (r : Run) (e : RunEnds) → HereOf k h → EndsAt k h.others.now (h.first ∷ h.others.now) e → place_in (length k.registers.now + 1) r h.place.c h.place.d < (window_of e r).width
-place_inside k h (WordsOfC section) e here ends = let low = place_under (length k.registers.now + 1) h.place.c h.place.d here.c here.d in omega (arith, low, ends.words.is.width_is)
-place_inside k h (WordsOfD section) e here ends = let low = place_under (length k.registers.now + 1) h.place.c h.place.d here.c here.d in omega (arith, low, ends.words.is.width_is)
-place_inside k h (Spaced section) e here ends = omega (arith, here.c, ends.spaced.is.width_is)
+place_inside k h (WordsOfC section) e here ends = omega (arith, here.d, ends.words.in_c.is.width_is)
+place_inside k h (WordsOfD section) e here ends = omega (arith, here.c, ends.words.in_d.is.width_is)
+place_inside k h (Spaced section) e here ends = omega (arith, here.c, ends.words.spaced.is.width_is)
 place_inside k h (Pairs j s) e here ends = omega (arith, ends.pairs.here.is.width_is)
 place_inside k h (SpacedPairs j s) e here ends = omega (arith, ends.far_pairs.here.is.width_is)
-place_inside k h Imports e here ends = let low = place_under (length k.registers.now + 1) h.place.c h.place.d here.c here.d in omega (arith, low, ends.words.is.width_is)
-place_inside k h (Skip words section) e here ends = omega (arith, here.c, ends.skips.is.width_is)
+place_inside k h Imports e here ends = let low = place_under (length k.registers.now + 1) h.place.c h.place.d here.c here.d in omega (arith, low, ends.imports.is.width_is)
+place_inside k h (Skip words section) e here ends = omega (arith, here.c, ends.words.skips.is.width_is)

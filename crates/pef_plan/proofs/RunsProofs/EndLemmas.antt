@@ -1,5 +1,5 @@
 -- The ends of runs in windows: they are kept from fixup to fixup, and give the best value of a run.
-use Rattle.std.proofs.Common.{◌≡◌, ℕ, zero, suc, ◌+◌, ◌-◌, ◌*◌, ◌<◌, ◌≤◌, inl, inr, List, [], ◌∷◌, ◌++◌, take, slice_index, refl, ap, ap₂, sym, ◌∙◌, subst, arith}
+use Rattle.std.proofs.Common.{◌≡◌, ℕ, zero, suc, ◌+◌, ◌-◌, ◌*◌, ◌<◌, ◌≤◌, inl, inr, Bool, true, false, List, [], ◌∷◌, ◌++◌, Option, None, Some, take, slice_index, refl, ap, ap₂, sym, ◌∙◌, subst, arith}
 use Rattle.std.proofs.lemmas.List.{append_assoc, append_cancel_left}
 use Rattle.std.proofs.Math.Nat.{mul-add}
 use Rattle.pef_reloc.specs.declared.fixup.Fixup.{Fixup}
@@ -12,13 +12,12 @@ use Rattle.pef_plan.specs.declared.runs.state.OpenState.{OpenState}
 use Rattle.pef_plan.specs.declared.runs.state.Choice.{Choice}
 use Rattle.pef_plan.specs.declared.runs.run.Run.{Run}
 use Rattle.pef_plan.specs.declared.runs.run.Run.TheVariants.{WordsOfC, WordsOfD, Spaced, Pairs, SpacedPairs, Skip}
-use Rattle.pef_plan.specs.Runs.Ends.{Brought, EndRows}
+use Rattle.pef_plan.specs.Runs.Ends.{Begins, Brought, BroughtMaybe, EndRows, GoesOnMaybe}
 use Rattle.pef_plan.specs.Runs.Runs.{EndAmong, EndsFrom, RunOf, imports, limit, run_instr, stride, unit, units}
 use Rattle.pef_plan.specs.Runs.Leads.{LeadsWithin}
 use Rattle.pef_plan.specs.Runs.Places.{Chosen, InPlace, Led, extension_in}
-use Rattle.pef_plan.specs.Runs.Kept.Runs.{Next}
 use Rattle.pef_plan.specs.Runs.Tables.{Agrees}
-use Rattle.pef_plan.specs.Windows.Windows.{AtMostEach, BestOf, IsOne, WindowOf, Windowed}
+use Rattle.pef_plan.specs.Windows.Windows.{AtMostEach, BestOf, IsOne, WindowOf, Windowed, rows_brought, rows_moved}
 use Rattle.pef_plan.proofs.RunsProofs.RunFacts.{no_ends, run-adds, run-flat, run-next, run-one, units-more, units-none, units_c, units_d, units_far, units_pairs, units_skip, units_spaced}
 
 -- the extension at a state in a place
@@ -177,24 +176,31 @@ best-led k h r first value i rows of led best ends l s agrees at =
       | inr one ↦ end_led k h r value l s of agrees.same.registers_are at (ends l agrees one)
     ]
 
--- a window that was moved to a place without a run, to a run of one unit, and to a longer run
-pub brought-none : (r : Run) (count limit : ℕ) (start : PlanState) (rows : List (List ℕ)) (row : List ℕ) (w : Windowed) → WindowOf count limit [] w → ((left : List Fixup) → start.left.now ≡ unit r start.position start.import_index ++ left → ⊥) → Brought r count limit start.left.now start.position start.import_index rows row w
-brought-none r count limit start rows row w is none = record { now = []; is = is; ends = λ l c d i on behind. inr none }
+no_rows : (n : ℕ) (rows : List (List ℕ)) → rows ≡ [] → take n rows ≡ rows
+no_rows zero [] none = refl
+no_rows (suc n) [] none = refl
+no_rows n (row ∷ rows) none = absurd (cc)
 
-pub brought-one : (r : Run) (count limit : ℕ) (start next : PlanState) (rows : List (List ℕ)) (row : List ℕ) (w : Windowed) → Next r start next → ((left : List Fixup) → next.left.now ≡ unit r next.position next.import_index ++ left → ⊥) → WindowOf count limit (row ∷ take (limit - 1) []) w → Brought r count limit start.left.now start.position start.import_index rows row w
-brought-one r count limit start next rows row w n none is = record {
-  now = row ∷ take (limit - 1) [];
-  is = is;
-  ends = λ l c d i on behind.
-      end_rows-more l r limit start.left.now next.left.now start.position start.import_index c d i row [] is.some n.left (behind next.left.now n.left)
-      (inr (λ left parts. none left (parts ∙ ap₂ (λ x y. unit r x y ++ left) (sym n.position) (sym n.import_index))));
-}
+-- a window that was moved to a place without a run, and to a run
+brought-gone : (r : Run) (count limit : ℕ) (fixups : List Fixup) (p m : ℕ) (rows : List (List ℕ)) (row : List ℕ) (w : Windowed) → WindowOf count limit [] w → ((left : List Fixup) → fixups ≡ unit r p m ++ left → ⊥) → Brought r count limit fixups p m rows row w
+brought-gone r count limit fixups p m rows row w is none = record { now = []; is = is; ends = λ l c d i on behind. inr none }
 
-pub brought-more : (r : Run) (count limit : ℕ) (start next last : PlanState) (rows : List (List ℕ)) (row : List ℕ) (w : Windowed) → Next r start next → Next r next last → WindowOf count limit (row ∷ take (limit - 1) rows) w → Brought r count limit start.left.now start.position start.import_index rows row w
-brought-more r count limit start next last rows row w n more is = record {
+pub brought : (r : Run) (count limit : ℕ) (fixups rest : List Fixup) (p m : ℕ) (on : Bool) (rows : List (List ℕ)) (row : List ℕ) (w : Windowed) → fixups ≡ unit r p m ++ rest → Begins r (p + stride r) (m + imports r) rest on → WindowOf count limit (rows_brought on limit rows row) w → Brought r count limit fixups p m rows row w
+brought r count limit fixups rest p m true rows row w parts on is = record {
   now = row ∷ take (limit - 1) rows;
   is = is;
-  ends = λ l c d i on behind.
-      end_rows-more l r limit start.left.now next.left.now start.position start.import_index c d i row rows is.some n.left (behind next.left.now n.left)
-      (on next.left.now last.left.now n.left (more.left ∙ ap₂ (λ x y. unit r x y ++ last.left.now) n.position n.import_index));
+  ends = λ l c d i goes behind.
+      end_rows-more l r limit fixups rest p m c d i row rows is.some parts (behind rest parts) (goes rest on.0 parts on.1);
 }
+brought r count limit fixups rest p m false rows row w parts none is = record {
+  now = row ∷ [];
+  is = is;
+  ends = λ l c d i goes behind.
+      subst (λ (xs : List (List ℕ)). EndRows l r limit fixups p m c d i (row ∷ xs)) (no_rows (limit - 1) [] refl)
+      (end_rows-more l r limit fixups rest p m c d i row [] is.some parts (behind rest parts) (inr none));
+}
+
+pub brought-maybe : (r : Option Run) (count limit : ℕ) (fixups : List Fixup) (p m : ℕ) (on : Option Bool) (rows : List (List ℕ)) (row : List ℕ) (w : Windowed) → GoesOnMaybe r fixups p m on → WindowOf count limit (rows_moved on limit rows row) w → BroughtMaybe r count limit fixups p m rows row w
+brought-maybe None count limit fixups p m on rows row w goes is = (rows_moved on limit rows row, is)
+brought-maybe (Some r) count limit fixups p m None rows row w none is = brought-gone r count limit fixups p m rows row w is none
+brought-maybe (Some r) count limit fixups p m (Some on) rows row w goes is = brought r count limit fixups goes.0 p m on rows row w goes.1 goes.2 is

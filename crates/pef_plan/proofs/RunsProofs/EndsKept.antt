@@ -1,5 +1,5 @@
 -- Windows that were moved to the previous fixup have the ends of the runs that begin there.
-use Rattle.std.proofs.Common.{◌≡◌, ℕ, ◌+◌, ◌*◌, ◌<◌, List, [], ◌∷◌, length, Option, None, Some, refl, ap, ap₂, sym, ◌∙◌, subst, arith, slice_index}
+use Rattle.std.proofs.Common.{◌≡◌, ℕ, ◌+◌, ◌*◌, ◌<◌, Bool, List, [], ◌∷◌, length, Option, None, Some, refl, ap, ap₂, sym, ◌∙◌, subst, arith, slice_index}
 use Rattle.pef_reloc.specs.declared.fixup.Base.{Base}
 use Rattle.pef_reloc.specs.declared.fixup.Base.TheVariants.{Section, Import}
 use Rattle.pef_reloc.specs.declared.fixup.Fixup.{Fixup}
@@ -11,31 +11,24 @@ use Rattle.pef_plan.specs.declared.runs.run.Run.{Run}
 use Rattle.pef_plan.specs.declared.runs.run.Run.TheVariants.{WordsOfD, Spaced, Pairs, SpacedPairs, Imports}
 use Rattle.pef_plan.specs.declared.runs.ends.AlternatingWindows.{AlternatingWindows}
 use Rattle.pef_plan.specs.declared.runs.ends.RunEnds.{RunEnds}
+use Rattle.pef_plan.specs.declared.runs.ends.WordWindows.{WordWindows}
 use Rattle.pef_plan.specs.declared.runs.suffix.SolvedSuffix.{SolvedSuffix}
-use Rattle.pef_plan.specs.declared.runs.state.PlanState.{PlanState}
 use Rattle.pef_plan.specs.declared.runs.state.FixupState.{FixupState}
-use Rattle.pef_plan.specs.Runs.Ends.{Brought, BroughtMaybe, EndRows, EndsAt, EndsOf, FarAt, FarKept, FarPairsAt, FarPairsKept, Holding, HoldingTwo, NearKept, NearSmall, PairAfter, PairsAt, PairsKept, SkipsAt, SkipsKept, SpacedAt, SpacedKept, WordsAt, WordsKept, base_import, far_pairs_run, pairs_run, rest_of, second_of, sections_of, words_run}
+use Rattle.pef_plan.specs.Runs.Ends.{Begins, Brought, BroughtMaybe, EndRows, EndsAt, EndsOf, FarAt, FarKept, FarPairsAt, FarPairsKept, GoesOnAfter, GoesOnMaybe, Holding, HoldingTwo, ImportsAt, ImportsKept, NearKept, NearSmall, PairAfter, PairsAt, PairsKept, WordEnds, SpacedAt, SpacedKept, WordsOfCAt, WordsOfCKept, WordsOfDAt, WordsOfDKept, far_pairs_run, pairs_run, rest_of, second_of, sections_of}
 use Rattle.pef_plan.specs.Runs.Tables.{Agrees, place_of}
-use Rattle.pef_plan.specs.Windows.Windows.{WindowOf, Windowed}
+use Rattle.pef_plan.specs.Windows.Windows.{WindowOf, Windowed, rows_brought, rows_moved}
+use Rattle.pef_plan.proofs.RunsProofs.EndLemmas.{brought, brought-maybe}
 
--- the contract of the call that moves a window to a place
-abbrev pub Brings : Run → PlanState → List ℕ → Windowed → Windowed → Type 0
-Brings r start row old new = (count limit : ℕ) (rows : List (List ℕ)) → WindowOf count limit rows old → Brought r count limit start.left.now start.position start.import_index rows row new
+-- the contracts of the calls that move windows to a place
+abbrev pub Brings : Bool → List ℕ → Windowed → Windowed → Type 0
+Brings on row old new = (count limit : ℕ) (rows : List (List ℕ)) → WindowOf count limit rows old → WindowOf count limit (rows_brought on limit rows row) new
 
-abbrev pub BringsMaybe : Option Run → PlanState → List ℕ → Windowed → Windowed → Type 0
-BringsMaybe r start row old new = (count limit : ℕ) (rows : List (List ℕ)) → WindowOf count limit rows old → BroughtMaybe r count limit start.left.now start.position start.import_index rows row new
+abbrev pub Moves : Option Bool → List ℕ → Windowed → Windowed → Type 0
+Moves on row old new = (count limit : ℕ) (rows : List (List ℕ)) → WindowOf count limit rows old → WindowOf count limit (rows_moved on limit rows row) new
 
--- a place at which a run begins at a fixup
-pub record StartAt (f : Fixup) (rest : List Fixup) (start : PlanState) : Type 0 where
-  pub left : start.left.now ≡ f ∷ rest
-  pub position : start.position ≡ f.offset
-  pub import_index : start.import_index ≡ base_import f.base
-
-started : (f : Fixup) (rest : List Fixup) (start : PlanState) (r : Run) (count limit : ℕ) (rows : List (List ℕ)) (row : List ℕ) (w : Windowed) → StartAt f rest start → Brought r count limit start.left.now start.position start.import_index rows row w → Brought r count limit (f ∷ rest) f.offset (base_import f.base) rows row w
-started f rest start r count limit rows row w at b =
-    subst (λ (m : ℕ). Brought r count limit (f ∷ rest) f.offset m rows row w) at.import_index
-    (subst (λ (p : ℕ). Brought r count limit (f ∷ rest) p start.import_index rows row w) at.position
-    (subst (λ (fs : List Fixup). Brought r count limit fs start.position start.import_index rows row w) at.left b))
+-- a fixup with a base
+based : (f : Fixup) (rest : List Fixup) (b : Base) → f.base ≡ b → f ∷ rest ≡ added f.offset b ∷ rest
+based f rest b base = ap (λ x. added f.offset x ∷ rest) base
 
 tail_same : (f g : Fixup) (rest left : List Fixup) → f ∷ rest ≡ g ∷ left → rest ≡ left
 tail_same f g rest left e = cc
@@ -43,23 +36,19 @@ tail_same f g rest left e = cc
 tail_two : (f g h : Fixup) (rest left : List Fixup) → f ∷ rest ≡ g ∷ h ∷ left → rest ≡ h ∷ left
 tail_two f g h rest left e = cc
 
-words_go : (l : Labels) (f : Fixup) (rest : List Fixup) (count : ℕ) (b : Base) (rows : List (List ℕ)) (row : List ℕ) (w : Windowed) → WordsKept l rest rows → NearKept l (f ∷ rest) row → (br : Brought (words_run b) count 512 (f ∷ rest) f.offset (base_import b) rows row w) → WordsAt l f.offset (f ∷ rest) br.now b
-words_go l f rest count (Section k) rows row w kept near br = λ c d under_c under_d.
-    br.ends l c d (place_of (classes l) c d)
-    (λ left more parts on.
-    let same = tail_same f (added f.offset (Section k)) rest left parts in
-    let there : rest ≡ added (f.offset + 4) (Section k) ∷ more = same ∙ on in
-    subst (λ (fs : List Fixup). EndRows l (WordsOfD k) 512 fs (f.offset + 4) 0 c d (place_of (classes l) c d) rows) (sym on)
-    (subst (λ (fs : List Fixup). WordsKept l fs rows) there kept c d under_c under_d))
-    (λ left parts. near c d under_c under_d ∙ ap (λ fs. extension l fs (f.offset + 4) c d) (tail_same f (added f.offset (Section k)) rest left parts))
-words_go l f rest count (Import i) rows row w kept near br = λ c d under_c under_d.
-    br.ends l c d (place_of (classes l) c d)
-    (λ left more parts on.
-    let same = tail_same f (added f.offset (Import i)) rest left parts in
-    let there : rest ≡ added (f.offset + 4) (Import (i + 1)) ∷ more = same ∙ on in
-    subst (λ (fs : List Fixup). EndRows l Imports 512 fs (f.offset + 4) (i + 1) c d (place_of (classes l) c d) rows) (sym on)
-    (subst (λ (fs : List Fixup). WordsKept l fs rows) there kept c d under_c under_d))
-    (λ left parts. near c d under_c under_d ∙ ap (λ fs. extension l fs (f.offset + 4) c d) (tail_same f (added f.offset (Import i)) rest left parts))
+-- a line has the extension right after the first fixup with register C in a section's class
+abbrev pub LineAt : Labels → Fixup → List Fixup → List ℕ → ℕ → Type 0
+LineAt l f rest line k = (c d : ℕ) → c ≡ class_of l.registers k → d < classes l → slice_index line d ≡ extension l rest (f.offset + 4) c d
+
+pub line_at : (l : Labels) (k : SolvedSuffix) (a : FixupState) (section : ℕ) (near line : List ℕ) → Agrees l k a.others.now → NearKept l (a.first ∷ a.others.now) near → ((d : ℕ) → d < length k.registers.now + 1 → slice_index line d ≡ slice_index near (place_of (length k.registers.now + 1) (class_of k.registers.now section) d)) → LineAt l a.first a.others.now line section
+line_at l k a section near line agrees kept copied = λ c d is_c under_d.
+    let regs = agrees.same.registers_are in
+    let same : classes l ≡ length k.registers.now + 1 = ap (λ rs. length rs + 1) regs in
+    let class : class_of k.registers.now section ≡ c = ap (λ rs. class_of rs section) (sym regs) ∙ sym is_c in
+    let under_c : c < classes l = subst (λ (n : ℕ). n < classes l) (sym is_c) (class_of-below l section) in
+    copied d (omega (arith, under_d, same))
+    ∙ (ap₂ (λ n x. slice_index near (place_of n x d)) (sym same) class
+    ∙ kept c d under_c under_d)
 
 -- a column has the extension right after the first fixup with register D in a section's class
 abbrev pub ColumnAt : Labels → Fixup → List Fixup → List ℕ → ℕ → Type 0
@@ -75,15 +64,35 @@ column_at l k a section near column agrees kept copied = λ c d under_c is_d.
     ∙ (ap₂ (λ n x. slice_index near (place_of n c x)) (sym same) class
     ∙ kept c d under_c under_d)
 
-skips_go : (l : Labels) (f : Fixup) (rest : List Fixup) (count k : ℕ) (rows : List (List ℕ)) (row : List ℕ) (w : Windowed) → SkipsKept l rest rows → ColumnAt l f rest row k → (br : Brought (WordsOfD k) count 63 (f ∷ rest) f.offset 0 rows row w) → SkipsAt l f.offset (f ∷ rest) br.now (Section k)
-skips_go l f rest count k rows row w kept column br = λ c d under_c is_d.
+words_c_go : (l : Labels) (f : Fixup) (rest : List Fixup) (count k : ℕ) (rows : List (List ℕ)) (row : List ℕ) (w : Windowed) → WordsOfCKept l rest rows → LineAt l f rest row k → (br : Brought (WordsOfD k) count 512 (f ∷ rest) f.offset 0 rows row w) → WordsOfCAt l f.offset (f ∷ rest) br.now (Section k)
+words_c_go l f rest count k rows row w kept line br = λ c d is_c under_d.
+    br.ends l c d d
+    (λ left more parts on.
+    let same = tail_same f (added f.offset (Section k)) rest left parts in
+    let there : rest ≡ added (f.offset + 4) (Section k) ∷ more = same ∙ on in
+    subst (λ (fs : List Fixup). EndRows l (WordsOfD k) 512 fs (f.offset + 4) 0 c d d rows) (sym on)
+    (subst (λ (fs : List Fixup). WordsOfCKept l fs rows) there kept c d is_c under_d))
+    (λ left parts. line c d is_c under_d ∙ ap (λ fs. extension l fs (f.offset + 4) c d) (tail_same f (added f.offset (Section k)) rest left parts))
+
+words_d_go : (l : Labels) (f : Fixup) (rest : List Fixup) (count n k : ℕ) (rows : List (List ℕ)) (row : List ℕ) (w : Windowed) → WordsOfDKept n l rest rows → ColumnAt l f rest row k → (br : Brought (WordsOfD k) count n (f ∷ rest) f.offset 0 rows row w) → WordsOfDAt n l f.offset (f ∷ rest) br.now (Section k)
+words_d_go l f rest count n k rows row w kept column br = λ c d under_c is_d.
     br.ends l c d c
     (λ left more parts on.
     let same = tail_same f (added f.offset (Section k)) rest left parts in
     let there : rest ≡ added (f.offset + 4) (Section k) ∷ more = same ∙ on in
-    subst (λ (fs : List Fixup). EndRows l (WordsOfD k) 63 fs (f.offset + 4) 0 c d c rows) (sym on)
-    (subst (λ (fs : List Fixup). SkipsKept l fs rows) there kept c d under_c is_d))
+    subst (λ (fs : List Fixup). EndRows l (WordsOfD k) n fs (f.offset + 4) 0 c d c rows) (sym on)
+    (subst (λ (fs : List Fixup). WordsOfDKept n l fs rows) there kept c d under_c is_d))
     (λ left parts. column c d under_c is_d ∙ ap (λ fs. extension l fs (f.offset + 4) c d) (tail_same f (added f.offset (Section k)) rest left parts))
+
+imports_go : (l : Labels) (f : Fixup) (rest : List Fixup) (count i : ℕ) (rows : List (List ℕ)) (row : List ℕ) (w : Windowed) → ImportsKept l rest rows → NearKept l (f ∷ rest) row → (br : Brought Imports count 512 (f ∷ rest) f.offset i rows row w) → ImportsAt l f.offset (f ∷ rest) br.now (Import i)
+imports_go l f rest count i rows row w kept near br = λ c d under_c under_d.
+    br.ends l c d (place_of (classes l) c d)
+    (λ left more parts on.
+    let same = tail_same f (added f.offset (Import i)) rest left parts in
+    let there : rest ≡ added (f.offset + 4) (Import (i + 1)) ∷ more = same ∙ on in
+    subst (λ (fs : List Fixup). EndRows l Imports 512 fs (f.offset + 4) (i + 1) c d (place_of (classes l) c d) rows) (sym on)
+    (subst (λ (fs : List Fixup). ImportsKept l fs rows) there kept c d under_c under_d))
+    (λ left parts. near c d under_c under_d ∙ ap (λ fs. extension l fs (f.offset + 4) c d) (tail_same f (added f.offset (Import i)) rest left parts))
 
 spaced_go : (l : Labels) (f : Fixup) (rest : List Fixup) (count k : ℕ) (rows : List (List ℕ)) (row : List ℕ) (w : Windowed) → SpacedKept l rest rows → FarAt l f.offset rest row (Section k) → (br : Brought (Spaced k) count 512 (f ∷ rest) f.offset 0 rows row w) → SpacedAt l f.offset (f ∷ rest) br.now (Section k)
 spaced_go l f rest count k rows row w kept far br = λ c d under_c is_d.
@@ -123,32 +132,40 @@ far_pairs_go l f rest count j k v rows w kept behind br c d is_c is_d =
     let value : v ≡ extension l left (f.offset + 4 + 8) (class_of l.registers j) (class_of l.registers k) = subst (λ (fs : List Fixup). PairAfter l 8 fs (Some (j, k)) v) same behind in
     value ∙ (ap (λ p. extension l left p (class_of l.registers j) (class_of l.registers k)) end ∙ ap₂ (λ x y. extension l left (f.offset + 12) x y) (sym is_c) (sym is_d)))
 
--- the windows of words, and of those of one section
-pub words_brought : (P : Labels → Type 0) (count : ℕ) (f : Fixup) (rest : List Fixup) (start : PlanState) (row : List ℕ) (old new : Windowed) → StartAt f rest start → Holding P count 512 (λ l rows. WordsKept l rest rows) old → ((l : Labels) → P l → NearKept l (f ∷ rest) row) → Brings (words_run f.base) start row old new → Holding P count 512 (λ l rows. WordsKept l (f ∷ rest) rows) new
-words_brought P count f rest start row old new at held near brings =
-    let b = started f rest start (words_run f.base) count 512 held.rows row new at (brings count 512 held.rows held.is) in
-    record { rows = b.now; is = b.is; kept = λ l holds. words_go l f rest count f.base held.rows row new (held.kept l holds) (near l holds) b }
+-- the windows of words of a section
+pub words_c_brought : (P : Labels → Type 0) (count k : ℕ) (f : Fixup) (rest : List Fixup) (on : Bool) (row : List ℕ) (old new : Windowed) → f.base ≡ Section k → Holding P count 512 (λ l rows. WordsOfCKept l rest rows) old → ((l : Labels) → P l → LineAt l f rest row k) → Begins (WordsOfD k) (f.offset + 4) 0 rest on → Brings on row old new → Holding P count 512 (λ l rows. WordsOfCKept l (f ∷ rest) rows) new
+words_c_brought P count k f rest on row old new base held near begins brings =
+    let b = brought (WordsOfD k) count 512 (f ∷ rest) rest f.offset 0 on held.rows row new (based f rest (Section k) base) begins (brings count 512 held.rows held.is) in
+    record { rows = b.now; is = b.is; kept = λ l holds. subst (λ (x : Base). WordsOfCAt l f.offset (f ∷ rest) b.now x) (sym base) (words_c_go l f rest count k held.rows row new (held.kept l holds) (near l holds) b) }
 
-started_section : (f : Fixup) (rest : List Fixup) (start : PlanState) (r : Run) (k count limit : ℕ) (rows : List (List ℕ)) (row : List ℕ) (w : Windowed) → StartAt f rest start → f.base ≡ Section k → Brought r count limit start.left.now start.position start.import_index rows row w → Brought r count limit (f ∷ rest) f.offset 0 rows row w
-started_section f rest start r k count limit rows row w at base b =
-    subst (λ (m : ℕ). Brought r count limit (f ∷ rest) f.offset m rows row w) (ap base_import base) (started f rest start r count limit rows row w at b)
+pub words_d_brought : (P : Labels → Type 0) (count n k : ℕ) (f : Fixup) (rest : List Fixup) (on : Bool) (row : List ℕ) (old new : Windowed) → f.base ≡ Section k → Holding P count n (λ l rows. WordsOfDKept n l rest rows) old → ((l : Labels) → P l → ColumnAt l f rest row k) → Begins (WordsOfD k) (f.offset + 4) 0 rest on → Brings on row old new → Holding P count n (λ l rows. WordsOfDKept n l (f ∷ rest) rows) new
+words_d_brought P count n k f rest on row old new base held near begins brings =
+    let b = brought (WordsOfD k) count n (f ∷ rest) rest f.offset 0 on held.rows row new (based f rest (Section k) base) begins (brings count n held.rows held.is) in
+    record { rows = b.now; is = b.is; kept = λ l holds. subst (λ (x : Base). WordsOfDAt n l f.offset (f ∷ rest) b.now x) (sym base) (words_d_go l f rest count n k held.rows row new (held.kept l holds) (near l holds) b) }
 
-pub skips_brought : (P : Labels → Type 0) (count k : ℕ) (f : Fixup) (rest : List Fixup) (start : PlanState) (row : List ℕ) (old new : Windowed) → StartAt f rest start → f.base ≡ Section k → Holding P count 63 (λ l rows. SkipsKept l rest rows) old → ((l : Labels) → P l → ColumnAt l f rest row k) → Brings (WordsOfD k) start row old new → Holding P count 63 (λ l rows. SkipsKept l (f ∷ rest) rows) new
-skips_brought P count k f rest start row old new at base held near brings =
-    let b = started_section f rest start (WordsOfD k) k count 63 held.rows row new at base (brings count 63 held.rows held.is) in
-    record { rows = b.now; is = b.is; kept = λ l holds. subst (λ (x : Base). SkipsAt l f.offset (f ∷ rest) b.now x) (sym base) (skips_go l f rest count k held.rows row new (held.kept l holds) (near l holds) b) }
-
-pub spaced_brought : (P : Labels → Type 0) (count k : ℕ) (f : Fixup) (rest : List Fixup) (start : PlanState) (row : List ℕ) (old new : Windowed) → StartAt f rest start → f.base ≡ Section k → Holding P count 512 (λ l rows. SpacedKept l rest rows) old → ((l : Labels) → P l → FarAt l f.offset rest row (Section k)) → Brings (Spaced k) start row old new → Holding P count 512 (λ l rows. SpacedKept l (f ∷ rest) rows) new
-spaced_brought P count k f rest start row old new at base held far brings =
-    let b = started_section f rest start (Spaced k) k count 512 held.rows row new at base (brings count 512 held.rows held.is) in
+pub spaced_brought : (P : Labels → Type 0) (count k : ℕ) (f : Fixup) (rest : List Fixup) (on : Bool) (row : List ℕ) (old new : Windowed) → f.base ≡ Section k → Holding P count 512 (λ l rows. SpacedKept l rest rows) old → ((l : Labels) → P l → FarAt l f.offset rest row (Section k)) → Begins (Spaced k) (f.offset + 8) 0 rest on → Brings on row old new → Holding P count 512 (λ l rows. SpacedKept l (f ∷ rest) rows) new
+spaced_brought P count k f rest on row old new base held far begins brings =
+    let b = brought (Spaced k) count 512 (f ∷ rest) rest f.offset 0 on held.rows row new (based f rest (Section k) base) begins (brings count 512 held.rows held.is) in
     record { rows = b.now; is = b.is; kept = λ l holds. subst (λ (x : Base). SpacedAt l f.offset (f ∷ rest) b.now x) (sym base) (spaced_go l f rest count k held.rows row new (held.kept l holds) (far l holds) b) }
 
--- if a fixup has an import, no such run begins there
-pub skips_import : (P : Labels → Type 0) (count i : ℕ) (f : Fixup) (rest : List Fixup) (w : Windowed) → f.base ≡ Import i → Holding P count 63 (λ l rows. SkipsKept l rest rows) w → Holding P count 63 (λ l rows. SkipsKept l (f ∷ rest) rows) w
-skips_import P count i f rest w base held = record { rows = held.rows; is = held.is; kept = λ l holds. subst (λ (x : Base). SkipsAt l f.offset (f ∷ rest) held.rows x) (sym base) tt }
+-- the window of imports
+pub imports_brought : (P : Labels → Type 0) (count i : ℕ) (f : Fixup) (rest : List Fixup) (on : Bool) (row : List ℕ) (old new : Windowed) → f.base ≡ Import i → Holding P count 512 (λ l rows. ImportsKept l rest rows) old → ((l : Labels) → P l → NearKept l (f ∷ rest) row) → Begins Imports (f.offset + 4) (i + 1) rest on → Brings on row old new → Holding P count 512 (λ l rows. ImportsKept l (f ∷ rest) rows) new
+imports_brought P count i f rest on row old new base held near begins brings =
+    let b = brought Imports count 512 (f ∷ rest) rest f.offset i on held.rows row new (based f rest (Import i) base) begins (brings count 512 held.rows held.is) in
+    record { rows = b.now; is = b.is; kept = λ l holds. subst (λ (x : Base). ImportsAt l f.offset (f ∷ rest) b.now x) (sym base) (imports_go l f rest count i held.rows row new (held.kept l holds) (near l holds) b) }
 
-pub spaced_import : (P : Labels → Type 0) (count i : ℕ) (f : Fixup) (rest : List Fixup) (w : Windowed) → f.base ≡ Import i → Holding P count 512 (λ l rows. SpacedKept l rest rows) w → Holding P count 512 (λ l rows. SpacedKept l (f ∷ rest) rows) w
-spaced_import P count i f rest w base held = record { rows = held.rows; is = held.is; kept = λ l holds. subst (λ (x : Base). SpacedAt l f.offset (f ∷ rest) held.rows x) (sym base) tt }
+-- no run of imports begins at a section
+imports_section : (P : Labels → Type 0) (count k : ℕ) (f : Fixup) (rest : List Fixup) (w : Windowed) → f.base ≡ Section k → Holding P count 512 (λ l rows. ImportsKept l rest rows) w → Holding P count 512 (λ l rows. ImportsKept l (f ∷ rest) rows) w
+imports_section P count k f rest w base held = record { rows = held.rows; is = held.is; kept = λ l holds. subst (λ (x : Base). ImportsAt l f.offset (f ∷ rest) held.rows x) (sym base) tt }
+
+-- no run of words begins at an import
+pub words_import : (P : Labels → Type 0) (count i : ℕ) (f : Fixup) (rest : List Fixup) (w : WordWindows) → f.base ≡ Import i → WordEnds P count rest w → WordEnds P count (f ∷ rest) w
+words_import P count i f rest w base held = record {
+  in_c = record { rows = held.in_c.rows; is = held.in_c.is; kept = λ l holds. subst (λ (x : Base). WordsOfCAt l f.offset (f ∷ rest) held.in_c.rows x) (sym base) tt };
+  in_d = record { rows = held.in_d.rows; is = held.in_d.is; kept = λ l holds. subst (λ (x : Base). WordsOfDAt 512 l f.offset (f ∷ rest) held.in_d.rows x) (sym base) tt };
+  skips = record { rows = held.skips.rows; is = held.skips.is; kept = λ l holds. subst (λ (x : Base). WordsOfDAt 63 l f.offset (f ∷ rest) held.skips.rows x) (sym base) tt };
+  spaced = record { rows = held.spaced.rows; is = held.spaced.is; kept = λ l holds. subst (λ (x : Base). SpacedAt l f.offset (f ∷ rest) held.spaced.rows x) (sym base) tt };
+}
 
 pub far_import : (l : Labels) (i : ℕ) (f : Fixup) (rest : List Fixup) (row : List ℕ) → f.base ≡ Import i → FarKept l (f ∷ rest) row
 far_import l i f rest row base = subst (λ (x : Base). FarAt l f.offset rest row x) (sym base) tt
@@ -176,21 +193,21 @@ pair_far l (Section j) (g ∷ rest) s far v kept is value =
     (value ∙ subst (λ (x : Base). FarAt l g.offset rest far x) base kept (class_of l.registers s.0) (class_of l.registers s.1) (class_of-below l s.0) refl)
 
 -- the windows of pairs
-pairs_here : (P : Labels → Type 0) (count v : ℕ) (f : Fixup) (rest : List Fixup) (b : Base) (rows : List (List ℕ)) (w : Windowed) → f.base ≡ b → ((l : Labels) → P l → PairsKept l (rest_of rest) rows) → ((l : Labels) → P l → PairAfter l 4 rest (sections_of b rest) v) → BroughtMaybe (pairs_run (sections_of b rest)) count 512 (f ∷ rest) f.offset (base_import b) rows (v ∷ []) w → Holding P count 512 (λ l now. PairsKept l (f ∷ rest) now) w
-pairs_here P count v f [] (Section j) rows w base kept behind br = record { rows = rows; is = br; kept = λ l holds. tt }
-pairs_here P count v f [] (Import i) rows w base kept behind br = record { rows = rows; is = br; kept = λ l holds. tt }
+pairs_here : (P : Labels → Type 0) (count v : ℕ) (f : Fixup) (rest : List Fixup) (b : Base) (rows : List (List ℕ)) (w : Windowed) → f.base ≡ b → ((l : Labels) → P l → PairsKept l (rest_of rest) rows) → ((l : Labels) → P l → PairAfter l 4 rest (sections_of b rest) v) → BroughtMaybe (pairs_run (sections_of b rest)) count 512 (f ∷ rest) f.offset 0 rows (v ∷ []) w → Holding P count 512 (λ l now. PairsKept l (f ∷ rest) now) w
+pairs_here P count v f [] (Section j) rows w base kept behind br = record { rows = br.0; is = br.1; kept = λ l holds. tt }
+pairs_here P count v f [] (Import i) rows w base kept behind br = record { rows = br.0; is = br.1; kept = λ l holds. tt }
 pairs_here P count v f (g ∷ rest) (Import i) rows w base kept behind br = record {
-  rows = rows;
-  is = br;
-  kept = λ l holds. subst (λ (x : Base). PairsAt l f.offset (f ∷ g ∷ rest) rows x g.base) (sym base) tt;
+  rows = br.0;
+  is = br.1;
+  kept = λ l holds. subst (λ (x : Base). PairsAt l f.offset (f ∷ g ∷ rest) br.0 x g.base) (sym base) tt;
 }
 pairs_here P count v f (g ∷ rest) (Section j) rows w base kept behind br = go g.base refl behind br
   where
     go : (x : Base) → g.base ≡ x → ((l : Labels) → P l → PairAfter l 4 (g ∷ rest) (second_of j x) v) → BroughtMaybe (pairs_run (second_of j x)) count 512 (f ∷ g ∷ rest) f.offset 0 rows (v ∷ []) w → Holding P count 512 (λ l now. PairsKept l (f ∷ g ∷ rest) now) w
     go (Import i) next value b = record {
-      rows = rows;
-      is = b;
-      kept = λ l holds. subst (λ (x : Base). PairsAt l f.offset (f ∷ g ∷ rest) rows x g.base) (sym base) (subst (λ (x : Base). PairsAt l f.offset (f ∷ g ∷ rest) rows (Section j) x) (sym next) tt);
+      rows = b.0;
+      is = b.1;
+      kept = λ l holds. subst (λ (x : Base). PairsAt l f.offset (f ∷ g ∷ rest) b.0 x g.base) (sym base) (subst (λ (x : Base). PairsAt l f.offset (f ∷ g ∷ rest) b.0 (Section j) x) (sym next) tt);
     }
     go (Section k) next value b = record {
       rows = b.now;
@@ -199,21 +216,21 @@ pairs_here P count v f (g ∷ rest) (Section j) rows w base kept behind br = go 
           (pairs_go l f (g ∷ rest) count j k v rows w (kept l holds) (value l holds) b));
     }
 
-far_pairs_here : (P : Labels → Type 0) (count v : ℕ) (f : Fixup) (rest : List Fixup) (b : Base) (rows : List (List ℕ)) (w : Windowed) → f.base ≡ b → ((l : Labels) → P l → FarPairsKept l (rest_of rest) rows) → ((l : Labels) → P l → PairAfter l 8 rest (sections_of b rest) v) → BroughtMaybe (far_pairs_run (sections_of b rest)) count 512 (f ∷ rest) f.offset (base_import b) rows (v ∷ []) w → Holding P count 512 (λ l now. FarPairsKept l (f ∷ rest) now) w
-far_pairs_here P count v f [] (Section j) rows w base kept behind br = record { rows = rows; is = br; kept = λ l holds. tt }
-far_pairs_here P count v f [] (Import i) rows w base kept behind br = record { rows = rows; is = br; kept = λ l holds. tt }
+far_pairs_here : (P : Labels → Type 0) (count v : ℕ) (f : Fixup) (rest : List Fixup) (b : Base) (rows : List (List ℕ)) (w : Windowed) → f.base ≡ b → ((l : Labels) → P l → FarPairsKept l (rest_of rest) rows) → ((l : Labels) → P l → PairAfter l 8 rest (sections_of b rest) v) → BroughtMaybe (far_pairs_run (sections_of b rest)) count 512 (f ∷ rest) f.offset 0 rows (v ∷ []) w → Holding P count 512 (λ l now. FarPairsKept l (f ∷ rest) now) w
+far_pairs_here P count v f [] (Section j) rows w base kept behind br = record { rows = br.0; is = br.1; kept = λ l holds. tt }
+far_pairs_here P count v f [] (Import i) rows w base kept behind br = record { rows = br.0; is = br.1; kept = λ l holds. tt }
 far_pairs_here P count v f (g ∷ rest) (Import i) rows w base kept behind br = record {
-  rows = rows;
-  is = br;
-  kept = λ l holds. subst (λ (x : Base). FarPairsAt l f.offset (f ∷ g ∷ rest) rows x g.base) (sym base) tt;
+  rows = br.0;
+  is = br.1;
+  kept = λ l holds. subst (λ (x : Base). FarPairsAt l f.offset (f ∷ g ∷ rest) br.0 x g.base) (sym base) tt;
 }
 far_pairs_here P count v f (g ∷ rest) (Section j) rows w base kept behind br = go g.base refl behind br
   where
     go : (x : Base) → g.base ≡ x → ((l : Labels) → P l → PairAfter l 8 (g ∷ rest) (second_of j x) v) → BroughtMaybe (far_pairs_run (second_of j x)) count 512 (f ∷ g ∷ rest) f.offset 0 rows (v ∷ []) w → Holding P count 512 (λ l now. FarPairsKept l (f ∷ g ∷ rest) now) w
     go (Import i) next value b = record {
-      rows = rows;
-      is = b;
-      kept = λ l holds. subst (λ (x : Base). FarPairsAt l f.offset (f ∷ g ∷ rest) rows x g.base) (sym base) (subst (λ (x : Base). FarPairsAt l f.offset (f ∷ g ∷ rest) rows (Section j) x) (sym next) tt);
+      rows = b.0;
+      is = b.1;
+      kept = λ l holds. subst (λ (x : Base). FarPairsAt l f.offset (f ∷ g ∷ rest) b.0 x g.base) (sym base) (subst (λ (x : Base). FarPairsAt l f.offset (f ∷ g ∷ rest) b.0 (Section j) x) (sym next) tt);
     }
     go (Section k) next value b = record {
       rows = b.now;
@@ -222,55 +239,64 @@ far_pairs_here P count v f (g ∷ rest) (Section j) rows w base kept behind br =
           (far_pairs_go l f (g ∷ rest) count j k v rows w (kept l holds) (value l holds) b));
     }
 
-started_maybe : (f : Fixup) (rest : List Fixup) (start : PlanState) (r : Option Run) (count limit : ℕ) (rows : List (List ℕ)) (row : List ℕ) (w : Windowed) → StartAt f rest start → BroughtMaybe r count limit start.left.now start.position start.import_index rows row w → BroughtMaybe r count limit (f ∷ rest) f.offset (base_import f.base) rows row w
-started_maybe f rest start None count limit rows row w at b = b
-started_maybe f rest start (Some r) count limit rows row w at b = started f rest start r count limit rows row w at b
-
-pub pairs_brought : (P : Labels → Type 0) (v : ℕ) (f : Fixup) (rest : List Fixup) (start : PlanState) (old new : AlternatingWindows) → StartAt f rest start → HoldingTwo P PairsKept rest old → ((l : Labels) → P l → PairAfter l 4 rest (sections_of f.base rest) v) → new.next ≡ old.here → BringsMaybe (pairs_run (sections_of f.base rest)) start (v ∷ []) old.next new.here → HoldingTwo P PairsKept (f ∷ rest) new
-pairs_brought P v f rest start old new at held behind same brings = record {
+pub pairs_brought : (P : Labels → Type 0) (v : ℕ) (f : Fixup) (rest : List Fixup) (on : Option Bool) (old new : AlternatingWindows) → HoldingTwo P PairsKept rest old → ((l : Labels) → P l → PairAfter l 4 rest (sections_of f.base rest) v) → GoesOnMaybe (pairs_run (sections_of f.base rest)) (f ∷ rest) f.offset 0 on → new.next ≡ old.here → Moves on (v ∷ []) old.next new.here → HoldingTwo P PairsKept (f ∷ rest) new
+pairs_brought P v f rest on old new held behind goes same moves = record {
   here = pairs_here P 1 v f rest f.base held.next.rows new.here refl held.next.kept behind
-      (started_maybe f rest start (pairs_run (sections_of f.base rest)) 1 512 held.next.rows (v ∷ []) new.here at (brings 1 512 held.next.rows held.next.is));
+      (brought-maybe (pairs_run (sections_of f.base rest)) 1 512 (f ∷ rest) f.offset 0 on held.next.rows (v ∷ []) new.here goes (moves 1 512 held.next.rows held.next.is));
   next = subst (λ (w : Windowed). Holding P 1 512 (λ l rows. PairsKept l rest rows) w) (sym same) held.here;
 }
 
-pub far_pairs_brought : (P : Labels → Type 0) (v : ℕ) (f : Fixup) (rest : List Fixup) (start : PlanState) (old new : AlternatingWindows) → StartAt f rest start → HoldingTwo P FarPairsKept rest old → ((l : Labels) → P l → PairAfter l 8 rest (sections_of f.base rest) v) → new.next ≡ old.here → BringsMaybe (far_pairs_run (sections_of f.base rest)) start (v ∷ []) old.next new.here → HoldingTwo P FarPairsKept (f ∷ rest) new
-far_pairs_brought P v f rest start old new at held behind same brings = record {
+pub far_pairs_brought : (P : Labels → Type 0) (v : ℕ) (f : Fixup) (rest : List Fixup) (on : Option Bool) (old new : AlternatingWindows) → HoldingTwo P FarPairsKept rest old → ((l : Labels) → P l → PairAfter l 8 rest (sections_of f.base rest) v) → GoesOnMaybe (far_pairs_run (sections_of f.base rest)) (f ∷ rest) f.offset 0 on → new.next ≡ old.here → Moves on (v ∷ []) old.next new.here → HoldingTwo P FarPairsKept (f ∷ rest) new
+far_pairs_brought P v f rest on old new held behind goes same moves = record {
   here = far_pairs_here P 1 v f rest f.base held.next.rows new.here refl held.next.kept behind
-      (started_maybe f rest start (far_pairs_run (sections_of f.base rest)) 1 512 held.next.rows (v ∷ []) new.here at (brings 1 512 held.next.rows held.next.is));
+      (brought-maybe (far_pairs_run (sections_of f.base rest)) 1 512 (f ∷ rest) f.offset 0 on held.next.rows (v ∷ []) new.here goes (moves 1 512 held.next.rows held.next.is));
   next = subst (λ (w : Windowed). Holding P 1 512 (λ l rows. FarPairsKept l rest rows) w) (sym same) held.here;
 }
 
+first_is : (b : Base) (others : List Fixup) (s : ℕ × ℕ) → sections_of b others ≡ Some s → b ≡ Section s.0
+first_is (Section j) [] s is = absurd (cc)
+first_is (Section j) (g ∷ rest) s is = ap Section (second_is j g.base s is).0
+first_is (Import i) rest s is = absurd (cc)
+
+-- whether a run of pairs goes on, from the fixups after the first
+pub near_pairs_go_on : (f : Fixup) (others : List Fixup) (s : ℕ × ℕ) (on : Option Bool) → sections_of f.base others ≡ Some s → GoesOnAfter (Pairs s.0 s.1) others f.offset s.1 on → GoesOnMaybe (Some (Pairs s.0 s.1)) (f ∷ others) f.offset 0 on
+near_pairs_go_on f others s None is none = λ left parts. none left (tail_same f (added f.offset (Section s.0)) others (added (f.offset + 4) (Section s.1) ∷ left) parts)
+near_pairs_go_on f others s (Some on) is goes = (goes.0, based f others (Section s.0) (first_is f.base others s is) ∙ ap (λ fs. added f.offset (Section s.0) ∷ fs) goes.1, goes.2)
+
+pub far_pairs_go_on : (f : Fixup) (others : List Fixup) (s : ℕ × ℕ) (on : Option Bool) → sections_of f.base others ≡ Some s → GoesOnAfter (SpacedPairs s.0 s.1) others f.offset s.1 on → GoesOnMaybe (Some (SpacedPairs s.0 s.1)) (f ∷ others) f.offset 0 on
+far_pairs_go_on f others s None is none = λ left parts. none left (tail_same f (added f.offset (Section s.0)) others (added (f.offset + 4) (Section s.1) ∷ left) parts)
+far_pairs_go_on f others s (Some on) is goes = (goes.0, based f others (Section s.0) (first_is f.base others s is) ∙ ap (λ fs. added f.offset (Section s.0) ∷ fs) goes.1, goes.2)
+
 -- the windows that serve any fixup, after one more fixup
-pub record Passed (k : SolvedSuffix) (a : FixupState) (start : PlanState) (old new : RunEnds) (pair far_pair : ℕ) : Type 0 where
-  pub at : StartAt a.first a.others.now start
+pub record Passed (k : SolvedSuffix) (a : FixupState) (old new : RunEnds) (pair far_pair : ℕ) (on far_on : Option Bool) : Type 0 where
   pub ends : EndsAt k a.others.now a.others.now old
   pub near_is : (l : Labels) → Agrees l k a.others.now → PairAfter l 4 a.others.now (sections_of a.first.base a.others.now) pair
   pub far_is : (l : Labels) → Agrees l k a.others.now → PairAfter l 8 a.others.now (sections_of a.first.base a.others.now) far_pair
   pub pairs_next : new.pairs.next ≡ old.pairs.here
-  pub pairs : BringsMaybe (pairs_run (sections_of a.first.base a.others.now)) start (pair ∷ []) old.pairs.next new.pairs.here
+  pub pairs_on : GoesOnMaybe (pairs_run (sections_of a.first.base a.others.now)) (a.first ∷ a.others.now) a.first.offset 0 on
+  pub pairs : Moves on (pair ∷ []) old.pairs.next new.pairs.here
   pub far_next : new.far_pairs.next ≡ old.far_pairs.here
-  pub far_pairs : BringsMaybe (far_pairs_run (sections_of a.first.base a.others.now)) start (far_pair ∷ []) old.far_pairs.next new.far_pairs.here
+  pub far_pairs_on : GoesOnMaybe (far_pairs_run (sections_of a.first.base a.others.now)) (a.first ∷ a.others.now) a.first.offset 0 far_on
+  pub far_pairs : Moves far_on (far_pair ∷ []) old.far_pairs.next new.far_pairs.here
   pub near_len : length new.near.items ≡ length old.near.items
   pub near : (l : Labels) → Agrees l k a.others.now → NearKept l (a.first ∷ a.others.now) new.near.items
   pub near_small : NearSmall (length k.registers.now + 1) (a.first ∷ a.others.now) new.near.items
-  pub words : Brings (words_run a.first.base) start new.near.items old.words new.words
 
 -- all windows, at a fixup with a section and at one with an import
-pub section_passed : (k : SolvedSuffix) (a : FixupState) (section : ℕ) (start : PlanState) (old new : RunEnds) (near far : ℕ) → a.first.base ≡ Section section → Passed k a start old new near far
+pub section_passed : (k : SolvedSuffix) (a : FixupState) (section : ℕ) (old new : RunEnds) (near far : ℕ) (on far_on : Option Bool) → a.first.base ≡ Section section → Passed k a old new near far on far_on
     → length new.column.items ≡ length k.registers.now + 1 → length new.far.items ≡ length k.registers.now + 1
     → ((l : Labels) → Agrees l k a.others.now → FarAt l a.first.offset a.others.now new.far.items (Section section))
-    → Holding (λ l. Agrees l k a.others.now) (length k.registers.now + 1) 63 (λ l rows. SkipsKept l (a.first ∷ a.others.now) rows) new.skips
-    → Holding (λ l. Agrees l k a.others.now) (length k.registers.now + 1) 512 (λ l rows. SpacedKept l (a.first ∷ a.others.now) rows) new.spaced
+    → WordEnds (λ l. Agrees l k a.others.now) (length k.registers.now + 1) (a.first ∷ a.others.now) new.words
+    → new.imports ≡ old.imports
     → EndsAt k a.others.now (a.first ∷ a.others.now) new
-section_passed k a section start old new near far base p column_len far_len far_at skips spaced =
+section_passed k a section old new near far on far_on base p column_len far_len far_at words imports =
     let P : Labels → Type 0 = λ l. Agrees l k a.others.now in
     let count : ℕ = length k.registers.now + 1 in
     record {
-      words = words_brought P (count * count) a.first a.others.now start new.near.items old.words new.words p.at p.ends.words p.near p.words;
-      skips = skips;
-      spaced = spaced;
-      pairs = pairs_brought P near a.first a.others.now start old.pairs new.pairs p.at p.ends.pairs p.near_is p.pairs_next p.pairs;
-      far_pairs = far_pairs_brought P far a.first a.others.now start old.far_pairs new.far_pairs p.at p.ends.far_pairs p.far_is p.far_next p.far_pairs;
+      words = words;
+      imports = imports_section P (count * count) section a.first a.others.now new.imports base (subst (λ (w : Windowed). Holding P (count * count) 512 (λ l rows. ImportsKept l a.others.now rows) w) (sym imports) p.ends.imports);
+      pairs = pairs_brought P near a.first a.others.now on old.pairs new.pairs p.ends.pairs p.near_is p.pairs_on p.pairs_next p.pairs;
+      far_pairs = far_pairs_brought P far a.first a.others.now far_on old.far_pairs new.far_pairs p.ends.far_pairs p.far_is p.far_pairs_on p.far_next p.far_pairs;
       near_len = p.near_len ∙ p.ends.near_len;
       column_len = column_len;
       far_len = far_len;
@@ -279,18 +305,20 @@ section_passed k a section start old new near far base p column_len far_len far_
       far = λ l agrees. far_section l section a.first a.others.now new.far.items base (far_at l agrees);
     }
 
-pub import_passed : (k : SolvedSuffix) (a : FixupState) (import : ℕ) (start : PlanState) (old new : RunEnds) (near far : ℕ) → a.first.base ≡ Import import → Passed k a start old new near far
-    → new.column ≡ old.column → new.far ≡ old.far → new.skips ≡ old.skips → new.spaced ≡ old.spaced
+pub import_passed : (k : SolvedSuffix) (a : FixupState) (import : ℕ) (old new : RunEnds) (near far : ℕ) (on far_on : Option Bool) (goes : Bool) → a.first.base ≡ Import import → Passed k a old new near far on far_on
+    → new.column ≡ old.column → new.far ≡ old.far
+    → WordEnds (λ l. Agrees l k a.others.now) (length k.registers.now + 1) (a.first ∷ a.others.now) new.words
+    → Begins Imports (a.first.offset + 4) (import + 1) a.others.now goes
+    → Brings goes new.near.items old.imports new.imports
     → EndsAt k a.others.now (a.first ∷ a.others.now) new
-import_passed k a import start old new near far base p column far_same skips spaced =
+import_passed k a import old new near far on far_on goes base p column far_same words begins brings =
     let P : Labels → Type 0 = λ l. Agrees l k a.others.now in
     let count : ℕ = length k.registers.now + 1 in
     record {
-      words = words_brought P (count * count) a.first a.others.now start new.near.items old.words new.words p.at p.ends.words p.near p.words;
-      skips = skips_import P count import a.first a.others.now new.skips base (subst (λ (w : Windowed). Holding P count 63 (λ l rows. SkipsKept l a.others.now rows) w) (sym skips) p.ends.skips);
-      spaced = spaced_import P count import a.first a.others.now new.spaced base (subst (λ (w : Windowed). Holding P count 512 (λ l rows. SpacedKept l a.others.now rows) w) (sym spaced) p.ends.spaced);
-      pairs = pairs_brought P near a.first a.others.now start old.pairs new.pairs p.at p.ends.pairs p.near_is p.pairs_next p.pairs;
-      far_pairs = far_pairs_brought P far a.first a.others.now start old.far_pairs new.far_pairs p.at p.ends.far_pairs p.far_is p.far_next p.far_pairs;
+      words = words;
+      imports = imports_brought P (count * count) import a.first a.others.now goes new.near.items old.imports new.imports base p.ends.imports p.near begins brings;
+      pairs = pairs_brought P near a.first a.others.now on old.pairs new.pairs p.ends.pairs p.near_is p.pairs_on p.pairs_next p.pairs;
+      far_pairs = far_pairs_brought P far a.first a.others.now far_on old.far_pairs new.far_pairs p.ends.far_pairs p.far_is p.far_pairs_on p.far_next p.far_pairs;
       near_len = p.near_len ∙ p.ends.near_len;
       column_len = ap (λ v. length v.items) column ∙ p.ends.column_len;
       far_len = ap (λ v. length v.items) far_same ∙ p.ends.far_len;
@@ -305,9 +333,13 @@ holding-map P Q count n Kept w to h = record { rows = h.rows; is = h.is; kept = 
 
 pub ends-map : (P Q : Labels → Type 0) (count : ℕ) (fixups : List Fixup) (e : RunEnds) → ((l : Labels) → Q l → P l) → EndsOf P count fixups e → EndsOf Q count fixups e
 ends-map P Q count fixups e to ends = record {
-  words = holding-map P Q (count * count) 512 (λ l rows. WordsKept l fixups rows) e.words to ends.words;
-  skips = holding-map P Q count 63 (λ l rows. SkipsKept l fixups rows) e.skips to ends.skips;
-  spaced = holding-map P Q count 512 (λ l rows. SpacedKept l fixups rows) e.spaced to ends.spaced;
+  words = record {
+    in_c = holding-map P Q count 512 (λ l rows. WordsOfCKept l fixups rows) e.words.in_c to ends.words.in_c;
+    in_d = holding-map P Q count 512 (λ l rows. WordsOfDKept 512 l fixups rows) e.words.in_d to ends.words.in_d;
+    skips = holding-map P Q count 63 (λ l rows. WordsOfDKept 63 l fixups rows) e.words.skips to ends.words.skips;
+    spaced = holding-map P Q count 512 (λ l rows. SpacedKept l fixups rows) e.words.spaced to ends.words.spaced;
+  };
+  imports = holding-map P Q (count * count) 512 (λ l rows. ImportsKept l fixups rows) e.imports to ends.imports;
   pairs = record {
     here = holding-map P Q 1 512 (λ l rows. PairsKept l fixups rows) e.pairs.here to ends.pairs.here;
     next = holding-map P Q 1 512 (λ l rows. PairsKept l (rest_of fixups) rows) e.pairs.next to ends.pairs.next;

@@ -1,8 +1,9 @@
 -- The ends of runs, and the windows that keep the extensions after them.
-use Rattle.std.specs.Prelude.{◌≡◌, ◌≤◌, ◌<◌, ◌⊎◌, ℕ, suc, ◌+◌, ◌-◌, ◌*◌, List, [], ◌∷◌, ◌++◌, length, Option, None, Some, slice_index}
+use Rattle.std.specs.Prelude.{◌≡◌, ◌≤◌, ◌<◌, ◌⊎◌, ℕ, suc, ◌+◌, ◌-◌, ◌*◌, List, [], ◌∷◌, ◌++◌, length, Bool, true, false, Option, None, Some, slice_index}
 use Rattle.pef_reloc.specs.declared.fixup.Base.{Base}
 use Rattle.pef_reloc.specs.declared.fixup.Base.TheVariants.{Section, Import}
 use Rattle.pef_reloc.specs.declared.fixup.Fixup.{Fixup}
+use Rattle.pef_reloc.specs.Steps.{added}
 use Rattle.pef_cert.specs.Labels.{Labels, class_of, classes}
 use Rattle.pef_cert.specs.Extension.{extension}
 use Rattle.pef_plan.specs.declared.runs.suffix.SolvedSuffix.{SolvedSuffix}
@@ -10,6 +11,7 @@ use Rattle.pef_plan.specs.declared.runs.run.Run.{Run}
 use Rattle.pef_plan.specs.declared.runs.run.Run.TheVariants.{WordsOfC, WordsOfD, Spaced, Pairs, SpacedPairs, Imports, Skip}
 use Rattle.pef_plan.specs.declared.runs.ends.AlternatingWindows.{AlternatingWindows}
 use Rattle.pef_plan.specs.declared.runs.ends.RunEnds.{RunEnds}
+use Rattle.pef_plan.specs.declared.runs.ends.WordWindows.{WordWindows}
 use Rattle.pef_plan.specs.Runs.Runs.{imports, stride, unit}
 use Rattle.pef_plan.specs.Runs.Tables.{Agrees, number_in, place_of}
 use Rattle.pef_plan.specs.Windows.Windows.{WindowOf, Windowed}
@@ -29,6 +31,22 @@ OnWith l r n fixups p m rows c d i = (rest left : List Fixup) → fixups ≡ uni
 abbrev pub RowIs : Labels → Run → List Fixup → ℕ → ℕ → List ℕ → ℕ → ℕ → ℕ → Type 0
 RowIs l r fixups p m row c d i = (rest : List Fixup) → fixups ≡ unit r p m ++ rest → slice_index row i ≡ extension l rest (p + stride r) c d
 
+-- whether fixups begin with a unit of a run
+abbrev pub Begins : Run → ℕ → ℕ → List Fixup → Bool → Type 0
+Begins r p m fixups true = (left : List Fixup) × (fixups ≡ unit r p m ++ left)
+Begins r p m fixups false = (left : List Fixup) → fixups ≡ unit r p m ++ left → ⊥
+
+-- whether a run, if there is one, continues after its first unit; or no unit begins
+abbrev pub GoesOnMaybe : Option Run → List Fixup → ℕ → ℕ → Option Bool → Type 0
+GoesOnMaybe None fixups p m on = Unit {0}
+GoesOnMaybe (Some r) fixups p m None = (left : List Fixup) → fixups ≡ unit r p m ++ left → ⊥
+GoesOnMaybe (Some r) fixups p m (Some on) = (rest : List Fixup) × (fixups ≡ unit r p m ++ rest) × Begins r (p + stride r) (m + imports r) rest on
+
+-- the same for a run of pairs, from the fixups after the first and the second section
+abbrev pub GoesOnAfter : Run → List Fixup → ℕ → ℕ → Option Bool → Type 0
+GoesOnAfter r others p k None = (left : List Fixup) → others ≡ added (p + 4) (Section k) ∷ left → ⊥
+GoesOnAfter r others p k (Some on) = (rest : List Fixup) × (others ≡ added (p + 4) (Section k) ∷ rest) × Begins r (p + stride r) 0 rest on
+
 -- a window was moved to fixups: if it had the rows of a run that continues after its first unit, it now has
 -- those of the whole run
 pub record Brought (r : Run) (count limit : ℕ) (fixups : List Fixup) (p m : ℕ) (rows : List (List ℕ)) (row : List ℕ) (w : Windowed) : Type 0 where
@@ -38,14 +56,10 @@ pub record Brought (r : Run) (count limit : ℕ) (fixups : List Fixup) (p m : �
 
 -- the same, if there is a run
 abbrev pub BroughtMaybe : Option Run → ℕ → ℕ → List Fixup → ℕ → ℕ → List (List ℕ) → List ℕ → Windowed → Type 0
-BroughtMaybe None count limit fixups p m rows row w = WindowOf count limit rows w
+BroughtMaybe None count limit fixups p m rows row w = (now : List (List ℕ)) × WindowOf count limit now w
 BroughtMaybe (Some r) count limit fixups p m rows row w = Brought r count limit fixups p m rows row w
 
--- the run of words that begins at a base, and the sections of two fixups
-abbrev pub words_run : Base → Run
-words_run (Section k) = WordsOfD k
-words_run (Import i) = Imports
-
+-- the sections of two fixups
 abbrev pub second_of : ℕ → Base → Option (ℕ × ℕ)
 second_of j (Section k) = Some (j, k)
 second_of j (Import i) = None
@@ -63,20 +77,21 @@ abbrev pub far_pairs_run : Option (ℕ × ℕ) → Option Run
 far_pairs_run None = None
 far_pairs_run (Some s) = Some (SpacedPairs s.0 s.1)
 
--- the number of a base's import
-abbrev pub base_import : Base → ℕ
-base_import (Section k) = 0
-base_import (Import i) = i
+-- the rows of the runs that begin at fixups, by the fixups' bases. Rows have a number for each class of one
+-- register if the other one holds the section, or one number for the classes of two sections, or a number for
+-- each pair of classes
+abbrev pub WordsOfCAt : Labels → ℕ → List Fixup → List (List ℕ) → Base → Type 0
+WordsOfCAt l p fixups rows (Section k) = (c d : ℕ) → c ≡ class_of l.registers k → d < classes l → EndRows l (WordsOfD k) 512 fixups p 0 c d d rows
+WordsOfCAt l p fixups rows (Import i) = Unit {0}
 
--- the rows of the runs that begin at fixups, by the fixups' bases. Rows have a number for each pair of classes,
--- or for each class of C if D holds the section, or one number for the classes of two sections
-abbrev pub WordsAt : Labels → ℕ → List Fixup → List (List ℕ) → Base → Type 0
-WordsAt l p fixups rows (Section k) = (c d : ℕ) → c < classes l → d < classes l → EndRows l (WordsOfD k) 512 fixups p 0 c d (place_of (classes l) c d) rows
-WordsAt l p fixups rows (Import i) = (c d : ℕ) → c < classes l → d < classes l → EndRows l Imports 512 fixups p i c d (place_of (classes l) c d) rows
+-- here with up to so many words
+abbrev pub WordsOfDAt : ℕ → Labels → ℕ → List Fixup → List (List ℕ) → Base → Type 0
+WordsOfDAt n l p fixups rows (Section k) = (c d : ℕ) → c < classes l → d ≡ class_of l.registers k → EndRows l (WordsOfD k) n fixups p 0 c d c rows
+WordsOfDAt n l p fixups rows (Import i) = Unit {0}
 
-abbrev pub SkipsAt : Labels → ℕ → List Fixup → List (List ℕ) → Base → Type 0
-SkipsAt l p fixups rows (Section k) = (c d : ℕ) → c < classes l → d ≡ class_of l.registers k → EndRows l (WordsOfD k) 63 fixups p 0 c d c rows
-SkipsAt l p fixups rows (Import i) = Unit {0}
+abbrev pub ImportsAt : Labels → ℕ → List Fixup → List (List ℕ) → Base → Type 0
+ImportsAt l p fixups rows (Section k) = Unit {0}
+ImportsAt l p fixups rows (Import i) = (c d : ℕ) → c < classes l → d < classes l → EndRows l Imports 512 fixups p i c d (place_of (classes l) c d) rows
 
 abbrev pub SpacedAt : Labels → ℕ → List Fixup → List (List ℕ) → Base → Type 0
 SpacedAt l p fixups rows (Section k) = (c d : ℕ) → c < classes l → d ≡ class_of l.registers k → EndRows l (Spaced k) 512 fixups p 0 c d c rows
@@ -92,13 +107,17 @@ FarPairsAt l p fixups rows (Section j) (Section k) = (c d : ℕ) → c ≡ class
 FarPairsAt l p fixups rows (Section j) (Import i) = Unit {0}
 FarPairsAt l p fixups rows (Import i) b = Unit {0}
 
-abbrev pub WordsKept : Labels → List Fixup → List (List ℕ) → Type 0
-WordsKept l [] rows = Unit {0}
-WordsKept l (f ∷ rest) rows = WordsAt l f.offset (f ∷ rest) rows f.base
+abbrev pub WordsOfCKept : Labels → List Fixup → List (List ℕ) → Type 0
+WordsOfCKept l [] rows = Unit {0}
+WordsOfCKept l (f ∷ rest) rows = WordsOfCAt l f.offset (f ∷ rest) rows f.base
 
-abbrev pub SkipsKept : Labels → List Fixup → List (List ℕ) → Type 0
-SkipsKept l [] rows = Unit {0}
-SkipsKept l (f ∷ rest) rows = SkipsAt l f.offset (f ∷ rest) rows f.base
+abbrev pub WordsOfDKept : ℕ → Labels → List Fixup → List (List ℕ) → Type 0
+WordsOfDKept n l [] rows = Unit {0}
+WordsOfDKept n l (f ∷ rest) rows = WordsOfDAt n l f.offset (f ∷ rest) rows f.base
+
+abbrev pub ImportsKept : Labels → List Fixup → List (List ℕ) → Type 0
+ImportsKept l [] rows = Unit {0}
+ImportsKept l (f ∷ rest) rows = ImportsAt l f.offset (f ∷ rest) rows f.base
 
 abbrev pub SpacedKept : Labels → List Fixup → List (List ℕ) → Type 0
 SpacedKept l [] rows = Unit {0}
@@ -153,12 +172,17 @@ pub record HoldingTwo (P : Labels → Type 0) (Kept : Labels → List Fixup → 
   pub here : Holding P 1 512 (λ l rows. Kept l fixups rows) w.here
   pub next : Holding P 1 512 (λ l rows. Kept l (rest_of fixups) rows) w.next
 
--- all windows at some fixups, with count classes. Rows have a number for each pair of classes, or for each
--- class of C, or one number
+-- the windows of runs that begin only at a section
+pub record WordEnds (P : Labels → Type 0) (count : ℕ) (fixups : List Fixup) (w : WordWindows) : Type 0 where
+  pub in_c : Holding P count 512 (λ l rows. WordsOfCKept l fixups rows) w.in_c
+  pub in_d : Holding P count 512 (λ l rows. WordsOfDKept 512 l fixups rows) w.in_d
+  pub skips : Holding P count 63 (λ l rows. WordsOfDKept 63 l fixups rows) w.skips
+  pub spaced : Holding P count 512 (λ l rows. SpacedKept l fixups rows) w.spaced
+
+-- all windows at some fixups, with count classes
 pub record EndsOf (P : Labels → Type 0) (count : ℕ) (fixups : List Fixup) (e : RunEnds) : Type 0 where
-  pub words : Holding P (count * count) 512 (λ l rows. WordsKept l fixups rows) e.words
-  pub skips : Holding P count 63 (λ l rows. SkipsKept l fixups rows) e.skips
-  pub spaced : Holding P count 512 (λ l rows. SpacedKept l fixups rows) e.spaced
+  pub words : WordEnds P count fixups e.words
+  pub imports : Holding P (count * count) 512 (λ l rows. ImportsKept l fixups rows) e.imports
   pub pairs : HoldingTwo P PairsKept fixups e.pairs
   pub far_pairs : HoldingTwo P FarPairsKept fixups e.far_pairs
   pub near_len : length e.near.items ≡ count * count
@@ -174,17 +198,17 @@ EndsAt k others fixups e = EndsOf (λ l. Agrees l k others) (length k.registers.
 
 -- the window that keeps the ends of a run, and the place of a pair of classes in its rows
 abbrev pub window_of : RunEnds → Run → Windowed
-window_of e (WordsOfC k) = e.words
-window_of e (WordsOfD k) = e.words
-window_of e (Spaced k) = e.spaced
+window_of e (WordsOfC k) = e.words.in_c
+window_of e (WordsOfD k) = e.words.in_d
+window_of e (Spaced k) = e.words.spaced
 window_of e (Pairs j k) = e.pairs.here
 window_of e (SpacedPairs j k) = e.far_pairs.here
-window_of e Imports = e.words
-window_of e (Skip words k) = e.skips
+window_of e Imports = e.imports
+window_of e (Skip words k) = e.words.skips
 
 abbrev pub place_in : ℕ → Run → ℕ → ℕ → ℕ
-place_in count (WordsOfC k) c d = place_of count c d
-place_in count (WordsOfD k) c d = place_of count c d
+place_in count (WordsOfC k) c d = d
+place_in count (WordsOfD k) c d = c
 place_in count (Spaced k) c d = c
 place_in count (Pairs j k) c d = 0
 place_in count (SpacedPairs j k) c d = 0

@@ -1,5 +1,5 @@
 -- Windows of rows of numbers, and the least of the rows at each place.
-use Rattle.std.specs.Prelude.{◌≡◌, ◌≤◌, ◌<◌, ◌⊎◌, ℕ, ◌+◌, min, List, [], ◌∷◌, ◌++◌, length, reverse, slice_index, slice_index_or, take}
+use Rattle.std.specs.Prelude.{◌≡◌, ◌≤◌, ◌<◌, ◌⊎◌, ℕ, ◌+◌, ◌-◌, min, Bool, true, false, List, [], ◌∷◌, ◌++◌, Option, None, Some, length, reverse, slice_index, slice_index_or, take}
 
 -- a value is at most each number of some rows at a place, plus an addend
 abbrev pub AtMostEach : ℕ → ℕ → List (List ℕ) → ℕ → Type 0
@@ -52,3 +52,14 @@ pub record BestOf (first : ℕ) (rows : List (List ℕ)) (i value : ℕ) : Type 
   pub first_is : value ≤ first
   pub each : AtMostEach 1 value rows i
   pub one : (value ≡ first) ⊎ IsOne 1 value rows i
+
+-- the rows of a window that was moved to a place. There one begins, and is followed by the first of the others
+-- if the run goes on
+abbrev pub rows_brought : Bool → ℕ → List (List ℕ) → List ℕ → List (List ℕ)
+rows_brought true limit rows row = row ∷ take (limit - 1) rows
+rows_brought false limit rows row = row ∷ []
+
+-- the same, with no row if no run begins
+abbrev pub rows_moved : Option Bool → ℕ → List (List ℕ) → List ℕ → List (List ℕ)
+rows_moved None limit rows row = []
+rows_moved (Some on) limit rows row = rows_brought on limit rows row

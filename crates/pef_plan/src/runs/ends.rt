@@ -2,18 +2,18 @@ ghost use Rattle.std.specs.Prelude.{◌≡◌, ◌+◌, ◌*◌, ◌^◌, ◌<�
 ghost use Rattle.pef_cert.specs.Extension.{extension};
 ghost use Rattle.pef_cert.specs.Labels.{Labels};
 ghost use Rattle.pef_plan.specs.Runs.Places.{AtOf, HereOf, Led};
-ghost use Rattle.pef_plan.specs.Runs.Runs.{EndOf, Ends, RunBegins, RunOf};
-ghost use Rattle.pef_plan.specs.Runs.Ends.{Brought, BroughtMaybe, EndsAt, EndsOf, FarAt, Holding, NearKept, PairAfter, SkipsKept, SpacedKept, base_import, far_pairs_run, pairs_run, place_in, sections_of, window_of, words_run};
-ghost use Rattle.pef_plan.specs.Runs.Tables.{Agrees};
-ghost use Rattle.pef_plan.specs.Windows.Windows.{WindowOf};
+ghost use Rattle.pef_plan.specs.Runs.Runs.{EndOf, Ends, RunBegins, RunOf, stride};
+ghost use Rattle.pef_plan.specs.Runs.Ends.{Begins, EndsAt, EndsOf, FarAt, GoesOnAfter, GoesOnMaybe, NearKept, PairAfter, WordEnds, far_pairs_run, pairs_run, place_in, sections_of, window_of};
+ghost use Rattle.pef_plan.specs.Runs.Tables.{Agrees, place_of};
+ghost use Rattle.pef_plan.specs.Windows.Windows.{WindowOf, rows_moved};
 ghost use Rattle.pef_reloc.specs.declared.fixup.Base.TheVariants.{Section};
-ghost use Rattle.pef_reloc.specs.Limits.{most_imports, most_sections};
+ghost use Rattle.pef_reloc.specs.Limits.{most_sections};
 
 use crate::runs::run::{MAX_RUN, MAX_SKIP_RUN, Run};
-use crate::runs::state::{FixupState, OpenState, PlanState};
+use crate::runs::state::{FixupState, OpenState};
 use crate::runs::suffix::SolvedSuffix;
 use crate::windows::{Looks, Window, zeros};
-use pef_cert::class_of;
+use pef_cert::{WORD, class_of};
 use pef_reloc::{Base, Fixup};
 use std::alloc::{AllocError, Global};
 use std::mem;
@@ -22,12 +22,10 @@ use std::mem;
 /// windows move along while the tables are filled from the last fixup to the first.
 #[derive(Drop)]
 pub struct RunEnds {
-    /// Words of a section, or imports. Rows have a number for each pair of classes.
-    words: Window,
-    /// Words that a skip adds to. Register D holds the section, and rows have a number for each class of C.
-    skips: Window,
-    /// Words that are a word apart. Rows are like those of `skips`.
-    spaced: Window,
+    /// Words of a section.
+    words: WordWindows,
+    /// Imports. Rows have a number for each pair of classes.
+    imports: Window,
     /// Pairs of the two sections that the registers hold.
     pairs: AlternatingWindows,
     /// Such pairs that are a word apart.
@@ -38,6 +36,19 @@ pub struct RunEnds {
     column: Vec<u32>,
     /// The extension one word further on with the fixup's section in register D, by the class of C.
     far: Vec<u32>,
+}
+
+/// The windows of runs that begin only at a section. Rows have a number for each class of one register.
+#[derive(Drop)]
+struct WordWindows {
+    /// Words of a section that register C holds. Rows are by the class of D.
+    in_c: Window,
+    /// Words of a section that register D holds. Rows are by the class of C.
+    in_d: Window,
+    /// The same for words that a skip adds to.
+    skips: Window,
+    /// The same for words that are a word apart.
+    spaced: Window,
 }
 
 /// Two windows of runs that continue at every second fixup.
@@ -61,15 +72,17 @@ impl RunEnds {
         ensures { IfOk result (λ ends. EndsOf (λ l. Unit {0}) classes [] ends) }
     {
         let pairs = classes * classes;
+        let near = zeros(alloc, pairs)?;
+        let column = zeros(alloc, classes)?;
+        let far = zeros(alloc, classes)?;
         Ok(RunEnds {
-            words: Window::new(alloc, pairs, MAX_RUN as usize),
-            skips: Window::new(alloc, classes, MAX_SKIP_RUN as usize),
-            spaced: Window::new(alloc, classes, MAX_RUN as usize),
+            words: WordWindows::new(alloc, classes),
+            imports: Window::new(alloc, pairs, MAX_RUN as usize),
             pairs: AlternatingWindows::new(alloc),
             far_pairs: AlternatingWindows::new(alloc),
-            near: zeros(alloc, pairs)?,
-            column: zeros(alloc, classes)?,
-            far: zeros(alloc, classes)?,
+            near,
+            column,
+            far,
         })
     }
 
@@ -106,25 +119,20 @@ impl RunEnds {
         requires ends { EndsAt known at.others.now at.others.now self.old }
         ensures { OnOk result (EndsAt known.entry at.entry.others.now (at.entry.first ∷ at.entry.others.now) self.new) }
     {
-        let start = at.start();
-        let looks = known.looks;
         let (near, far) = self.after_pair(known, at);
-        self.pairs.pass(pairs_at(at), start, &[near], looks)?;
-        self.far_pairs.pass(far_pairs_at(at), start, &[far], looks)?;
+        self.pairs.pass(pairs_go_on(at), near, known.looks)?;
+        self.far_pairs.pass(far_pairs_go_on(at), far, known.looks)?;
         known.fill_after(at, &mut self.near);
-        bring(
-            &mut self.words,
-            words_at(at.first.base),
-            start,
-            &self.near,
-            looks,
-        )?;
         match at.first.base {
             Base::Section(section) => {
                 self.pass_section(known, at, section)?;
                 Ok(())
             }
-            Base::Import(_) => Ok(()),
+            Base::Import(import) => {
+                let imports = goes_on(Run::Imports, at, u64::from(import) + 1);
+                self.imports.bring(imports, &self.near, known.looks)?;
+                Ok(())
+            }
         }
     }
 
@@ -141,40 +149,28 @@ impl RunEnds {
         requires column_len { length self.old.column.items ≡ length known.registers.now + 1 }
         requires far_len { length self.old.far.items ≡ length known.registers.now + 1 }
         requires near { (l : Labels) → Agrees l known at.others.now → NearKept l (at.first ∷ at.others.now) self.old.near.items }
-        requires skips { Holding (λ l. Agrees l known at.others.now) (length known.registers.now + 1) 63 (λ l rows. SkipsKept l at.others.now rows) self.old.skips }
-        requires spaced { Holding (λ l. Agrees l known at.others.now) (length known.registers.now + 1) 512 (λ l rows. SpacedKept l at.others.now rows) self.old.spaced }
-        ensures words { self.new.words ≡ self.old.words }
+        requires ends { WordEnds (λ l. Agrees l known at.others.now) (length known.registers.now + 1) at.others.now self.old.words }
+        ensures imports { self.new.imports ≡ self.old.imports }
         ensures pairs { self.new.pairs ≡ self.old.pairs }
         ensures far_pairs { self.new.far_pairs ≡ self.old.far_pairs }
         ensures same_near { self.new.near.items ≡ self.old.near.items }
         ensures column_len { length self.new.column.items ≡ length known.entry.registers.now + 1 }
         ensures far_len { length self.new.far.items ≡ length known.entry.registers.now + 1 }
         ensures far { (l : Labels) → Agrees l known.entry at.entry.others.now → FarAt l at.entry.first.offset at.entry.others.now self.new.far.items (Section section) }
-        ensures skips { OnOk result (Holding (λ l. Agrees l known.entry at.entry.others.now) (length known.entry.registers.now + 1) 63 (λ l rows. SkipsKept l (at.entry.first ∷ at.entry.others.now) rows) self.new.skips) }
-        ensures spaced { OnOk result (Holding (λ l. Agrees l known.entry at.entry.others.now) (length known.entry.registers.now + 1) 512 (λ l rows. SpacedKept l (at.entry.first ∷ at.entry.others.now) rows) self.new.spaced) }
+        ensures ends { OnOk result (WordEnds (λ l. Agrees l known.entry at.entry.others.now) (length known.entry.registers.now + 1) (at.entry.first ∷ at.entry.others.now) self.new.words) }
     {
-        let start = at.start();
         let looks = known.looks;
-        known.copy_column(
-            &self.near,
-            class_of(known.registers, section),
-            &mut self.column,
-        );
+        let class = class_of(known.registers, section);
+        known.copy_column(&self.near, class, &mut self.column);
         known.fill_beyond(at, section, &mut self.far);
-        bring(
-            &mut self.skips,
-            Run::WordsOfD(section),
-            start,
-            &self.column,
-            looks,
-        )?;
-        bring(
-            &mut self.spaced,
-            Run::Spaced(section),
-            start,
-            &self.far,
-            looks,
-        )?;
+        let words = goes_on(Run::WordsOfD(section), at, 0);
+        self.words
+            .in_c
+            .bring(words, line_of(&self.near, known.classes(), class), looks)?;
+        self.words.in_d.bring(words, &self.column, looks)?;
+        self.words.skips.bring(words, &self.column, looks)?;
+        let spaced = goes_on(Run::Spaced(section), at, 0);
+        self.words.spaced.bring(spaced, &self.far, looks)?;
         Ok(())
     }
 
@@ -223,11 +219,13 @@ impl RunEnds {
         ensures { result.now ≡ window_of self.now run }
     {
         match run {
-            Run::WordsOfC(_) | Run::WordsOfD(_) | Run::Imports => &self.words,
-            Run::Spaced(_) => &self.spaced,
+            Run::WordsOfC(_) => &self.words.in_c,
+            Run::WordsOfD(_) => &self.words.in_d,
+            Run::Spaced(_) => &self.words.spaced,
             Run::Pairs { .. } => &self.pairs.here,
             Run::SpacedPairs { .. } => &self.far_pairs.here,
-            Run::Skip { .. } => &self.skips,
+            Run::Imports => &self.imports,
+            Run::Skip { .. } => &self.words.skips,
         }
     }
 }
@@ -240,9 +238,23 @@ fn place_in(run: Run, known: SolvedSuffix<'_>, c: usize, d: usize) -> usize
     ensures { result ≡ place_in (length known.entry.registers.now + 1) run c d }
 {
     match run {
-        Run::WordsOfC(_) | Run::WordsOfD(_) | Run::Imports => known.place(c, d),
-        Run::Spaced(_) | Run::Skip { .. } => c,
+        Run::WordsOfC(_) => d,
+        Run::WordsOfD(_) | Run::Spaced(_) | Run::Skip { .. } => c,
+        Run::Imports => known.place(c, d),
         Run::Pairs { .. } | Run::SpacedPairs { .. } => 0,
+    }
+}
+
+impl WordWindows {
+    fn new(alloc: Global, classes: usize) -> WordWindows
+        ensures { WordEnds (λ l. Unit {0}) classes [] result }
+    {
+        WordWindows {
+            in_c: Window::new(alloc, classes, MAX_RUN as usize),
+            in_d: Window::new(alloc, classes, MAX_RUN as usize),
+            skips: Window::new(alloc, classes, MAX_SKIP_RUN as usize),
+            spaced: Window::new(alloc, classes, MAX_RUN as usize),
+        }
     }
 }
 
@@ -257,112 +269,80 @@ impl AlternatingWindows {
         }
     }
 
-    /// Moves the windows to the previous fixup, at which a run may begin.
-    #[inline(always)]
+    /// Moves the windows to the previous fixup. `goes_on` says whether the run that begins there continues after
+    /// its first unit, if one begins. `number` is the extension after that unit.
     fn pass(
         &mut self,
-        run: Option<Run>,
-        start: PlanState<'_>,
-        row: &[u32],
+        goes_on: Option<bool>,
+        number: u32,
         looks: Looks<'_>,
     ) -> Result<(), AllocError>
         requires next { self.old.next.width ≡ 1 }
-        requires row { length row.now ≡ 1 }
-        requires position { start.position ≤ 2 ^ 24 }
-        requires import_index { start.import_index ≤ most_imports }
         ensures next { OnOk result (self.new.next ≡ self.old.here) }
-        ensures here { OnOk result ((width limit : ℕ) (rows : List (List ℕ)) → WindowOf width limit rows self.old.next → BroughtMaybe run width limit start.entry.left.now start.entry.position start.entry.import_index rows row.now self.new.here) }
+        ensures here { OnOk result ((width limit : ℕ) (rows : List (List ℕ)) → WindowOf width limit rows self.old.next → WindowOf width limit (rows_moved goes_on limit rows (number ∷ [])) self.new.here) }
     {
         mem::swap(&mut self.here, &mut self.next);
-        match run {
-            Some(run) => bring(&mut self.here, run, start, row, looks),
-            None => Ok(()),
+        match goes_on {
+            Some(goes_on) => self.here.bring(goes_on, &[number], looks),
+            None => {
+                self.here.clear();
+                Ok(())
+            }
         }
     }
 }
 
-/// Moves a window to a place at which a run may begin. `row` has the extensions after the run's first unit.
+/// Returns whether a run of single fixups that begins at a fixup continues after the first unit. `import` is the
+/// next import after that.
 #[inline(always)]
-fn bring(
-    window: &mut Window,
-    run: Run,
-    start: PlanState<'_>,
-    row: &[u32],
-    looks: Looks<'_>,
-) -> Result<(), AllocError>
-    requires row { length row.now ≡ window.old.width }
-    requires position { start.position ≤ 2 ^ 24 }
-    requires import_index { start.import_index ≤ most_imports }
-    ensures { OnOk result ((width limit : ℕ) (rows : List (List ℕ)) → WindowOf width limit rows window.old → Brought run width limit start.entry.left.now start.entry.position start.entry.import_index rows row.now window.new) }
+fn goes_on(run: Run, at: FixupState<'_>, import: u64) -> bool
+    ensures { Begins run (at.entry.first.offset + stride run) import at.entry.others.now result }
 {
-    let next = match run.next(start) {
-        Some(next) => next,
-        None => {
-            window.clear();
-            return Ok(());
-        }
-    };
-    match run.next(next) {
-        Some(_) => window.add(row, looks),
-        None => {
-            window.clear();
-            window.add(row, looks)
-        }
+    run.begins(at.others, u64::from(at.first.offset) + run.stride(), import)
+}
+
+/// Returns the numbers of a row with register C in a class, by the class of D.
+fn line_of(row: &[u32], classes: usize, class: usize) -> &[u32]
+    requires class { class < classes }
+    requires row { length row.now ≡ classes * classes }
+    ensures len { length result.now ≡ classes }
+    ensures is { (d : ℕ) → d < classes → slice_index result.now d ≡ slice_index row.now (place_of classes class d) }
+{
+    let (_, rest) = row.split_at(class * classes);
+    let (line, _) = rest.split_at(classes);
+    line
+}
+
+/// Returns whether the run of pairs that begins at a fixup continues after the first pair. `None` if none begins.
+fn pairs_go_on(at: FixupState<'_>) -> Option<bool>
+    ensures { GoesOnMaybe (pairs_run (sections_of at.entry.first.base at.entry.others.now)) (at.entry.first ∷ at.entry.others.now) at.entry.first.offset 0 result }
+{
+    match sections_at(at) {
+        Some((first, second)) => pair_goes_on(Run::Pairs { first, second }, second, at),
+        None => None,
     }
 }
 
-impl<'a> FixupState<'a> {
-    /// Returns the place at which a run begins at the fixup. The register classes are 0, and the import index
-    /// is that of the fixup's import.
-    fn start(self) -> PlanState<'a>
-        ensures left { result.left.now ≡ self.entry.left.now }
-        ensures position { result.position ≡ self.entry.first.offset }
-        ensures import_index { result.import_index ≡ base_import self.entry.first.base }
-    {
-        PlanState {
-            left: self.left,
-            position: u64::from(self.first.offset),
-            import_index: import_number(self.first.base),
-            c: 0,
-            d: 0,
-        }
+/// Returns the same for pairs a word apart.
+fn far_pairs_go_on(at: FixupState<'_>) -> Option<bool>
+    ensures { GoesOnMaybe (far_pairs_run (sections_of at.entry.first.base at.entry.others.now)) (at.entry.first ∷ at.entry.others.now) at.entry.first.offset 0 result }
+{
+    match sections_at(at) {
+        Some((first, second)) => pair_goes_on(Run::SpacedPairs { first, second }, second, at),
+        None => None,
     }
 }
 
-/// Returns the number of an import, or 0 for a section.
-fn import_number(base: Base) -> u64
-    ensures { result ≡ base_import base }
+/// Returns the same for a run of either kind, by its second section.
+#[inline(always)]
+fn pair_goes_on(run: Run, second: u32, at: FixupState<'_>) -> Option<bool>
+    ensures { GoesOnAfter run at.entry.others.now at.entry.first.offset second result }
 {
-    match base {
-        Base::Section(_) => 0,
-        Base::Import(import) => u64::from(import),
+    let position = u64::from(at.first.offset);
+    match Run::WordsOfD(second).behind(at.others, position + WORD, 0) {
+        Some(rest) => Some(run.begins(rest, position + run.stride(), 0)),
+        None => None,
     }
-}
-
-/// Returns the run of words or imports that begins at a base.
-fn words_at(base: Base) -> Run
-    ensures { result ≡ words_run base }
-{
-    match base {
-        Base::Section(section) => Run::WordsOfD(section),
-        Base::Import(_) => Run::Imports,
-    }
-}
-
-/// Returns the run of pairs that may begin at a fixup.
-fn pairs_at(at: FixupState<'_>) -> Option<Run>
-    ensures { result ≡ pairs_run (sections_of at.entry.first.base at.entry.others.now) }
-{
-    let (first, second) = sections_at(at)?;
-    Some(Run::Pairs { first, second })
-}
-
-/// Returns the run of pairs a word apart that may begin at a fixup.
-fn far_pairs_at(at: FixupState<'_>) -> Option<Run>
-    ensures { result ≡ far_pairs_run (sections_of at.entry.first.base at.entry.others.now) }
-{
-    let (first, second) = sections_at(at)?;
-    Some(Run::SpacedPairs { first, second })
 }
 
 /// Returns the sections of a fixup and the next one, if both have one.

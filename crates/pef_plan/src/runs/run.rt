@@ -4,6 +4,7 @@ ghost use Rattle.pef_cert.specs.Labels.{Labels};
 ghost use Rattle.pef_cert.specs.Fixups.Additions.{behind};
 ghost use Rattle.pef_plan.specs.Runs.Places.{Chosen, GoesOn, HereOf, extension_in};
 ghost use Rattle.pef_plan.specs.Runs.Runs.{EndOf, Ends, RunOf, imports, limit, run_instr, stride, unit};
+ghost use Rattle.pef_plan.specs.Runs.Ends.{Begins};
 ghost use Rattle.pef_plan.specs.Runs.Kept.Runs.{Next};
 ghost use Rattle.pef_plan.specs.Runs.Tables.{Agrees, Shaped};
 ghost use Rattle.pef_reloc.specs.Instrs.{instr_length};
@@ -42,7 +43,8 @@ pub enum Run {
 
 impl Run {
     /// Returns the number of bytes that each unit advances.
-    fn stride(self) -> u64
+    #[inline(always)]
+    pub(crate) fn stride(self) -> u64
         ensures { result ≡ stride self }
     {
         match self {
@@ -107,10 +109,27 @@ impl Run {
         })
     }
 
+    /// Returns whether some fixups begin with one unit. The unit is at a position, and `import` is the next import.
+    #[inline(always)]
+    pub(crate) fn begins(self, fixups: &[Fixup], position: u64, import: u64) -> bool
+        requires position { position < 2 ^ 60 }
+        ensures { Begins self position import fixups.now result }
+    {
+        match self.behind(fixups, position, import) {
+            Some(_) => true,
+            None => false,
+        }
+    }
+
     /// Returns the fixups after one unit, if they begin with it. The unit is at a position, and `import` is the
     /// next import.
     #[inline(always)]
-    fn behind<'a>(self, fixups: &'a [Fixup], position: u64, import: u64) -> Option<&'a [Fixup]>
+    pub(crate) fn behind<'a>(
+        self,
+        fixups: &'a [Fixup],
+        position: u64,
+        import: u64,
+    ) -> Option<&'a [Fixup]>
         requires position { position < 2 ^ 60 }
         ensures { option_map (λ l. l.now) result ≡ behind (unit self position import) fixups.entry.now }
     {

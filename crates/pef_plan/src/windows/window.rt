@@ -1,5 +1,5 @@
 ghost use Rattle.std.specs.Prelude.{◌≡◌, ◌+◌, ◌-◌, ◌^◌, ◌<◌, ◌⊎◌, ◌++◌, ◌∷◌, ℕ, [], List, OnOk, length, min, reverse, slice_index, take};
-ghost use Rattle.pef_plan.specs.Windows.Windows.{BestOf, LesserOf, OlderOf, WindowOf};
+ghost use Rattle.pef_plan.specs.Windows.Windows.{BestOf, LesserOf, OlderOf, WindowOf, rows_brought};
 
 use crate::windows::looks::Looks;
 use crate::windows::table::{Table, copy_row};
@@ -56,6 +56,25 @@ impl Window {
     {
         self.older.clear();
         self.newer.clear();
+    }
+
+    /// Moves the window to a place at which a run begins. Older rows stay only if the run goes on after its first
+    /// unit.
+    ///
+    /// # Errors
+    ///
+    /// `AllocError`, if an allocation failed. The window's rows are unspecified then.
+    #[inline(always)]
+    pub fn bring(&mut self, goes_on: bool, row: &[u32], looks: Looks<'_>) -> Result<(), AllocError>
+        requires { length row.now ≡ self.old.width }
+        ensures { OnOk result ((width limit : ℕ) (rows : List (List ℕ)) → WindowOf width limit rows self.old → WindowOf width limit (rows_brought goes_on limit rows row.now) self.new) }
+    {
+        if goes_on {
+            self.add(row, looks)
+        } else {
+            self.clear();
+            self.add(row, looks)
+        }
     }
 
     /// Adds a row, and removes the oldest one if there are too many. Each number of a row is looked at when the
