@@ -7,7 +7,6 @@ use Rattle.pef_reloc.specs.Steps.{added}
 use Rattle.pef_cert.specs.Labels.{Labels, class_of, classes}
 use Rattle.pef_cert.specs.Extension.{extension}
 use Rattle.pef_cert.proofs.Laws.{class_of-below}
-use Rattle.pef_plan.specs.declared.runs.run.Run.{Run}
 use Rattle.pef_plan.specs.declared.runs.run.Run.TheVariants.{WordsOfD, Spaced, Pairs, SpacedPairs, Imports}
 use Rattle.pef_plan.specs.declared.runs.ends.AlternatingWindows.{AlternatingWindows}
 use Rattle.pef_plan.specs.declared.runs.ends.RunEnds.{RunEnds}

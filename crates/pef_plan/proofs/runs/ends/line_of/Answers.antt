@@ -1,5 +1,5 @@
-use Rattle.std.proofs.Common.{◌∙◌, ◌*◌, ap, arith, drop, rules, take}
-use Rattle.std.proofs.lemmas.List.{get_or-drop, get_or-take, length-drop, length-take-le}
+use Rattle.std.proofs.Common.{◌∙◌, ◌*◌, ap, arith, drop, take}
+use Rattle.std.proofs.lemmas.List.{get_or-drop, get_or-take, length-drop}
 use Rattle.std.specs.Prelude.{slice_index}
 use Rattle.pef_plan.proofs.RunsProofs.PlaceLemmas.{line_inside}
 use Rattle.pef_plan.proofs.runs.ends.line_of.Goals as goal

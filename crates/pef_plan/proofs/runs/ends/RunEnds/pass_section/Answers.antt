@@ -1,8 +1,6 @@
 use Rattle.std.proofs.Common.{◌≡◌, ◌<◌, ◌+◌, ◌∙◌, ap, ap₂, length, slice_index, subst, sym, List, ℕ}
 use Rattle.std.proofs.lemmas.List.{with_items_is}
 use Rattle.pef_cert.specs.Labels.{Labels}
-use Rattle.pef_reloc.specs.declared.fixup.Base.TheVariants.{Section}
-use Rattle.pef_plan.specs.Runs.Ends.{FarAt}
 use Rattle.pef_plan.specs.Runs.Tables.{Agrees, place_of}
 use Rattle.pef_plan.proofs.RunsProofs.EndsKept.{Brings, ColumnAt, column_at, line_at, spaced_brought, words_c_brought, words_d_brought}
 use Rattle.pef_plan.proofs.runs.ends.RunEnds.pass_section.Goals as goal
