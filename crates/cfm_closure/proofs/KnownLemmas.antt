@@ -12,7 +12,7 @@ use Rattle.cfm_closure.specs.Faults.{BindRefusal}
 use Rattle.cfm_closure.specs.declared.targets.Target.{Target}
 use Rattle.cfm_closure.specs.Closures.{first_refused, imports_refusal}
 use Rattle.cfm_closure.proofs.RowLemmas.{none-at}
-use Rattle.cfm_closure.specs.Kept.Targets.{AreRight, IsKnown, IsOnWay, IsResolved, Keeps, KeepsKnown, Ordered, Row, Rows, known_at, led_to}
+use Rattle.cfm_closure.specs.Kept.Targets.{AreKnown, AreRight, IsKnown, IsOnWay, IsResolved, Keeps, KeepsKnown, Ordered, Row, Rows, known_at, led_to}
 
 -- the rows with the target of an import noted
 abbrev pub noted : Rows → ℕ → ℕ → Option Target → Rows
@@ -75,6 +75,13 @@ keeps-more a b c first second = record {
   same = second.same ∙ ap (λ (b : Ordered). record b { rows = c.rows }) first.same;
   known = λ p j known. second.known p j (first.known p j known);
 }
+
+-- one import more of a way is known
+pub are_known-more : (rows rows' : Rows) (way : List (ℕ × ℕ)) (n : ℕ) → KeepsKnown rows rows' → AreKnown rows way n → IsKnown rows' (get_or way n (0, 0)).0 (get_or way n (0, 0)).1 → AreKnown rows' way (n + 1)
+are_known-more rows rows' way n keeps known next i below = elim (eqb_tells i n) [
+  | inl same ↦ subst (λ (i : ℕ). IsKnown rows' (get_or way i (0, 0)).0 (get_or way i (0, 0)).1) (sym same.1) next
+  | inr other ↦ keeps (get_or way i (0, 0)).0 (get_or way i (0, 0)).1 (known i (omega (arith, other.1)))
+]
 
 -- an import of a way is still one
 pub on_way-still : (old new : Ordered) (end : Option (Result (Option Target) BindRefusal)) (way : List (ℕ × ℕ)) (i : ℕ) → Keeps old new → AllByRecursion (IsOnWay old.pairs old.order end) way → i < length way

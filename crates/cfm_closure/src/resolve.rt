@@ -1,4 +1,4 @@
-ghost use Rattle.std.specs.Prelude.{◌≡◌, ◌<◌, ◌≤◌, ◌^◌, [], Ok, Err, Some, Option, Contains, IfOk, OnOk};
+ghost use Rattle.std.specs.Prelude.{◌≡◌, ◌<◌, ◌≤◌, ◌^◌, [], Ok, Err, Some, Option, Contains, IfOk, OnOk, length};
 ghost use Rattle.std.specs.List.{AllByRecursion};
 ghost use Rattle.cfm_closure.specs.Stores.{pair_of};
 ghost use Rattle.cfm_closure.specs.Faults.{Answers, FailsAs, reexport_loop};
@@ -8,7 +8,7 @@ ghost use Rattle.cfm_closure.specs.Targets.{exports_among, symbol_of, target_of}
 ghost use Rattle.cfm_closure.specs.declared.targets.Target.{Target};
 ghost use Rattle.cfm_closure.specs.Kept.Found.{meant};
 ghost use Rattle.cfm_closure.specs.Kept.Resolvers.{IsResolver};
-ghost use Rattle.cfm_closure.specs.Kept.Targets.{AreResolved, IsKnown, IsOnWay, IsResolved, Keeps, Passes, led_to};
+ghost use Rattle.cfm_closure.specs.Kept.Targets.{AreKnown, AreResolved, IsKnown, IsOnWay, IsResolved, Keeps, Passes, led_to};
 
 use crate::bindings::Bindings;
 use crate::fault::BindFault;
@@ -41,7 +41,8 @@ fn exports<'a>(bindings: &Bindings<'a>) -> usize
 /// Notes the target of all imports on a way.
 fn note_way<'a>(bindings: &mut Bindings<'a>, way: &[(usize, usize)], found: Found)
     requires { AllByRecursion (IsOnWay bindings.old.pairs bindings.old.order (Some (Ok (meant found)))) way.now }
-    ensures { Keeps bindings.old bindings.new }
+    ensures keeps { Keeps bindings.old bindings.new }
+    ensures known { AreKnown bindings.new.rows way.now (length way.now) }
 {
     for import in way {
         bindings.note(import.0, import.1, found);

@@ -42,6 +42,10 @@ pub record Keeps (old new : Ordered) : Type 0 where
   pub same : new ≡ record old { rows = new.rows }
   pub known : KeepsKnown old.rows new.rows
 
+-- the targets of the first n imports of a way are known
+abbrev pub AreKnown : Rows → List (ℕ × ℕ) → ℕ → Type 0
+AreKnown rows way n = (i : ℕ) → i < n → IsKnown rows (slice_index_or way i (0, 0)).0 (slice_index_or way i (0, 0)).1
+
 -- the target of an import, through all exports that pass it on
 abbrev pub led_to : List Pair → ℕ × ℕ → Option (Result (Option Target) BindRefusal)
 led_to pairs v = follow (exports_in pairs) pairs v.0 v.1

@@ -16,15 +16,15 @@ note_way-requires c =
     subst (λ end. AllByRecursion (IsOnWay pairs order end) c.deref.result.now) (led-target pairs c.args.p c.args.j (meant c.in_ok-found.found) c.in_ok-found.ensures.answer) on
 
 pub note-requires-clause-place : goal.note-requires-clause-place
-note-requires-clause-place c = subst (λ (o : Ordered). Contains o.order c.args.p) (sym c.note_way.ensures.same) c.requires.place
+note-requires-clause-place c = subst (λ (o : Ordered). Contains o.order c.args.p) (sym c.note_way.ensures.keeps.same) c.requires.place
 
 pub note-requires-clause-import : goal.note-requires-clause-import
-note-requires-clause-import c = subst (λ (o : Ordered). c.args.j < import_count o.pairs c.args.p) (sym c.note_way.ensures.same) c.requires.import
+note-requires-clause-import c = subst (λ (o : Ordered). c.args.j < import_count o.pairs c.args.p) (sym c.note_way.ensures.keeps.same) c.requires.import
 
 pub note-requires-clause-right : goal.note-requires-clause-right
 note-requires-clause-right c =
-    subst (λ (o : Ordered). led_to o.pairs (c.args.p, c.args.j) ≡ Some (Ok (meant c.in_ok-found.found))) (sym c.note_way.ensures.same)
+    subst (λ (o : Ordered). led_to o.pairs (c.args.p, c.args.j) ≡ Some (Ok (meant c.in_ok-found.found))) (sym c.note_way.ensures.keeps.same)
     (led-target c.args.bindings.now.pairs c.args.p c.args.j (meant c.in_ok-found.found) c.in_ok-found.ensures.answer)
 
 pub returns-clause-keeps : goal.returns-clause-keeps
-returns-clause-keeps c = keeps-more c.args.bindings.now c.note_way.new.bindings c.note.new.self c.note_way.ensures c.note.ensures.keeps
+returns-clause-keeps c = keeps-more c.args.bindings.now c.note_way.new.bindings c.note.new.self c.note_way.ensures.keeps c.note.ensures.keeps
