@@ -37,7 +37,7 @@ pub fn print_memory<W: Sink>(
     send(out, page, short_row(here, rest).as_slice())
 }
 
-/// Returns the line of sixteen bytes. All of it stands in one array, so that the compiler makes its digits together.
+/// Returns the line of sixteen bytes. It is made as one array, because the compiler then makes many digits at once.
 #[inline(always)]
 fn full_row(address: u32, bytes: &[u8]) -> [u8; 45]
     requires { length bytes.now ≡ 16 }
