@@ -1,14 +1,12 @@
 -- Windows of rows: the minima for the older rows, and the least of all rows.
-use Rattle.std.proofs.Common.{◌≡◌, ℕ, ◌+◌, ◌-◌, ◌<◌, ◌≤◌, ◌⊎◌, inl, inr, min, List, [], ◌∷◌, ◌++◌, length, take, suc, slice_index, Some, refl, ap, sym, ◌∙◌, subst, arith, length-append}
-use Rattle.std.specs.Prelude.{reverse, slice_index_or}
-use Rattle.std.proofs.Math.ListN.{get_or-append}
-use Rattle.std.proofs.Math.Seq.{get_or-append_seam, take-append-add}
-use Rattle.std.proofs.lemmas.Bool.Decides.{eqb_tells}
-use Rattle.std.proofs.lemmas.Option.{get_or_from_slice_get, same_Some, slice_get_within}
-use Rattle.std.specs.List.{slice_get}
-use Rattle.std.proofs.lemmas.List.{append-nil, append_assoc, get_or-take, length-reverse, length-take, reverse-append, take-append-le, take-take, take_all}
+use Rattle.std.proofs.Common.{◌≡◌, ℕ, zero, suc, ◌+◌, ◌-◌, ◌*◌, ◌<◌, ◌≤◌, inl, inr, min, List, [], ◌∷◌, ◌++◌, length, take, slice_index, refl, ap, sym, ◌∙◌, subst, arith}
+use Rattle.std.specs.Prelude.{slice_index_or}
+use Rattle.std.proofs.Math.Path.{ap₂}
+use Rattle.std.proofs.Math.Seq.{take-append-add}
+use Rattle.std.proofs.lemmas.List.{append-nil, length-take-le, take-take, take_all, take_more}
 use Rattle.pef_words.proofs.Laws.Numbers.{min_is}
-use Rattle.pef_plan.specs.Windows.Windows.{AtMostEach, BestOf, IsOne, LesserOf, LowIn, LowRow, OlderOf, WindowOf, Windowed}
+use Rattle.pef_plan.specs.Windows.Windows.{AtMostEach, BestOf, IsOne, LesserOf, LowIn, LowRow, LowToNext, NewerOf, OlderOf, RowAdded, WindowOf, Windowed}
+use Rattle.pef_plan.proofs.WindowsProofs.TableLemmas.{mul-le}
 
 each-append : (more v : ℕ) (xs ys : List (List ℕ)) (i : ℕ) → AtMostEach more v xs i → AtMostEach more v ys i → AtMostEach more v (xs ++ ys) i
 each-append more v [] ys i a b = b
@@ -53,99 +51,6 @@ row-both width xs ys a b s one other is i under =
 pub row-one : (width : ℕ) (s : List ℕ) → LowRow width (s ∷ []) s
 row-one width s i under = record { each = (omega arith, tt); one = inl (omega arith) }
 
--- one more older row
-older-push : (width : ℕ) (rows lows : List (List ℕ)) (s low : List ℕ) → OlderOf width rows lows → LowRow width (rows ++ s ∷ []) low → OlderOf width (rows ++ s ∷ []) (lows ++ low ∷ [])
-older-push width rows lows s low o is = record {
-  count = (let e = o.count in let one = length-append rows (s ∷ []) in let two = length-append lows (low ∷ []) in omega (arith, e, one, two));
-  low = λ i under.
-      let count = o.count in
-      let sum = length-append rows (s ∷ []) in
-      elim (eqb_tells i (length rows)) [
-        | inl same ↦
-            (let here : i ≡ length lows = same.1 ∙ sym count in
-            let whole : take (i + 1) (rows ++ s ∷ []) ≡ rows ++ s ∷ [] = take_all (i + 1) (rows ++ s ∷ []) (let e = same.1 in omega (arith, e, sum)) in
-            subst (λ (xs : List (List ℕ)). LowRow width xs (slice_index_or (lows ++ low ∷ []) i [])) (sym whole)
-            (subst (λ (x : List ℕ). LowRow width (rows ++ s ∷ []) x) (sym (ap (λ n. slice_index_or (lows ++ low ∷ []) n []) here ∙ get_or-append_seam lows low [] [])) is))
-        | inr other ↦
-            (let apart = other.1 in
-            let before : i < length rows = omega (arith, under, apart, sum) in
-            subst (λ (xs : List (List ℕ)). LowRow width xs (slice_index_or (lows ++ low ∷ []) i [])) (sym (take-append-le (i + 1) rows (s ∷ []) (omega (arith, before))))
-            (subst (λ (x : List ℕ). LowRow width (take (i + 1) rows) x) (sym (get_or-append lows (low ∷ []) [] i (omega (arith, before, count)))) (o.low i before)))
-      ];
-}
-
--- some of the older rows
-older-take : (width n : ℕ) (rows lows : List (List ℕ)) → OlderOf width rows lows → OlderOf width (take n rows) (take n lows)
-older-take width n rows lows o = record {
-  count = length-take n lows ∙ (ap (λ m. min n m) o.count ∙ sym (length-take n rows));
-  low = λ i under.
-      let len = length-take n rows in
-      subst (λ (xs : List (List ℕ)). LowRow width xs (slice_index_or (take n lows) i [])) (sym (take-take (i + 1) n rows (omega (arith, under, len))))
-      (subst (λ (x : List ℕ). LowRow width (take (i + 1) rows) x) (sym (get_or-take n lows i [] (omega (arith, under, len)))) (o.low i (omega (arith, under, len))));
-}
-
--- the minimum that is kept for the oldest row is the least of all older rows
-pub older-last : (width : ℕ) (rows lows : List (List ℕ)) → OlderOf width rows lows → 0 < length lows → LowRow width rows (slice_index_or lows (length lows - 1) [])
-older-last width rows lows o some =
-    let count = o.count in
-    let whole : take (length lows - 1 + 1) rows ≡ rows = take_all (length lows - 1 + 1) rows (omega (arith, count, some)) in
-    subst (λ (xs : List (List ℕ)). LowRow width xs (slice_index_or lows (length lows - 1) [])) whole (o.low (length lows - 1) (omega (arith, count, some)))
-
--- rows that have a last one
-last-split : (rows : List (List ℕ)) (row : List ℕ) → slice_get rows (length rows - 1) ≡ Some row → rows ≡ take (length rows - 1) rows ++ row ∷ []
-last-split [] row e = absurd (cc)
-last-split (x ∷ []) row e = let same : x ≡ row = cc in ap (λ y. y ∷ []) same
-last-split (x ∷ y ∷ rows) row e =
-    let more : length (x ∷ y ∷ rows) - 1 ≡ suc (length rows) = omega arith in
-    let fewer : length (y ∷ rows) - 1 ≡ length rows = omega arith in
-    let there : slice_get (y ∷ rows) (length (y ∷ rows) - 1) ≡ Some row = ap (slice_get (y ∷ rows)) fewer ∙ (sym (ap (slice_get (x ∷ y ∷ rows)) more) ∙ e) in
-    ap (λ xs. x ∷ xs) (last-split (y ∷ rows) row there ∙ ap (λ n. take n (y ∷ rows) ++ row ∷ []) fewer)
-    ∙ sym (ap (λ n. take n (x ∷ y ∷ rows) ++ row ∷ []) more)
-
--- newer rows, some of which have become older ones, and the least of these
-pub record Aged (width : ℕ) (all lows newer : List (List ℕ)) (low : List ℕ) : Type 0 where
-  pub older : List (List ℕ)
-  pub is : OlderOf width older lows
-  pub parts : older ++ reverse newer ≡ all
-  pub low_is : 0 < length newer → LowRow width older low ⊎ ((older ≡ []) × (slice_get newer (length newer - 1) ≡ Some low))
-
-aged_low : (width : ℕ) (older newer : List (List ℕ)) (low row lower : List ℕ) → slice_get newer (length newer - 1) ≡ Some row → LesserOf width low row lower → LowRow width older low ⊎ ((older ≡ []) × (slice_get newer (length newer - 1) ≡ Some low)) → LowRow width (older ++ row ∷ []) lower
-aged_low width older newer low row lower got is (inl old) = row-both width older (row ∷ []) low row lower old (row-one width row) is
-aged_low width older newer low row lower got is (inr first) =
-    let same : low ≡ row = same_Some low row (sym first.1 ∙ got) in
-    let alone : LowRow width (row ∷ []) lower = λ i under.
-    let both : slice_index lower i ≡ min (slice_index low i) (slice_index row i) = is i under in
-    let one : slice_index low i ≡ slice_index row i = ap (λ l. slice_index l i) same in
-    let equal : slice_index lower i ≡ slice_index row i = omega (arith, both, one) in
-    subst (λ (v : ℕ). LowIn (row ∷ []) i v) (sym equal) (row-one width row i under) in
-    subst (λ (rows : List (List ℕ)). LowRow width (rows ++ row ∷ []) lower) (sym first.0) alone
-
-pub aged-start : (width : ℕ) (lows newer : List (List ℕ)) (low : List ℕ) → lows ≡ [] → (0 < length newer → slice_get newer (length newer - 1) ≡ Some low) → Aged width (reverse newer) lows newer low
-aged-start width lows newer low none last = record {
-  older = [];
-  is = record { count = ap length none; low = λ i under. absurd (omega (arith, under)) };
-  parts = refl;
-  low_is = λ some. inr (refl, last some);
-}
-
-pub aged-next : (width : ℕ) (all lows newer : List (List ℕ)) (low row lower : List ℕ) → Aged width all lows newer low → slice_get newer (length newer - 1) ≡ Some row → LesserOf width low row lower → Aged width all (lows ++ lower ∷ []) (take (length newer - 1) newer) lower
-aged-next width all lows newer low row lower a got is =
-    let some = slice_get_within newer (length newer - 1) row got in
-    let here = aged_low width a.older newer low row lower got is (a.low_is (omega (arith, some))) in
-    let left = take (length newer - 1) newer in
-    record {
-      older = a.older ++ row ∷ [];
-      is = older-push width a.older lows row lower a.is here;
-      parts = append_assoc a.older (row ∷ []) (reverse left) ∙ (ap (λ xs. a.older ++ xs) (sym (ap reverse (last-split newer row got) ∙ reverse-append left (row ∷ []))) ∙ a.parts);
-      low_is = λ more. inl here;
-    }
-
--- the minimum that is kept for the oldest row, as it is read
-pub older-got : (width : ℕ) (rows lows : List (List ℕ)) (low : List ℕ) → OlderOf width rows lows → slice_get lows (length lows - 1) ≡ Some low → LowRow width rows low
-older-got width rows lows low o got =
-    let under = slice_get_within lows (length lows - 1) low got in
-    subst (λ (x : List ℕ). LowRow width rows x) (get_or_from_slice_get lows (length lows - 1) low [] got) (older-last width rows lows o (omega (arith, under)))
-
 -- the better of a number and the least of some rows
 pub best-low : (rows : List (List ℕ)) (first i low : ℕ) → LowIn rows i low → BestOf first rows i (min first (1 + low))
 best-low rows first i low l = record {
@@ -172,94 +77,198 @@ best-both older newer first i best low b l =
       ];
     }
 
-pub best-older : (width : ℕ) (rows lows : List (List ℕ)) (low : List ℕ) (first i : ℕ) → OlderOf width rows lows → slice_get lows (length lows - 1) ≡ Some low → i < width → BestOf first rows i (min first (1 + slice_index low i))
-best-older width rows lows low first i o got under = best-low rows first i (slice_index low i) (older-got width rows lows low o got i under)
+-- a place in a slot is before the end of the slots
+pub slot-inside : (width slots slot i : ℕ) → slot < slots → i < width → slot * width + i < slots * width
+slot-inside width slots slot i under inside = let low = mul-le (slot + 1) slots width (omega (arith, under)) in omega (arith, low, inside)
 
-count_is : (width limit : ℕ) (rows : List (List ℕ)) (w : Windowed) → (o : WindowOf width limit rows w) → length rows ≡ length w.newer + length w.older
-count_is width limit rows w o =
-    let e = ap length o.parts in
-    let sum = length-append (reverse w.newer) o.older in
-    let back = length-reverse w.newer in
-    let count = o.older_is.count in
-    omega (arith, e, sum, back, count)
+-- rows have numbers
+pub some_numbers : (rows width len : ℕ) → 0 < rows → 0 < width → rows * width ≤ len → 0 < len
+some_numbers rows width len more wide inside = let low = mul-le 1 rows width (omega (arith, more)) in omega (arith, low, wide, inside)
+
+no_rows : (xs : List (List ℕ)) → length xs ≡ 0 → xs ≡ []
+no_rows [] e = refl
+no_rows (x ∷ xs) e = absurd (omega (arith, e))
+
+-- no rows
+pub window-none : (width limit : ℕ) (w : Windowed) → w.width ≡ width → w.limit ≡ limit → 0 < limit → w.newer ≡ 0 → w.older ≡ 0 → WindowOf width limit [] w
+window-none width limit w width_is limit_is some newer older = record {
+  width_is = width_is;
+  limit_is = limit_is;
+  some = some;
+  newer = [];
+  older = [];
+  parts = refl;
+  newer_count = sym newer;
+  older_count = sym older;
+  newer_is = λ n slot i under inside. absurd (omega (arith, under));
+  older_is = λ n slot i under slots inside. absurd (omega (arith, under));
+  low_is = λ more. absurd (omega (arith, more));
+}
 
 -- the oldest row is removed
-pub window-pop : (width limit : ℕ) (rows : List (List ℕ)) (w v : Windowed) → WindowOf width limit rows w → 0 < w.limit → length w.older + length w.newer ≡ w.limit → (length w.newer ≡ 0) ⊎ (0 < length w.older) → v.width ≡ w.width → v.limit ≡ w.limit → v.newer ≡ w.newer → v.low ≡ w.low → v.older ≡ take (length w.older - 1) w.older → WindowOf width limit (take (limit - 1) rows) v
-window-pop width limit rows w v o some sum older width_is limit_is newer low items =
+pub window-pop : (width limit : ℕ) (rows : List (List ℕ)) (w : Windowed) → WindowOf width limit rows w → w.older + w.newer ≡ w.limit → 0 < w.older → WindowOf width limit (take (limit - 1) rows) (record w { older = w.older - 1 })
+window-pop width limit rows w o full more =
+    let newer_count = o.newer_count in
+    let older_count = o.older_count in
     let same = o.limit_is in
-    let there : 0 < length w.older = elim older [ inl none ↦ omega (arith, none, sum, some) | inr more ↦ more ] in
-    let back = length-reverse w.newer in
-    let size : limit - 1 ≡ length (reverse w.newer) + (length w.older - 1) = omega (arith, sum, same, there, back) in
+    let size : limit - 1 ≡ length o.newer + (w.older - 1) = omega (arith, full, same, more, newer_count) in
+    let fewer = length-take-le (w.older - 1) o.older (omega (arith, older_count)) in
     record {
-      width_is = width_is ∙ o.width_is;
-      limit_is = limit_is ∙ same;
+      width_is = o.width_is;
+      limit_is = o.limit_is;
       some = o.some;
-      older = take (length w.older - 1) o.older;
-      parts = ap (λ xs. take (limit - 1) xs) o.parts
-          ∙ (ap (λ n. take n (reverse w.newer ++ o.older)) size
-          ∙ (take-append-add (reverse w.newer) o.older (length w.older - 1)
-          ∙ ap (λ xs. reverse xs ++ take (length w.older - 1) o.older) (sym newer)));
-      older_is = subst (λ (xs : List (List ℕ)). OlderOf width (take (length w.older - 1) o.older) xs) (sym items) (older-take width (length w.older - 1) o.older w.older o.older_is);
-      newer_is = λ more.
-          subst (λ (xs : List (List ℕ)). LowRow width (reverse xs) v.low) (sym newer)
-          (subst (λ (x : List ℕ). LowRow width (reverse w.newer) x) (sym low) (o.newer_is (let e = ap length newer in omega (arith, e, more))));
+      newer = o.newer;
+      older = take (w.older - 1) o.older;
+      parts = ap (take (limit - 1)) o.parts ∙ (ap (λ n. take n (o.newer ++ o.older)) size ∙ take-append-add o.newer o.older (w.older - 1));
+      newer_count = newer_count;
+      older_count = fewer;
+      newer_is = o.newer_is;
+      older_is = λ n slot i under slots inside.
+          subst (λ (xs : List (List ℕ)). LowIn xs i (slice_index w.values (slot * width + i)))
+          (sym (take-take (n + 1) (w.older - 1) o.older (omega (arith, under, fewer))))
+          (o.older_is n slot i (omega (arith, under, fewer, older_count)) slots inside);
+      low_is = o.low_is;
+    }
+
+-- newer rows, each number of which is lowered to the one of the next row
+low-at : (width limit : ℕ) (rows : List (List ℕ)) (old new : List ℕ) → NewerOf width rows old → LowToNext width (limit * width) old new → length rows ≡ limit → OlderOf width limit rows new
+low-at width limit rows old new newer low full zero slot i under slots inside =
+    let end : (slot + 1) * width ≡ limit * width = ap (λ m. m * width) (omega (arith, slots)) in
+    let value : slice_index new (slot * width + i) ≡ slice_index (slice_index_or rows 0 []) i = low.last (slot * width + i) (omega (arith, end)) ∙ newer 0 slot i (omega (arith, slots, full)) inside in
+    subst (λ (xs : List (List ℕ)). LowIn xs i (slice_index new (slot * width + i))) (sym (take_more rows 0 [] under))
+    (subst (λ (v : ℕ). LowIn (slice_index_or rows 0 [] ∷ []) i v) (sym value) (row-one width (slice_index_or rows 0 []) i inside))
+low-at width limit rows old new newer low full (suc n) slot i under slots inside =
+    let row = slice_index_or rows (suc n) [] in
+    let later = low-at width limit rows old new newer low full n (slot + 1) i (omega (arith, under)) (omega (arith, slots)) inside in
+    let next : slot * width + i + width ≡ (slot + 1) * width + i = omega arith in
+    let count : n + 1 ≡ suc n = omega arith in
+    let lowered = low.lower (slot * width + i) (let less = slot-inside width limit (slot + 1) i (omega (arith, slots)) inside in omega (arith, less, next)) in
+    let there = ap (slice_index new) next in
+    let here = newer (suc n) slot i (omega (arith, slots, full)) inside in
+    let value : slice_index new (slot * width + i) ≡ min (slice_index new ((slot + 1) * width + i)) (slice_index row i) = omega (arith, lowered, there, here) in
+    subst (λ (xs : List (List ℕ)). LowIn xs i (slice_index new (slot * width + i))) (sym (take_more rows (suc n) [] under))
+    (subst (λ (v : ℕ). LowIn (take (suc n) rows ++ row ∷ []) i v) (sym value)
+    (low-both (take (suc n) rows) (row ∷ []) i (slice_index new ((slot + 1) * width + i)) (slice_index row i)
+    (subst (λ (m : ℕ). LowIn (take m rows) i (slice_index new ((slot + 1) * width + i))) count later)
+    (row-one width row i inside)))
+
+-- all newer rows have become older ones
+pub window-aged : (width limit : ℕ) (rows : List (List ℕ)) (w : Windowed) (values : List ℕ) → WindowOf width limit rows w → w.newer ≡ w.limit → w.older ≡ 0 → LowToNext w.width (w.limit * w.width) w.values values → WindowOf width limit rows (record w { older = w.limit; newer = 0; values = values })
+window-aged width limit rows w values o full none low =
+    let newer_count = o.newer_count in
+    let alone : rows ≡ o.newer = o.parts ∙ (ap (λ xs. o.newer ++ xs) (no_rows o.older (o.older_count ∙ none)) ∙ append-nil o.newer) in
+    let count : length o.newer ≡ limit = newer_count ∙ (full ∙ o.limit_is) in
+    let lowered : LowToNext width (limit * width) w.values values = subst (λ (m : ℕ). LowToNext width (m * width) w.values values) o.limit_is (subst (λ (n : ℕ). LowToNext n (w.limit * n) w.values values) o.width_is low) in
+    record {
+      width_is = o.width_is;
+      limit_is = o.limit_is;
+      some = o.some;
+      newer = [];
+      older = o.newer;
+      parts = alone;
+      newer_count = refl;
+      older_count = newer_count ∙ full;
+      newer_is = λ n slot i under inside. absurd (omega (arith, under));
+      older_is = low-at width limit o.newer w.values values o.newer_is lowered count;
+      low_is = λ more. absurd (omega (arith, more));
+    }
+
+-- the list of numbers became longer
+pub window-same : (width limit : ℕ) (rows : List (List ℕ)) (w : Windowed) (values low : List ℕ) → WindowOf width limit rows w → w.newer * w.width ≤ length w.values → (0 < w.older → w.limit * w.width ≤ length w.values) → ((p : ℕ) → p < length w.values → slice_index values p ≡ slice_index w.values p) → (0 < w.newer → low ≡ w.low) → WindowOf width limit rows (record w { values = values; low = low })
+window-same width limit rows w values low o newer_inside older_inside same low_same =
+    let newer_count = o.newer_count in
+    let older_count = o.older_count in
+    let newer_end : w.newer * w.width ≡ w.newer * width = ap (λ n. w.newer * n) o.width_is in
+    let older_end : w.limit * w.width ≡ limit * width = ap₂ (λ m n. m * n) o.limit_is o.width_is in
+    record {
+      width_is = o.width_is;
+      limit_is = o.limit_is;
+      some = o.some;
+      newer = o.newer;
+      older = o.older;
+      parts = o.parts;
+      newer_count = newer_count;
+      older_count = older_count;
+      newer_is = λ n slot i under inside.
+          let less = slot-inside width w.newer slot i (omega (arith, under, newer_count)) inside in
+          same (slot * width + i) (omega (arith, less, newer_end, newer_inside)) ∙ o.newer_is n slot i under inside;
+      older_is = λ n slot i under slots inside.
+          let less = slot-inside width limit slot i (omega (arith, slots)) inside in
+          let all = older_inside (omega (arith, under, older_count)) in
+          subst (λ (v : ℕ). LowIn (take (n + 1) o.older) i v) (sym (same (slot * width + i) (omega (arith, less, older_end, all)))) (o.older_is n slot i under slots inside);
+      low_is = λ more. subst (λ (l : List ℕ). LowRow width o.newer l) (sym (low_same (omega (arith, more, newer_count)))) (o.low_is more);
     }
 
 -- one more row
-new_low : (width : ℕ) (newer : List (List ℕ)) (low row new : List ℕ) → (0 < length newer → LowRow width (reverse newer) low) → (length newer ≡ 0 → new ≡ row) → (0 < length newer → LesserOf width low row new) → LowRow width (row ∷ reverse newer) new
-new_low width [] low row new before first lesser = subst (λ (l : List ℕ). LowRow width (row ∷ []) l) (sym (first refl)) (row-one width row)
+new_low : (width : ℕ) (newer : List (List ℕ)) (low row new : List ℕ) → (0 < length newer → LowRow width newer low) → (length newer ≡ 0 → (i : ℕ) → i < width → slice_index new i ≡ slice_index row i) → (0 < length newer → LesserOf width low row new) → LowRow width (row ∷ newer) new
+new_low width [] low row new before first lesser = λ i under. subst (λ (v : ℕ). LowIn (row ∷ []) i v) (sym (first refl i under)) (row-one width row i under)
 new_low width (x ∷ newer) low row new before first lesser =
     let is = lesser (omega arith) in
-    row-both width (row ∷ []) (reverse (x ∷ newer)) row low new (row-one width row) (before (omega arith))
+    row-both width (row ∷ []) (x ∷ newer) row low new (row-one width row) (before (omega arith))
     (λ i under. let e = is i under in omega (arith, e))
 
-pub window-add : (width limit : ℕ) (rows : List (List ℕ)) (w v : Windowed) (row : List ℕ) → WindowOf width limit rows w → v.width ≡ w.width → v.limit ≡ w.limit → v.older ≡ w.older → v.newer ≡ w.newer ++ row ∷ [] → (length w.newer ≡ 0 → v.low ≡ row) → (0 < length w.newer → LesserOf w.width w.low row v.low) → WindowOf width limit (row ∷ rows) v
-window-add width limit rows w v row o width_is limit_is older newer first lesser =
-    let back : reverse (w.newer ++ row ∷ []) ≡ row ∷ reverse w.newer = reverse-append w.newer (row ∷ []) in
-    let turned : reverse v.newer ≡ row ∷ reverse w.newer = ap reverse newer ∙ back in
+pub window-add : (width limit : ℕ) (rows : List (List ℕ)) (w : Windowed) (row values low : List ℕ) → WindowOf width limit rows w → w.older + w.newer < w.limit → length row ≡ w.width → RowAdded row (w.newer * w.width) w.values values → (w.newer ≡ 0 → (i : ℕ) → i < length row → slice_index low i ≡ slice_index row i) → (0 < w.newer → LesserOf (length row) w.low row low) → WindowOf width limit (row ∷ rows) (record w { newer = w.newer + 1; values = values; low = low })
+window-add width limit rows w row values low o free wide added first lesser =
+    let newer_count = o.newer_count in
+    let older_count = o.older_count in
+    let same = o.limit_is in
+    let size : length row ≡ width = wide ∙ o.width_is in
+    let start : w.newer * w.width ≡ w.newer * width = ap (λ n. w.newer * n) o.width_is in
     record {
-      width_is = width_is ∙ o.width_is;
-      limit_is = limit_is ∙ o.limit_is;
+      width_is = o.width_is;
+      limit_is = o.limit_is;
       some = o.some;
+      newer = row ∷ o.newer;
       older = o.older;
-      parts = ap (λ xs. row ∷ xs) o.parts ∙ ap (λ xs. xs ++ o.older) (sym turned);
-      older_is = subst (λ (xs : List (List ℕ)). OlderOf width o.older xs) (sym older) o.older_is;
-      newer_is = λ some.
-          subst (λ (xs : List (List ℕ)). LowRow width xs v.low) (sym turned)
-          (new_low width w.newer w.low row v.low o.newer_is first (λ more. subst (λ (n : ℕ). LesserOf n w.low row v.low) o.width_is (lesser more)));
-    }
-
--- all newer rows have become older ones
-nothing : (xs : List (List ℕ)) → length xs ≡ 0 → reverse xs ≡ []
-nothing [] e = refl
-nothing (x ∷ xs) e = absurd (omega (arith, e))
-
-pub window-aged : (width limit : ℕ) (rows : List (List ℕ)) (w v : Windowed) → WindowOf width limit rows w → w.older ≡ [] → v.width ≡ w.width → v.limit ≡ w.limit → v.newer ≡ [] → OlderOf w.width (reverse w.newer) v.older → WindowOf width limit rows v
-window-aged width limit rows w v o none width_is limit_is newer older =
-    let count = o.older_is.count in
-    let empty = ap length none in
-    let alone : o.older ≡ [] = no_rows o.older (omega (arith, count, empty)) in
-    let whole : rows ≡ reverse w.newer = o.parts ∙ (ap (λ xs. reverse w.newer ++ xs) alone ∙ append-nil (reverse w.newer)) in
-    record {
-      width_is = width_is ∙ o.width_is;
-      limit_is = limit_is ∙ o.limit_is;
-      some = o.some;
-      older = rows;
-      parts = ap (λ xs. reverse xs ++ rows) (sym newer);
-      older_is = subst (λ (xs : List (List ℕ)). OlderOf width xs v.older) (sym whole) (subst (λ (n : ℕ). OlderOf n (reverse w.newer) v.older) o.width_is older);
-      newer_is = λ some. (let e = ap length newer in absurd (omega (arith, e, some)));
+      parts = ap (λ xs. row ∷ xs) o.parts;
+      newer_count = omega (arith, newer_count);
+      older_count = older_count;
+      newer_is = newer-added width o.newer row w.values values (w.newer * w.width) (ap₂ (λ a b. a * b) (sym newer_count) o.width_is) size added o.newer_is;
+      older_is = λ n slot i under slots inside.
+          let past = mul-le (w.newer + 1) slot width (omega (arith, under, slots, older_count, free, same)) in
+          subst (λ (v : ℕ). LowIn (take (n + 1) o.older) i v) (sym (added.after (slot * width + i) (omega (arith, past, start, size)))) (o.older_is n slot i under slots inside);
+      low_is = λ more.
+          new_low width o.newer w.low row low o.low_is
+          (λ none i under. first (omega (arith, none, newer_count)) i (omega (arith, under, size)))
+          (λ some. subst (λ (n : ℕ). LesserOf n w.low row low) size (lesser (omega (arith, some, newer_count))));
     }
   where
-    no_rows : (xs : List (List ℕ)) → length xs ≡ 0 → xs ≡ []
-    no_rows [] e = refl
-    no_rows (x ∷ xs) e = absurd (omega (arith, e))
+    newer-added : (width : ℕ) (newer : List (List ℕ)) (row old new : List ℕ) (start : ℕ) → start ≡ length newer * width → length row ≡ width → RowAdded row start old new → NewerOf width newer old → NewerOf width (row ∷ newer) new
+    newer-added width newer row old new start from size added before zero slot i under inside =
+        let last : slot ≡ length newer = omega (arith, under) in
+        ap (λ n. slice_index new (n + i)) (ap (λ n. n * width) last ∙ sym from) ∙ added.row_is i (omega (arith, inside, size))
+    newer-added width newer row old new start from size added before (suc n) slot i under inside =
+        let fewer : n + 1 + slot ≡ length newer = omega (arith, under) in
+        let less = slot-inside width (length newer) slot i (omega (arith, fewer)) inside in
+        added.before (slot * width + i) (omega (arith, less, from)) ∙ before n slot i fewer inside
 
--- the least of a number and, for each of a window's rows, 1 plus the row's number
-pub window-best : (width limit : ℕ) (rows : List (List ℕ)) (w : Windowed) (first i best : ℕ) → WindowOf width limit rows w → 0 < length w.newer → i < width → ((count : ℕ) (older : List (List ℕ)) → OlderOf count older w.older → i < count → BestOf first older i best) → BestOf first rows i (min best (1 + slice_index w.low i))
-window-best width limit rows w first i best o some under older =
+-- the least of a number and, for each older row, 1 plus the row's number
+pub best-none : (width limit : ℕ) (rows : List (List ℕ)) (w : Windowed) (first i : ℕ) → w.older ≡ 0 → (o : WindowOf width limit rows w) → BestOf first o.older i first
+best-none width limit rows w first i none o =
+    subst (λ (xs : List (List ℕ)). BestOf first xs i first) (sym (no_rows o.older (o.older_count ∙ none)))
+    (record { first_is = omega arith; each = tt; one = inl refl })
+
+pub best-older : (width limit : ℕ) (rows : List (List ℕ)) (w : Windowed) (first i : ℕ) → 0 < w.older → w.older ≤ w.limit → i < w.width → (o : WindowOf width limit rows w) → BestOf first o.older i (min first (1 + slice_index w.values ((w.limit - w.older) * w.width + i)))
+best-older width limit rows w first i more few under o =
+    let older_count = o.older_count in
+    let same = o.limit_is in
+    let wide = o.width_is in
+    let n = w.older - 1 in
+    let whole : take (n + 1) o.older ≡ o.older = take_all (n + 1) o.older (omega (arith, older_count)) in
+    let place : (w.limit - w.older) * width + i ≡ (w.limit - w.older) * w.width + i = ap (λ m. (w.limit - w.older) * m + i) (sym wide) in
+    best-low o.older first i (slice_index w.values ((w.limit - w.older) * w.width + i))
+    (subst (λ (xs : List (List ℕ)). LowIn xs i (slice_index w.values ((w.limit - w.older) * w.width + i))) whole
+    (subst (λ (p : ℕ). LowIn (take (n + 1) o.older) i (slice_index w.values p)) place
+    (o.older_is n (w.limit - w.older) i (omega (arith, older_count, more)) (omega (arith, more, few, same)) (omega (arith, under, wide)))))
+
+-- the least of a number and, for each row, 1 plus the row's number
+pub window-best : (width limit : ℕ) (rows : List (List ℕ)) (w : Windowed) (first i best : ℕ) → 0 < w.newer → i < w.width → (o : WindowOf width limit rows w) → BestOf first o.older i best → BestOf first rows i (min best (1 + slice_index w.low i))
+window-best width limit rows w first i best some under o older =
+    let count = o.newer_count in
+    let wide = o.width_is in
     subst (λ (xs : List (List ℕ)). BestOf first xs i (min best (1 + slice_index w.low i))) (sym o.parts)
-    (best-both o.older (reverse w.newer) first i best (slice_index w.low i) (older width o.older o.older_is under) (o.newer_is some i under))
+    (best-both o.older o.newer first i best (slice_index w.low i) older (o.low_is (omega (arith, some, count)) i (omega (arith, under, wide))))
 
-pub window-best_older : (width limit : ℕ) (rows : List (List ℕ)) (w : Windowed) (first i best : ℕ) → WindowOf width limit rows w → length w.newer ≡ 0 → i < width → ((count : ℕ) (older : List (List ℕ)) → OlderOf count older w.older → i < count → BestOf first older i best) → BestOf first rows i best
-window-best_older width limit rows w first i best o none under older =
-    subst (λ (xs : List (List ℕ)). BestOf first xs i best) (sym (o.parts ∙ ap (λ xs. xs ++ o.older) (nothing w.newer none))) (older width o.older o.older_is under)
+pub window-best_older : (width limit : ℕ) (rows : List (List ℕ)) (w : Windowed) (first i best : ℕ) → w.newer ≡ 0 → (o : WindowOf width limit rows w) → BestOf first o.older i best → BestOf first rows i best
+window-best_older width limit rows w first i best none o older =
+    subst (λ (xs : List (List ℕ)). BestOf first xs i best) (sym (o.parts ∙ ap (λ xs. xs ++ o.older) (no_rows o.newer (o.newer_count ∙ none)))) older

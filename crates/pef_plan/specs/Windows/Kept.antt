@@ -1,10 +1,9 @@
--- The invariants of a window's tables.
-use Rattle.std.specs.Prelude.{◌≡◌, ◌≤◌, ◌<◌, ℕ, ◌+◌, List, length}
-use Rattle.pef_cert.specs.Rows.{LaidRows}
+-- The invariant of a window's numbers.
+use Rattle.std.specs.Prelude.{◌≡◌, ◌≤◌, ◌<◌, ℕ, ◌+◌, ◌*◌, List, length}
 
-pub record WindowFull (width limit : ℕ) (older newer : LaidRows) (low : List ℕ) : Type 0 where
+pub record WindowFull (width limit older newer : ℕ) (values low : List ℕ) : Type 0 where
   pub some : 0 < limit
-  pub older_wide : older.width ≡ width
-  pub newer_wide : newer.width ≡ width
-  pub low_wide : 0 < length newer.rows → length low ≡ width
-  pub within : length older.rows + length newer.rows ≤ limit
+  pub within : older + newer ≤ limit
+  pub newer_inside : newer * width ≤ length values
+  pub older_inside : 0 < older → limit * width ≤ length values
+  pub low_wide : 0 < length values → length low ≡ width

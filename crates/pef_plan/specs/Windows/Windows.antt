@@ -1,5 +1,5 @@
 -- Windows of rows of numbers, and the least of the rows at each place.
-use Rattle.std.specs.Prelude.{◌≡◌, ◌≤◌, ◌<◌, ◌⊎◌, ℕ, ◌+◌, ◌-◌, min, Bool, true, false, List, [], ◌∷◌, ◌++◌, Option, None, Some, length, reverse, slice_index, slice_index_or, take}
+use Rattle.std.specs.Prelude.{◌≡◌, ◌≤◌, ◌<◌, ◌⊎◌, ℕ, ◌+◌, ◌-◌, ◌*◌, min, Bool, true, false, List, [], ◌∷◌, ◌++◌, Option, None, Some, length, slice_index, slice_index_or, take}
 
 -- a value is at most each number of some rows at a place, plus an addend
 abbrev pub AtMostEach : ℕ → ℕ → List (List ℕ) → ℕ → Type 0
@@ -24,17 +24,33 @@ LowRow width rows low = (i : ℕ) → i < width → LowIn rows i (slice_index lo
 abbrev pub LesserOf : ℕ → List ℕ → List ℕ → List ℕ → Type 0
 LesserOf width one other row = (i : ℕ) → i < width → slice_index row i ≡ min (slice_index one i) (slice_index other i)
 
--- the minima that replace the older rows, the newest row first
-pub record OlderOf (width : ℕ) (rows lows : List (List ℕ)) : Type 0 where
-  pub count : length lows ≡ length rows
-  pub low : (i : ℕ) → i < length rows → LowRow width (take (i + 1) rows) (slice_index_or lows i [])
+-- numbers with some rows, the newest row last. The rows are given with the newest first
+abbrev pub NewerOf : ℕ → List (List ℕ) → List ℕ → Type 0
+NewerOf width rows values = (n slot i : ℕ) → n + 1 + slot ≡ length rows → i < width → slice_index values (slot * width + i) ≡ slice_index (slice_index_or rows n []) i
+
+-- numbers that end, after `limit` rows, with the minima in place of some rows, the oldest row first. The rows are
+-- given with the newest first
+abbrev pub OlderOf : ℕ → ℕ → List (List ℕ) → List ℕ → Type 0
+OlderOf width limit rows values = (n slot i : ℕ) → n < length rows → n + 1 + slot ≡ limit → i < width → LowIn (take (n + 1) rows) i (slice_index values (slot * width + i))
+
+-- each of the first numbers is lowered to the one of the next row
+pub record LowToNext (width count : ℕ) (old new : List ℕ) : Type 0 where
+  pub lower : (i : ℕ) → i + width < count → slice_index new i ≡ min (slice_index old i) (slice_index new (i + width))
+  pub last : (i : ℕ) → count ≤ i + width → slice_index new i ≡ slice_index old i
+
+-- a row is written at an index
+pub record RowAdded (row : List ℕ) (start : ℕ) (old new : List ℕ) : Type 0 where
+  pub row_is : (i : ℕ) → i < length row → slice_index new (start + i) ≡ slice_index row i
+  pub before : (i : ℕ) → i < start → slice_index new i ≡ slice_index old i
+  pub after : (i : ℕ) → start + length row ≤ i → slice_index new i ≡ slice_index old i
 
 -- the model of a window
 pub record Windowed : Type 0 where
   pub width : ℕ
   pub limit : ℕ
-  pub older : List (List ℕ)
-  pub newer : List (List ℕ)
+  pub older : ℕ
+  pub newer : ℕ
+  pub values : List ℕ
   pub low : List ℕ
 
 -- a window has rows, the newest first
@@ -42,10 +58,14 @@ pub record WindowOf (width limit : ℕ) (rows : List (List ℕ)) (w : Windowed) 
   pub width_is : w.width ≡ width
   pub limit_is : w.limit ≡ limit
   pub some : 0 < limit
+  pub newer : List (List ℕ)
   pub older : List (List ℕ)
-  pub parts : rows ≡ reverse w.newer ++ older
-  pub older_is : OlderOf width older w.older
-  pub newer_is : 0 < length w.newer → LowRow width (reverse w.newer) w.low
+  pub parts : rows ≡ newer ++ older
+  pub newer_count : length newer ≡ w.newer
+  pub older_count : length older ≡ w.older
+  pub newer_is : NewerOf width newer w.values
+  pub older_is : OlderOf width limit older w.values
+  pub low_is : 0 < length newer → LowRow width newer w.low
 
 -- a value is the least of a first one and, for each of some rows, 1 plus the row's number at a place
 pub record BestOf (first : ℕ) (rows : List (List ℕ)) (i value : ℕ) : Type 0 where

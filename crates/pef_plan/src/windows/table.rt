@@ -130,7 +130,7 @@ fn write_row(values: &mut Vec<u32>, start: usize, row: &[u32]) -> Result<(), All
 /// Copies a row to the front of some numbers. Rows are short, and then this is faster than a copy by the
 /// library.
 #[inline(always)]
-pub(crate) fn copy_row(row: &[u32], numbers: &mut [u32])
+fn copy_row(row: &[u32], numbers: &mut [u32])
     requires { length row.now ≤ length numbers.old }
     ensures { numbers.new ≡ row.now ++ drop (length row.now) numbers.old }
 {

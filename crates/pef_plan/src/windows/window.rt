@@ -1,8 +1,7 @@
-ghost use Rattle.std.specs.Prelude.{◌≡◌, ◌+◌, ◌-◌, ◌^◌, ◌<◌, ◌⊎◌, ◌++◌, ◌∷◌, ℕ, [], List, OnOk, length, min, reverse, slice_index, take};
-ghost use Rattle.pef_plan.specs.Windows.Windows.{BestOf, LesserOf, OlderOf, WindowOf, rows_brought};
+ghost use Rattle.std.specs.Prelude.{◌≡◌, ◌+◌, ◌-◌, ◌*◌, ◌<◌, ◌≤◌, ◌∷◌, ℕ, [], List, OnOk, length, slice_index, take};
+ghost use Rattle.pef_plan.specs.Windows.Windows.{BestOf, LesserOf, LowToNext, RowAdded, WindowOf, rows_brought};
 
 use crate::windows::looks::Looks;
-use crate::windows::table::{Table, copy_row};
 use std::alloc::{AllocError, Global};
 use std::marker::Model;
 
@@ -14,10 +13,13 @@ use std::marker::Model;
 pub struct Window {
     width: usize,
     limit: usize,
-    /// The minima in place of the older rows, the oldest last.
-    older: Table,
-    /// The newer rows, the newest last.
-    newer: Table,
+    /// The number of older rows.
+    older: usize,
+    /// The number of newer rows.
+    newer: usize,
+    /// The numbers of up to `limit` rows. The newer rows are the first ones, the newest last. The minima in place
+    /// of the older rows are the last ones, the oldest first.
+    values: Vec<u32>,
     /// The least number of the newer rows at each place, if there are any.
     low: Vec<u32>,
 }
@@ -28,9 +30,9 @@ impl Model for Window {
 
     ghost Value = { Windowed };
 
-    ghost view = { λ w. record { width = w.width; limit = w.limit; older = w.older.rows; newer = w.newer.rows; low = w.low.items } };
+    ghost view = { λ w. record { width = w.width; limit = w.limit; older = w.older; newer = w.newer; values = w.values.items; low = w.low.items } };
 
-    ghost invariant = { λ w. WindowFull w.width w.limit w.older w.newer w.low.items };
+    ghost invariant = { λ w. WindowFull w.width w.limit w.older w.newer w.values.items w.low.items };
 }
 
 impl Window {
@@ -42,8 +44,9 @@ impl Window {
         Window {
             width,
             limit,
-            older: Table::new(alloc, width),
-            newer: Table::new(alloc, width),
+            older: 0,
+            newer: 0,
+            values: Vec::new(alloc),
             low: Vec::new(alloc),
         }
     }
@@ -54,8 +57,8 @@ impl Window {
         ensures width { self.new.width ≡ self.old.width }
         ensures gone { (width limit : ℕ) (rows : List (List ℕ)) → WindowOf width limit rows self.old → WindowOf width limit [] self.new }
     {
-        self.older.clear();
-        self.newer.clear();
+        self.older = 0;
+        self.newer = 0;
     }
 
     /// Moves the window to a place at which a run begins. Older rows stay only if the run goes on after its first
@@ -69,12 +72,10 @@ impl Window {
         requires { length row.now ≡ self.old.width }
         ensures { OnOk result ((width limit : ℕ) (rows : List (List ℕ)) → WindowOf width limit rows self.old → WindowOf width limit (rows_brought goes_on limit rows row.now) self.new) }
     {
-        if goes_on {
-            self.add(row, looks)
-        } else {
+        if !goes_on {
             self.clear();
-            self.add(row, looks)
         }
+        self.add(row, looks)
     }
 
     /// Adds a row, and removes the oldest one if there are too many. Each number of a row is looked at when the
@@ -88,60 +89,99 @@ impl Window {
         requires { length row.now ≡ self.old.width }
         ensures { OnOk result ((width limit : ℕ) (rows : List (List ℕ)) → WindowOf width limit rows self.old → WindowOf width limit (row.now ∷ take (limit - 1) rows) self.new) }
     {
-        self.make_room(looks)?;
+        self.make_room(looks);
         looks.add(row.len() as u64);
-        self.lower_to(row)?;
-        self.newer.push(row)?;
-        Ok(())
-    }
-
-    /// Lowers the minimum of the newer rows to include one more row.
-    #[inline(always)]
-    fn lower_to(&mut self, row: &[u32]) -> Result<(), AllocError>
-        requires { length row.now ≡ self.old.width }
-        ensures width { self.new.width ≡ self.old.width }
-        ensures limit { self.new.limit ≡ self.old.limit }
-        ensures older { self.new.older ≡ self.old.older }
-        ensures newer { self.new.newer ≡ self.old.newer }
-        ensures wide { OnOk result (length self.new.low ≡ self.old.width) }
-        ensures first { OnOk result (length self.old.newer ≡ 0 → self.new.low ≡ row.now) }
-        ensures lesser { OnOk result (0 < length self.old.newer → LesserOf self.old.width self.old.low row.now self.new.low) }
-    {
-        if self.newer.rows() == 0 {
-            replace(&mut self.low, row)?;
-        } else {
-            lower(&mut self.low, row);
-        }
+        self.reserve(row)?;
+        self.write(row);
         Ok(())
     }
 
     /// Removes the oldest row if the window is full.
     #[inline(always)]
-    fn make_room(&mut self, looks: Looks<'_>) -> Result<(), AllocError>
+    fn make_room(&mut self, looks: Looks<'_>)
         ensures width { self.new.width ≡ self.old.width }
-        ensures free { OnOk result (length self.new.older + length self.new.newer < self.new.limit) }
-        ensures room { OnOk result ((width limit : ℕ) (rows : List (List ℕ)) → WindowOf width limit rows self.old → WindowOf width limit (take (limit - 1) rows) self.new) }
+        ensures free { self.new.older + self.new.newer < self.new.limit }
+        ensures room { (width limit : ℕ) (rows : List (List ℕ)) → WindowOf width limit rows self.old → WindowOf width limit (take (limit - 1) rows) self.new }
     {
-        if self.older.rows() + self.newer.rows() < self.limit {
-            return Ok(());
+        if self.older + self.newer < self.limit {
+            return;
         }
-        self.age(looks)?;
-        self.older.pop();
+        if self.older == 0 {
+            self.age(looks);
+        }
+        self.older -= 1;
+    }
+
+    /// Turns the newer rows into older ones. All rows of the full window are newer ones.
+    #[inline(never)]
+    fn age(&mut self, looks: Looks<'_>)
+        requires full { self.old.newer ≡ self.old.limit }
+        ensures width { self.new.width ≡ self.old.width }
+        ensures limit { self.new.limit ≡ self.old.limit }
+        ensures older { self.new.older ≡ self.old.limit }
+        ensures newer { self.new.newer ≡ 0 }
+        ensures same { (width limit : ℕ) (rows : List (List ℕ)) → WindowOf width limit rows self.old → WindowOf width limit rows self.new }
+    {
+        let count = self.limit * self.width;
+        looks.add(count as u64);
+        lower_to_next(&mut self.values, self.width, count);
+        self.older = self.limit;
+        self.newer = 0;
+    }
+
+    /// Ensures that the numbers have room for one more newer row.
+    #[inline(always)]
+    fn reserve(&mut self, row: &[u32]) -> Result<(), AllocError>
+        requires wide { length row.now ≡ self.old.width }
+        requires free { self.old.older + self.old.newer < self.old.limit }
+        ensures width { self.new.width ≡ self.old.width }
+        ensures limit { self.new.limit ≡ self.old.limit }
+        ensures older { self.new.older ≡ self.old.older }
+        ensures newer { self.new.newer ≡ self.old.newer }
+        ensures room { OnOk result (self.old.newer * self.old.width + self.old.width ≤ length self.new.values) }
+        ensures low { OnOk result (self.old.width ≤ length self.new.low) }
+        ensures same { OnOk result ((width limit : ℕ) (rows : List (List ℕ)) → WindowOf width limit rows self.old → WindowOf width limit rows self.new) }
+    {
+        let start = self.newer * self.width;
+        if self.values.len() - start < row.len() {
+            return self.grow(start + row.len());
+        }
         Ok(())
     }
 
-    /// Ensures that there are older rows, if there are any rows.
-    fn age(&mut self, looks: Looks<'_>) -> Result<(), AllocError>
+    /// Lengthens the list of numbers to a count. The rows stay the same.
+    #[inline(never)]
+    fn grow(&mut self, count: usize) -> Result<(), AllocError>
+        requires some { 0 < self.old.width }
+        requires more { length self.old.values < count }
         ensures width { self.new.width ≡ self.old.width }
         ensures limit { self.new.limit ≡ self.old.limit }
-        ensures count { length self.new.older + length self.new.newer ≡ length self.old.older + length self.old.newer }
+        ensures older { self.new.older ≡ self.old.older }
+        ensures newer { self.new.newer ≡ self.old.newer }
+        ensures count { OnOk result (length self.new.values ≡ count) }
+        ensures low { OnOk result (length self.new.low ≡ self.old.width) }
         ensures same { OnOk result ((width limit : ℕ) (rows : List (List ℕ)) → WindowOf width limit rows self.old → WindowOf width limit rows self.new) }
-        ensures some { OnOk result ((length self.new.newer ≡ 0) ⊎ (0 < length self.new.older)) }
     {
-        if self.older.rows() > 0 || self.newer.rows() == 0 {
-            return Ok(());
+        self.low.resize(self.width, 0)?;
+        self.values.resize(count, 0)
+    }
+
+    /// Writes a newer row into the numbers.
+    #[inline(always)]
+    fn write(&mut self, row: &[u32])
+        requires wide { length row.now ≡ self.old.width }
+        requires free { self.old.older + self.old.newer < self.old.limit }
+        requires room { self.old.newer * self.old.width + self.old.width ≤ length self.old.values }
+        requires low { self.old.width ≤ length self.old.low }
+        ensures { (width limit : ℕ) (rows : List (List ℕ)) → WindowOf width limit rows self.old → WindowOf width limit (row.now ∷ rows) self.new }
+    {
+        if self.newer == 0 {
+            write_first(row, &mut self.values, &mut self.low);
+        } else {
+            let start = self.newer * self.width;
+            write_next(row, start, &mut self.values, &mut self.low);
         }
-        age_all(&mut self.older, &mut self.newer, &mut self.low, looks)
+        self.newer += 1;
     }
 
     /// Returns the least of a number and, for each row, 1 plus its number at a place.
@@ -150,7 +190,7 @@ impl Window {
         ensures { (width limit : ℕ) (rows : List (List ℕ)) → WindowOf width limit rows self.now → BestOf first rows place result }
     {
         let best = self.older_best(first, place);
-        if self.newer.rows() == 0 {
+        if self.newer == 0 {
             best
         } else {
             best.min(1 + u64::from(self.low[place]))
@@ -160,64 +200,59 @@ impl Window {
     /// Returns the least of a number and, for each older row, 1 plus its number at a place.
     fn older_best(&self, first: u64, place: usize) -> u64
         requires { place < self.now.width }
-        ensures { (width : ℕ) (rows : List (List ℕ)) → OlderOf width rows self.now.older → place < width → BestOf first rows place result }
+        ensures { (width limit : ℕ) (rows : List (List ℕ)) → (window : WindowOf width limit rows self.now) → BestOf first window.older place result }
     {
-        match self.older.last() {
-            Some(low) => first.min(1 + u64::from(low[place])),
-            None => first,
+        if self.older == 0 {
+            return first;
         }
+        let oldest = (self.limit - self.older) * self.width;
+        first.min(1 + u64::from(self.values[oldest + place]))
     }
 }
 
-/// Turns the newer rows into older ones, the newest first. `low` has their minimum so far.
-fn age_all(
-    older: &mut Table,
-    newer: &mut Table,
-    low: &mut [u32],
-    looks: Looks<'_>,
-) -> Result<(), AllocError>
-    requires none { older.old.rows ≡ [] }
-    requires width { older.old.width ≡ newer.old.width }
-    requires low { length low.old ≡ newer.old.width }
-    requires room { length newer.old.rows < 2 ^ 64 }
-    ensures older_width { older.new.width ≡ older.old.width }
-    ensures newer_width { newer.new.width ≡ newer.old.width }
-    ensures count { length older.new.rows + length newer.new.rows ≡ length newer.old.rows }
-    ensures none { OnOk result (newer.new.rows ≡ []) }
-    ensures older { OnOk result (OlderOf newer.old.width (reverse newer.old.rows) older.new.rows) }
+/// Lowers each of the first `count` numbers to the least one at its place in its row and all later rows.
+fn lower_to_next(values: &mut [u32], width: usize, count: usize)
+    requires some { width ≤ count }
+    requires inside { count ≤ length values.old }
+    ensures len { length values.new ≡ length values.old }
+    ensures lower { LowToNext width count values.old values.new }
 {
-    if let Some(newest) = newer.last() {
-        low.copy_from_slice(newest);
+    let mut place = count - width;
+    'places: while place > 0 {
+        place -= 1;
+        values[place] = values[place].min(values[place + width]);
     }
-    'rows: while let Some(row) = newer.last() {
-        looks.add(row.len() as u64);
-        lower(low, row);
-        older.push(low)?;
-        newer.pop();
-    }
-    Ok(())
 }
 
-/// Replaces numbers by those of a row.
+/// Writes a row at the front of the numbers, and also as the least numbers.
 #[inline(always)]
-fn replace(numbers: &mut Vec<u32>, row: &[u32]) -> Result<(), AllocError>
-    ensures { OnOk result (numbers.new.items ≡ row.now) }
+fn write_first(row: &[u32], values: &mut [u32], low: &mut [u32])
+    requires values { length row.now ≤ length values.old }
+    requires low { length row.now ≤ length low.old }
+    ensures values_len { length values.new ≡ length values.old }
+    ensures low_len { length low.new ≡ length low.old }
+    ensures added { RowAdded row.now 0 values.old values.new }
+    ensures first { (i : ℕ) → i < length row.now → slice_index low.new i ≡ slice_index row.now i }
 {
-    if numbers.len() != row.len() {
-        numbers.clear();
-        return numbers.extend_from_slice(row);
+    'places: for place in 0..row.len() {
+        values[place] = row[place];
+        low[place] = row[place];
     }
-    copy_row(row, numbers);
-    Ok(())
 }
 
-/// Lowers each number to the one of a row, if that is less.
-fn lower(low: &mut [u32], row: &[u32])
-    requires { length row.now ≡ length low.old }
-    ensures len { length low.new ≡ length low.old }
+/// Writes a row at an index of the numbers, and lowers the least numbers to include the row.
+#[inline(always)]
+fn write_next(row: &[u32], start: usize, values: &mut [u32], low: &mut [u32])
+    requires values { start + length row.now ≤ length values.old }
+    requires low { length row.now ≤ length low.old }
+    ensures values_len { length values.new ≡ length values.old }
+    ensures low_len { length low.new ≡ length low.old }
+    ensures added { RowAdded row.now start values.old values.new }
     ensures lesser { LesserOf (length row.now) low.old row.now low.new }
 {
-    for i in 0..row.len() {
-        low[i] = low[i].min(row[i]);
+    'places: for place in 0..row.len() {
+        let number = row[place];
+        values[start + place] = number;
+        low[place] = low[place].min(number);
     }
 }
