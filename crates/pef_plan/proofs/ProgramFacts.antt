@@ -21,7 +21,7 @@ use Rattle.pef_plan.specs.declared.runs.state.PlanState.{PlanState}
 use Rattle.pef_plan.specs.declared.runs.state.Step.{Step}
 use Rattle.pef_plan.specs.Runs.Places.{InPlace, extension_in}
 use Rattle.pef_plan.specs.Kept.Steps.{Falls, ReadTo, Tracked, labels_tabled, most_halfwords, most_position}
-use Rattle.pef_plan.specs.Runs.Tables.{Agrees, SameLabels}
+use Rattle.pef_plan.specs.Runs.Tables.{Agrees, SameLabels, Shaped}
 use Rattle.pef_plan.specs.Kept.Tables.{TablesOf}
 use Rattle.pef_plan.specs.Reached.{ReachedFrom}
 use Rattle.pef_plan.proofs.FillLemmas.{counts-all, index-small, known_shaped}
@@ -142,6 +142,11 @@ read_next k fixups instrs p x r f =
 same_tabled : (k : SolvedSuffix) (n : ℕ) → SameLabels (labels_tabled k) k.registers.now k.labels.now.rows n
 same_tabled k n = record { registers_are = refl; label_is = λ left c d under under_c under_d. refl }
 
+-- the tables cover all fixups
+pub tables_shaped : (k : SolvedSuffix) (fixups : List Fixup) → fixups_fit fixups ≡ true → RegistersOf fixups k.registers.now → TablesOf k.registers.now k.labels.now k.skips.now 0 fixups → Shaped k (length fixups)
+tables_shaped k fixups fit right t =
+    known_shaped fixups k.registers.now k.labels.now.rows k.skips.now.rows k 0 fixups fit right (omega arith) t.tabled (record { registers_are = refl; labels_are = refl; skips_are = refl; labels_wide = t.labels_wide; skips_wide = t.skips_wide })
+
 -- the empty program, at the start
 pub read_start : (k : SolvedSuffix) (p : PlanState) → fixups_fit p.left.now ≡ true → RegistersOf p.left.now k.registers.now → TablesOf k.registers.now k.labels.now k.skips.now 0 p.left.now → p.import_index ≡ 0 → InPlace k.registers.now p start → ReadTo k p.left.now [] p
 read_start k p fit right t index in_place =
@@ -149,7 +154,7 @@ read_start k p fit right t index in_place =
     let same = same_tabled k (length p.left.now) in
     let tracked : Tracked k p = record {
       sections = record { rising = right.rising; below = λ j among. used_section-below p.left.now j fit (sym (right.used j) ∙ among) };
-      shaped = known_shaped p.left.now k.registers.now k.labels.now.rows k.skips.now.rows k 0 p.left.now fit right (omega arith) t.tabled (record { registers_are = refl; labels_are = refl; skips_are = refl; labels_wide = t.labels_wide; skips_wide = t.skips_wide });
+      shaped = tables_shaped k p.left.now fit right t;
       c = (let under = class_of-below l 0 in let e = in_place.c in omega (arith, under, e));
       d = (let under = class_of-below l 1 in let e = in_place.d in omega (arith, under, e));
       fit = each_fits p.left.now fit;

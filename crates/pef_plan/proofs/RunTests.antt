@@ -1,6 +1,6 @@
 -- Runs against the tests of a label.
-use Rattle.std.proofs.Common.{◌≡◌, ℕ, suc, ◌+◌, ◌≤◌, true, ◌==◌, List, ◌∷◌, ◌++◌, ap, ◌∙◌, subst}
-use Rattle.std.proofs.lemmas.Bool.{and_from, le-leb}
+use Rattle.std.proofs.Common.{◌≡◌, ℕ, suc, ◌+◌, ◌<◌, ◌≤◌, refl, true, ◌==◌, List, ◌∷◌, ◌++◌, ap, ◌∙◌, subst}
+use Rattle.std.proofs.lemmas.Bool.{and_from, le-leb, lt-leb}
 use Rattle.pef_reloc.specs.declared.fixup.Base.TheVariants.{Section, Import}
 use Rattle.pef_reloc.specs.declared.fixup.Fixup.{Fixup}
 use Rattle.pef_cert.specs.Labels.{Labels, class_of}
@@ -11,7 +11,7 @@ use Rattle.pef_plan.specs.declared.runs.suffix.SolvedSuffix.{SolvedSuffix}
 use Rattle.pef_plan.specs.declared.runs.state.OpenState.{OpenState}
 use Rattle.pef_plan.specs.declared.runs.run.Run.{Run}
 use Rattle.pef_plan.specs.declared.runs.run.Run.TheVariants.{WordsOfC, WordsOfD, Spaced, Pairs, SpacedPairs, Imports}
-use Rattle.pef_plan.specs.Runs.Places.{HereOf}
+use Rattle.pef_plan.specs.Runs.Places.{HereOf, bound_of}
 use Rattle.pef_plan.specs.Runs.Runs.{Ends, EndsFrom, limit}
 use Rattle.pef_words.proofs.Laws.Tests.{or_either}
 use Rattle.pef_plan.specs.Kept.Met.{MetInC, MetInD, PairsMet}
@@ -50,6 +50,10 @@ imports_met l k h import n here at next ends =
     subst (λ (m : ℕ). numbered_test l n h.place.c h.place.d 512 h.first.offset m (h.first ∷ h.others.now) ≡ true) next
     (numbered_test-met l n _ _ 512 _ _ _ (λ j left under is.
     ends_here l k h Imports n here at ends j left under (is ∙ ap (λ fs. fs ++ left) (units_imports (suc j) h.first.offset h.place.import_index))))
+
+-- the bound of a choice above the label is its value
+pub bound-above : (label value : ℕ) → label < value → bound_of label value ≡ value
+bound-above label value above = rw (lt-leb value label above) refl
 
 -- all runs that can begin by adding a section
 pub section_met : (l : Labels) (h : OpenState) (index k value : ℕ) → value ≤ 1 + extension l h.others.now (h.first.offset + 4) h.place.c h.place.d → ((class_of l.registers k == h.place.c) ≡ true → MetInC l h k value) → ((class_of l.registers k == h.place.d) ≡ true → MetInD l h k value) → base_test l value index h.first h.others.now h.place.c h.place.d (Section k) ≡ true

@@ -44,6 +44,11 @@ best_skip-is l k h words section value first here agrees base holds is attained 
     let equal : least.value ≡ value = omega (arith, low, worth, high) in
     least.is ∙ ap Some equal
 
+-- the best skip has at least one halfword
+pub skip_some : (l : Labels) (h : OpenState) (words section value first after : ℕ) → first ≡ 1 + after → (value ≡ first) ⊎ EndOf l (Skip words section) h h.first.offset value → 0 < value
+skip_some l h words section value first after is (inl same) = omega (arith, is, same)
+skip_some l h words section value first after is (inr end) = let worth = end.is in omega (arith, worth)
+
 pub skip_unit : (h : OpenState) (words section : ℕ) → h.first.base ≡ Section section → h.first ∷ [] ≡ unit (Skip words section) h.first.offset h.place.import_index
 skip_unit h words section base =
     let word : h.first ≡ added h.first.offset (Section section) = (λ i. record { offset = h.first.offset; base = base i }) in

@@ -1,12 +1,13 @@
-ghost use Rattle.std.specs.Prelude.{◌≡◌, IfOk, true};
+ghost use Rattle.std.specs.Prelude.{◌≡◌, IfOk, length, true};
 ghost use Rattle.pef_cert.specs.Valid.{RegistersOf};
-ghost use Rattle.pef_plan.specs.Kept.Steps.{FallsOn, TrackedHere};
+ghost use Rattle.pef_plan.specs.Kept.Steps.{FallsOn, RowsAt, TrackedHere};
 ghost use Rattle.pef_plan.specs.Kept.Tables.{TablesOf};
+ghost use Rattle.pef_plan.specs.Runs.Tables.{Shaped};
 ghost use Rattle.pef_reloc.specs.Fixups.{fixups_fit};
 ghost use Rattle.pef_reloc.specs.Steps.{Least};
 
 use crate::reading::{step_at, step_to};
-use crate::runs::{OpenState, PlanState, SolvedSuffix, Step};
+use crate::runs::{NearRows, OpenState, PlanState, SolvedSuffix, Step};
 use pef_cert::class_of;
 use pef_reloc::{Fixup, Instr};
 use std::alloc::{AllocError, Global};
@@ -30,30 +31,62 @@ pub(crate) fn least_program<'a>(
         c: class_of(known.registers, 0),
         d: class_of(known.registers, 1),
     };
+    let mut rows = rows_of(known, fixups.len());
     'steps: while let Some((first, others)) = place.left.split_first() {
         let first = *first;
-        let step = next_step(
-            known,
-            OpenState {
-                place,
-                first,
-                others,
-            },
-        );
+        let here = OpenState {
+            place,
+            first,
+            others,
+        };
+        let step = next_step(known, here, rows);
         program.push(step.instr)?;
         place = step.next;
+        rows = rows_from(known, rows, place.left.len());
     }
     Ok(program)
 }
 
+/// Returns the labels for a number of fixups left, and for one fixup fewer.
+fn rows_of<'a>(known: SolvedSuffix<'a>, left: usize) -> NearRows<'a>
+    requires { Shaped known left }
+    ensures { RowsAt known.entry left result }
+{
+    NearRows {
+        left,
+        here: known.row(left),
+        after: known.row(left.saturating_sub(1)),
+    }
+}
+
+/// Returns the same, without a search for the labels that are among the last ones.
+fn rows_from<'a>(known: SolvedSuffix<'a>, last: NearRows<'a>, left: usize) -> NearRows<'a>
+    requires shaped { Shaped known left }
+    requires last { RowsAt known last.left last }
+    ensures { RowsAt known.entry left result }
+{
+    if left == last.left {
+        return last;
+    }
+    if left + 1 != last.left {
+        return rows_of(known, left);
+    }
+    NearRows {
+        left,
+        here: last.after,
+        after: known.row(left.saturating_sub(1)),
+    }
+}
+
 /// Returns the next step of a least program.
-fn next_step<'a>(known: SolvedSuffix<'a>, here: OpenState<'a>) -> Step<'a>
-    requires { TrackedHere known here }
+fn next_step<'a>(known: SolvedSuffix<'a>, here: OpenState<'a>, rows: NearRows<'a>) -> Step<'a>
+    requires here { TrackedHere known here }
+    requires rows { RowsAt known (length here.place.left.now) rows }
     ensures { FallsOn known.entry here.entry.place result }
 {
     if here.place.position == u64::from(here.first.offset) {
-        step_at(known, here)
+        step_at(known, here, rows)
     } else {
-        step_to(known, here)
+        step_to(known, here, rows.here)
     }
 }

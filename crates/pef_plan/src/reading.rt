@@ -1,24 +1,30 @@
-ghost use Rattle.std.specs.Prelude.{◌≡◌, ◌≢◌, ◌-◌, ◌/◌};
-ghost use Rattle.pef_plan.specs.Kept.Steps.{FallsOn, SkipsTo, TrackedHere};
+ghost use Rattle.std.specs.Prelude.{◌≡◌, ◌≢◌, ◌-◌, ◌/◌, length};
+ghost use Rattle.pef_plan.specs.Kept.Steps.{FallsOn, RowsAt, SkipsTo, TrackedHere};
+ghost use Rattle.pef_plan.specs.Runs.Tables.{IsRow};
 ghost use Rattle.pef_reloc.specs.declared.fixup.Base.TheVariants.{Section};
 
 use crate::direct::direct;
 use crate::moves::{increment, label_of, set_c, set_d, set_position};
-use crate::runs::{LabelledSuffix, OpenState, PlanState, SolvedSuffix, Step};
+use crate::runs::{LabelledSuffix, NearRows, OpenState, PlanState, SolvedSuffix, Step};
 use crate::skips::best_skip;
 use pef_cert::{REACH, SKIP_REACH, WORD, class_of};
 use pef_reloc::Base;
 
 /// Returns the next step of a least program from a position at the next fixup.
-pub(crate) fn step_at<'a>(known: SolvedSuffix<'a>, here: OpenState<'a>) -> Step<'a>
+pub(crate) fn step_at<'a>(
+    known: SolvedSuffix<'a>,
+    here: OpenState<'a>,
+    rows: NearRows<'a>,
+) -> Step<'a>
     requires here { TrackedHere known here }
+    requires rows { RowsAt known (length here.place.left.now) rows }
     requires at { here.place.position ≡ here.first.offset }
     ensures { FallsOn known.entry here.entry.place result }
 {
-    let best = direct(known, here);
     let PlanState { c, d, .. } = here.place;
-    let row = known.row(here.place.left.len());
+    let row = rows.here;
     let label = label_of(known, row, c, d);
+    let best = direct(known, here, rows.after, label);
     if best.value <= label {
         return best.step;
     }
@@ -34,14 +40,16 @@ pub(crate) fn step_at<'a>(known: SolvedSuffix<'a>, here: OpenState<'a>) -> Step<
 }
 
 /// Returns the next step of a least program from a position before or after the next fixup.
-pub(crate) fn step_to<'a>(known: SolvedSuffix<'a>, here: OpenState<'a>) -> Step<'a>
+///
+/// `row` has the labels at the fixup.
+pub(crate) fn step_to<'a>(known: SolvedSuffix<'a>, here: OpenState<'a>, row: &'a [u32]) -> Step<'a>
     requires here { TrackedHere known here }
+    requires row { IsRow known (length here.place.left.now) row.now }
     requires away { here.place.position ≢ here.first.offset }
     ensures { FallsOn known.entry here.entry.place result }
 {
     let place = here.place;
     let ahead = u64::from(here.first.offset).saturating_sub(place.position);
-    let row = known.row(place.left.len());
     let label = label_of(known, row, place.c, place.d);
     let at = LabelledSuffix {
         row,

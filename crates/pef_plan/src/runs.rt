@@ -11,5 +11,5 @@ mod suffix;
 
 pub use ends::RunEnds;
 pub use run::Run;
-pub use state::{Choice, FixupState, OpenState, PlanState, Step};
+pub use state::{Choice, FixupState, NearRows, OpenState, PlanState, Sought, Step};
 pub use suffix::{LabelledSuffix, SolvedSuffix};

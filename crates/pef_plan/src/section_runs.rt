@@ -1,22 +1,26 @@
-ghost use Rattle.std.specs.Prelude.{◌≡◌, ◌==◌, ◌<◌, ◌≤◌, ◌∷◌, ℕ, length, true};
+ghost use Rattle.std.specs.Prelude.{◌≡◌, ◌==◌, ◌+◌, ◌*◌, ◌<◌, ◌≤◌, ◌∷◌, ℕ, length, true};
 ghost use Rattle.pef_cert.specs.Labels.{Labels, class_of};
 ghost use Rattle.pef_plan.specs.declared.runs.state.OpenState.{OpenState};
 ghost use Rattle.pef_plan.specs.declared.runs.suffix.SolvedSuffix.{SolvedSuffix};
 ghost use Rattle.pef_plan.specs.Runs.Ends.{EndsAt};
 ghost use Rattle.pef_plan.specs.Runs.Runs.{Ends, Holds, NextBase, RunBegins, RunOf};
-ghost use Rattle.pef_plan.specs.Runs.Places.{Chosen, HereOf, Led};
+ghost use Rattle.pef_plan.specs.Runs.Places.{Chosen, HereOf, Led, bound_of};
 ghost use Rattle.pef_plan.specs.Kept.Met.{MetInC, MetInD, PairsMet};
 ghost use Rattle.pef_plan.specs.Runs.Tables.{Agrees};
 ghost use Rattle.pef_reloc.specs.declared.fixup.Base.TheVariants.{Section};
 
-use crate::runs::{Choice, OpenState, Run, RunEnds, SolvedSuffix};
+use crate::runs::{OpenState, Run, RunEnds, SolvedSuffix, Sought};
 use pef_cert::class_of;
 use pef_reloc::Base;
 
 /// The best instruction found so far at a fixup. Each type has its own way to find the best end of a run.
 pub(crate) trait Best<'a>: Copy {
-    /// The halfwords of the instruction plus the extension after it.
-    ghost value: { Self → ℕ };
+    /// A lower bound of all ends so far: the halfwords of the instruction plus the extension after it, or 0 if that
+    /// reaches the label.
+    ghost bound: { Self → ℕ };
+
+    /// The label that ends the search, or 0.
+    ghost label: { Self → ℕ };
 
     /// The instruction leads on from a state.
     ghost leads: { SolvedSuffix → OpenState → Self → Type 0 };
@@ -29,18 +33,22 @@ pub(crate) trait Best<'a>: Copy {
         requires begins { RunBegins run here.place.import_index here.first.base here.others.now }
         requires leads { leads known here self }
         ensures leads { leads known.entry here.entry result }
-        ensures better { value result ≤ value self }
-        ensures ends { (l : Labels) (n : ℕ) → Agrees l known.entry here.entry.others.now → n ≤ value result → Ends l run here.entry here.entry.place.position n };
+        ensures label { label result ≡ label self }
+        ensures better { bound result ≤ bound self }
+        ensures ends { (l : Labels) (n : ℕ) → Agrees l known.entry here.entry.others.now → n ≤ bound result → Ends l run here.entry here.entry.place.position n };
 }
 
-/// Follows the run unit by unit.
-impl<'a> Best<'a> for Choice<'a> {
-    ghost value = { λ x. x.value };
+/// Follows the run unit by unit, unless the choice reaches the label.
+impl<'a> Best<'a> for Sought<'a> {
+    ghost bound = { λ x. bound_of x.label x.choice.value };
 
-    ghost leads = { λ k h x. Chosen k h x };
+    ghost label = { λ x. x.label };
 
-    fn or_run(self, known: SolvedSuffix<'a>, here: OpenState<'a>, run: Run) -> Choice<'a> {
-        known.best_of_run(here, run, here.place.position, self)
+    ghost leads = { λ k h x. Chosen k h x.choice × (x.choice.value ≤ 4 * length h.others.now + 4) };
+
+    fn or_run(self, known: SolvedSuffix<'a>, here: OpenState<'a>, run: Run) -> Self {
+        let choice = known.best_of_run(here, run, here.place.position, self);
+        Sought { choice, ..self }
     }
 }
 
@@ -53,7 +61,9 @@ pub(crate) struct LowValue<'e> {
 
 /// Asks the run's window.
 impl<'a> Best<'a> for LowValue<'_> {
-    ghost value = { λ x. x.value };
+    ghost bound = { λ x. x.value };
+
+    ghost label = { λ _. 0 };
 
     ghost leads = { λ k h x. EndsAt k h.others.now (h.first ∷ h.others.now) x.ends.now × Led k h x.value };
 
@@ -85,8 +95,9 @@ pub(crate) fn best_in_c<'a, B: Best<'a>>(
     requires class { class_of known.registers.now of.section ≡ of.class }
     requires first { B.leads known here first }
     ensures leads { B.leads known.entry here.entry result }
-    ensures better { B.value result ≤ B.value first }
-    ensures least { (l : Labels) (n : ℕ) → Agrees l known.entry here.entry.others.now → n ≤ B.value result → (class_of l.registers of.section == here.entry.place.c) ≡ true → MetInC l here.entry of.section n }
+    ensures label { B.label result ≡ B.label first }
+    ensures better { B.bound result ≤ B.bound first }
+    ensures least { (l : Labels) (n : ℕ) → Agrees l known.entry here.entry.others.now → n ≤ B.bound result → (class_of l.registers of.section == here.entry.place.c) ≡ true → MetInC l here.entry of.section n }
 {
     let Classed { section, class } = of;
     if class != here.place.c {
@@ -117,8 +128,9 @@ pub(crate) fn best_in_d<'a, B: Best<'a>>(
     requires class { class_of known.registers.now of.section ≡ of.class }
     requires first { B.leads known here first }
     ensures leads { B.leads known.entry here.entry result }
-    ensures better { B.value result ≤ B.value first }
-    ensures least { (l : Labels) (n : ℕ) → Agrees l known.entry here.entry.others.now → n ≤ B.value result → (class_of l.registers of.section == here.entry.place.d) ≡ true → MetInD l here.entry of.section n }
+    ensures label { B.label result ≡ B.label first }
+    ensures better { B.bound result ≤ B.bound first }
+    ensures least { (l : Labels) (n : ℕ) → Agrees l known.entry here.entry.others.now → n ≤ B.bound result → (class_of l.registers of.section == here.entry.place.d) ≡ true → MetInD l here.entry of.section n }
 {
     let Classed { section, class } = of;
     if class != here.place.d {
@@ -144,8 +156,9 @@ fn best_of_pairs<'a, B: Best<'a>>(
     requires counts { class_of known.registers.now sections.1 < length known.registers.now }
     requires best { B.leads known here best }
     ensures leads { B.leads known.entry here.entry result }
-    ensures better { B.value result ≤ B.value best }
-    ensures least { (l : Labels) (n : ℕ) → Agrees l known.entry here.entry.others.now → n ≤ B.value result → PairsMet l here.entry sections.0 sections.1 n }
+    ensures label { B.label result ≡ B.label best }
+    ensures better { B.bound result ≤ B.bound best }
+    ensures least { (l : Labels) (n : ℕ) → Agrees l known.entry here.entry.others.now → n ≤ B.bound result → PairsMet l here.entry sections.0 sections.1 n }
 {
     let (first, second) = sections;
     if class_of(known.registers, second) != here.place.d {

@@ -10,7 +10,7 @@ ghost use Rattle.pef_reloc.specs.declared.fixup.Base.TheVariants.{Section};
 
 use crate::direct::{place_after, value_after};
 use crate::rows::at_classes;
-use crate::runs::{Choice, FixupState, OpenState, Run, RunEnds, SolvedSuffix, Step};
+use crate::runs::{Choice, FixupState, OpenState, Run, RunEnds, SolvedSuffix, Sought, Step};
 use pef_cert::class_of;
 use pef_reloc::{Base, Instr};
 
@@ -84,7 +84,8 @@ pub(crate) fn best_skip<'a>(
     ensures is { (l : Labels) → Agrees l known.entry here.entry.others.now → skips_at l here.entry.first here.entry.others.now here.entry.place.c here.entry.place.d ≡ Some result.value }
     ensures small { result.value ≤ 4 * length here.entry.others.now + 4 }
 {
-    let one = single_skip(known, here, words, section);
+    let choice = single_skip(known, here, words, section);
+    let one = Sought { choice, label: 0 };
     let from = u64::from(here.first.offset);
     known.best_of_run(here, Run::Skip { words, section }, from, one)
 }
@@ -110,7 +111,7 @@ fn single_skip<'a>(
         count: 1,
     };
     let next = place_after(here, here.place.import_index);
-    let value = 1 + value_after(known, here);
+    let value = 1 + value_after(known, here, known.row(here.others.len()));
     let step = Step { instr, next };
     Choice { step, value }
 }

@@ -259,6 +259,32 @@ so_far-next k h r from n p q first best better s under next chosen lower low eit
       (ends-step l r value (limit r - (n + 1)) p q next (omega (arith, least, there)) ends));
 }
 
+-- the extension after one more unit, for all labels that the tables agree with
+extension_after : (k : SolvedSuffix) (h : OpenState) (r : Run) (from n : ℕ) (p q : PlanState) (value : ℕ) → HereOf k h → Along r h.place from n p → Next r p q → ((l : Labels) → Agrees l k q.left.now → value ≡ extension_in l q) → (l : Labels) → Agrees l k h.others.now → value ≡ extension_in l q
+extension_after k h r from n p q value here along next is l agrees =
+    is l (after-agrees l k h r from (n + 1) q here (along-after k h r from n q here (along-next r h.place p q from n along next)) agrees)
+
+-- one more end that is better, and one that isn't
+pub so_far-better : (k : SolvedSuffix) (h : OpenState) (r : Run) (from n : ℕ) (p q : PlanState) (first best : Choice) (value : ℕ) → HereOf k h → RunOf k.registers.now r h.place from → SoFar k h r from n p first best → n < limit r → Next r p q → ((l : Labels) → Agrees l k q.left.now → value ≡ extension_in l q) → 1 + value < best.value → SoFar k h r from (n + 1) q first (record { step = step_of r (n + 1) q; value = 1 + value })
+so_far-better k h r from n p q first best value here of s under next is low =
+    let after = along-after k h r from n q here (along-next r h.place p q from n s.along next) in
+    let worth = extension_after k h r from n p q value here s.along next is in
+    so_far-next k h r from n p q first best (record { step = step_of r (n + 1) q; value = 1 + value }) s under next
+    (record {
+      goes = after-goes k h r from (n + 1) q of after (omega arith) (omega (arith, under));
+      worth = λ l agrees. ap₂ (λ a b. a + b) (sym (run-one r (n + 1))) (worth l agrees);
+    })
+    (omega (arith, low))
+    (λ l agrees. let e = worth l agrees in omega (arith, e))
+    (λ l agrees. inr (ap (λ x. 1 + x) (worth l agrees)))
+
+pub so_far-same : (k : SolvedSuffix) (h : OpenState) (r : Run) (from n : ℕ) (p q : PlanState) (first best : Choice) (value : ℕ) → HereOf k h → SoFar k h r from n p first best → n < limit r → Next r p q → ((l : Labels) → Agrees l k q.left.now → value ≡ extension_in l q) → best.value ≤ 1 + value → SoFar k h r from (n + 1) q first best
+so_far-same k h r from n p q first best value here s under next is low =
+    let worth = extension_after k h r from n p q value here s.along next is in
+    so_far-next k h r from n p q first best best s under next s.chosen (omega arith)
+    (λ l agrees. let e = worth l agrees in omega (arith, e, low))
+    (λ l agrees. inl refl)
+
 -- if no unit follows, and if the run has its maximum length
 pub so_far-stop : (k : SolvedSuffix) (h : OpenState) (r : Run) (from n : ℕ) (p : PlanState) (first best : Choice) → SoFar k h r from n p first best → ((left : List Fixup) → p.left.now ≡ unit r p.position p.import_index ++ left → ⊥) → (l : Labels) (value : ℕ) → Agrees l k h.others.now → value ≤ best.value → Ends l r h from value
 so_far-stop k h r from n p first best s none l value agrees low =

@@ -1,5 +1,5 @@
 -- The places that the planner visits, and the steps between them.
-use Rattle.std.specs.Prelude.{◌≡◌, ◌≤◌, ◌<◌, ℕ, ◌+◌, true, List, ◌∷◌, length}
+use Rattle.std.specs.Prelude.{if◌then◌else◌, ◌≡◌, ◌≤◌, ◌<◌, ℕ, ◌+◌, nat_le, true, List, ◌∷◌, length}
 use Rattle.std.specs.List.{AllByRecursion}
 use Rattle.pef_reloc.specs.declared.fixup.Base.{Base}
 use Rattle.pef_reloc.specs.declared.fixup.Base.TheVariants.{Section, Import}
@@ -74,3 +74,7 @@ pub record Chosen (k : SolvedSuffix) (h : OpenState) (x : Choice) : Type 0 where
 -- from each state at a place an instruction leads on within a number of halfwords
 abbrev pub Led : SolvedSuffix → OpenState → ℕ → Type 0
 Led k h value = (l : Labels) (s : State) → Agrees l k h.others.now → InPlace k.registers.now h.place s → LeadsWithin l s h.place.left.now value
+
+-- a lower bound of the values that can replace a choice: none has to if the choice reaches the label
+abbrev pub bound_of : ℕ → ℕ → ℕ
+bound_of label value = if nat_le value label then 0 else value

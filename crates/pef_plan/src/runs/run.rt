@@ -1,17 +1,16 @@
-ghost use Rattle.std.specs.Prelude.{◌≡◌, ◌+◌, ◌*◌, ◌^◌, ◌++◌, ◌<◌, ◌≤◌, ◌⊎◌, ℕ, List, MatchOption, length};
+ghost use Rattle.std.specs.Prelude.{◌≡◌, ◌+◌, ◌^◌, ◌++◌, ◌<◌, ◌≤◌, ◌⊎◌, ℕ, List, MatchOption};
 ghost use Rattle.std.specs.Option.{option_map};
 ghost use Rattle.pef_cert.specs.Labels.{Labels};
 ghost use Rattle.pef_cert.specs.Fixups.Additions.{behind};
-ghost use Rattle.pef_plan.specs.Runs.Places.{Chosen, GoesOn, HereOf, extension_in};
+ghost use Rattle.pef_plan.specs.Runs.Places.{Chosen, HereOf};
 ghost use Rattle.pef_plan.specs.Runs.Runs.{EndOf, Ends, RunOf, imports, limit, run_instr, stride, unit};
 ghost use Rattle.pef_plan.specs.Runs.Ends.{Begins};
 ghost use Rattle.pef_plan.specs.Runs.Kept.Runs.{Next};
-ghost use Rattle.pef_plan.specs.Runs.Tables.{Agrees, Shaped};
-ghost use Rattle.pef_reloc.specs.Instrs.{instr_length};
+ghost use Rattle.pef_plan.specs.Runs.Tables.{Agrees};
 ghost use Rattle.pef_reloc.specs.declared.fixup.Base.TheVariants.{Section};
 ghost use Rattle.pef_reloc.specs.declared.fixup.Fixup.{Fixup};
 
-use crate::runs::state::{Choice, OpenState, PlanState, Step};
+use crate::runs::state::{Choice, OpenState, PlanState, Sought, Step};
 use crate::runs::suffix::SolvedSuffix;
 use pef_cert::{WORD, after_first, after_import};
 use pef_reloc::{Base, Fixup, Instr};
@@ -151,62 +150,44 @@ impl Run {
 
 impl<'a> SolvedSuffix<'a> {
     /// Returns the better of a choice and the best end of a run. The run begins at the position `from`, in
-    /// bytes, and is followed unit by unit.
+    /// bytes. It is followed unit by unit, until a choice reaches the label.
     pub fn best_of_run(
         self,
         here: OpenState<'a>,
         run: Run,
         from: u64,
-        first: Choice<'a>,
+        first: Sought<'a>,
     ) -> Choice<'a>
         requires here { HereOf self here }
         requires run { RunOf self.registers.now run here.place from }
         requires from { from ≤ 2 ^ 24 }
-        requires first { Chosen self here first }
+        requires first { Chosen self here first.choice }
         ensures chosen { Chosen self.entry here.entry result }
-        ensures better { result.value ≤ first.entry.value }
-        ensures attained { (l : Labels) → Agrees l self.entry here.entry.others.now → (result.value ≡ first.entry.value) ⊎ EndOf l run here.entry from result.value }
-        ensures ends { (l : Labels) (value : ℕ) → Agrees l self.entry here.entry.others.now → value ≤ result.value → Ends l run here.entry from value }
+        ensures better { result.value ≤ first.entry.choice.value }
+        ensures attained { (l : Labels) → Agrees l self.entry here.entry.others.now → (result.value ≡ first.entry.choice.value) ⊎ EndOf l run here.entry from result.value }
+        ensures ends { (l : Labels) (value : ℕ) → Agrees l self.entry here.entry.others.now → value ≤ result.value → first.entry.label < result.value → Ends l run here.entry from value }
     {
-        let mut best = first;
+        let Sought { choice, label } = first;
+        let mut best = choice;
         let mut next = PlanState {
             position: from,
             ..here.place
         };
-        let mut count = 0;
-        'ends: for _ in 0..run.limit() {
+        'ends: for done in 0..run.limit() {
+            if best.value <= label {
+                return best;
+            }
             next = match run.next(next) {
                 Some(next) => next,
                 None => return best,
             };
-            count += 1;
-            let instr = run.instr(count);
-            best = self.better(here, best, Step { instr, next });
+            let value = 1 + self.value(next.left, next.position, next.c, next.d);
+            if value < best.value {
+                let instr = run.instr(done + 1);
+                let step = Step { instr, next };
+                best = Choice { step, value };
+            }
         }
         best
-    }
-
-    /// Returns the better of a choice and a step of one halfword.
-    fn better(self, here: OpenState<'a>, best: Choice<'a>, step: Step<'a>) -> Choice<'a>
-        requires here { HereOf self here }
-        requires best { Chosen self here best }
-        requires goes { GoesOn self.registers.now here.place step }
-        requires one { instr_length step.instr ≡ 1 }
-        requires inside { Shaped self (length step.next.left.now) }
-        requires c { step.next.c < length self.registers.now + 1 }
-        requires d { step.next.d < length self.registers.now + 1 }
-        requires agrees { (l : Labels) → Agrees l self here.others.now → Agrees l self step.next.left.now }
-        ensures chosen { Chosen self.entry here.entry result }
-        ensures better { result.value ≤ best.entry.value }
-        ensures low { (l : Labels) → Agrees l self.entry here.entry.others.now → result.value ≤ 1 + extension_in l step.entry.next }
-        ensures either { (l : Labels) → Agrees l self.entry here.entry.others.now → (result.value ≡ best.entry.value) ⊎ (result.value ≡ 1 + extension_in l step.entry.next) }
-    {
-        let next = step.next;
-        let value = 1 + self.value(next.left, next.position, next.c, next.d);
-        if value < best.value {
-            Choice { step, value }
-        } else {
-            best
-        }
     }
 }

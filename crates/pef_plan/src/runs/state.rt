@@ -45,3 +45,19 @@ pub struct Choice<'a> {
     pub step: Step<'a>,
     pub value: u64,
 }
+
+/// The best choice so far, and the label that it has to reach. No choice is below the label, so one that reaches it
+/// is the best.
+#[derive(Clone, Copy)]
+pub struct Sought<'a> {
+    pub choice: Choice<'a>,
+    pub label: u64,
+}
+
+/// The labels for a number of fixups left, and those for one fixup fewer.
+#[derive(Clone, Copy)]
+pub struct NearRows<'a> {
+    pub left: usize,
+    pub here: &'a [u32],
+    pub after: &'a [u32],
+}
