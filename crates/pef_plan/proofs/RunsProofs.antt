@@ -4,4 +4,5 @@ pub mod EndsKept
 pub mod KnownLemmas
 pub mod LineLemmas
 pub mod PlaceLemmas
+pub mod PlaceOfRow
 pub mod RunFacts

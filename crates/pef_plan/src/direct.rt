@@ -6,7 +6,9 @@ ghost use Rattle.pef_plan.specs.Runs.Places.{Chosen, HereOf};
 ghost use Rattle.pef_plan.specs.Runs.Tables.{Agrees, IsRow};
 ghost use Rattle.pef_reloc.specs.declared.fixup.Base.TheVariants.{Import, Section};
 
-use crate::runs::{Choice, LabelledSuffix, OpenState, PlanState, Run, SolvedSuffix, Sought, Step};
+use crate::runs::{
+    Choice, LabelledSuffix, OpenState, PlacedRow, PlanState, Run, SolvedSuffix, Sought, Step,
+};
 use crate::section_runs::{Classed, best_in_c, best_in_d};
 use pef_cert::{WORD, class_of};
 use pef_reloc::{Base, Instr};
@@ -35,11 +37,11 @@ pub(crate) fn place_after<'a>(here: OpenState<'a>, import_index: u64) -> PlanSta
 pub(crate) fn direct<'a>(
     known: SolvedSuffix<'a>,
     here: OpenState<'a>,
-    after: &'a [u32],
+    after: PlacedRow<'a>,
     label: u64,
 ) -> Choice<'a>
     requires here { HereOf known here }
-    requires after { IsRow known (length here.others.now) after.now }
+    requires after { IsRow known (length here.others.now) after.labels.now }
     requires at { here.place.position ≡ here.first.offset }
     ensures chosen { Chosen known.entry here.entry result }
     ensures least { (l : Labels) (value : ℕ) → Agrees l known.entry here.entry.others.now → value ≤ result.value → label < result.value → base_test l value here.entry.place.import_index here.entry.first here.entry.others.now here.entry.place.c here.entry.place.d here.entry.first.base ≡ true }
@@ -51,16 +53,15 @@ pub(crate) fn direct<'a>(
     }
 }
 
-#[tactic(auto, using(crate::proofs::RunTests::section_met))]
 fn direct_section<'a>(
     known: SolvedSuffix<'a>,
     here: OpenState<'a>,
     section: u32,
-    after: &'a [u32],
+    after: PlacedRow<'a>,
     label: u64,
 ) -> Choice<'a>
     requires here { HereOf known here }
-    requires after { IsRow known (length here.others.now) after.now }
+    requires after { IsRow known (length here.others.now) after.labels.now }
     requires at { here.place.position ≡ here.first.offset }
     requires base { here.first.base ≡ Section section }
     ensures chosen { Chosen known.entry here.entry result }
@@ -73,7 +74,13 @@ fn direct_section<'a>(
     }
     let class = class_of(known.registers, section);
     let of = Classed { section, class };
-    let best = best_in_c(known, here, of, Sought { choice, label });
+    let near = after.place;
+    let one = Sought {
+        choice,
+        label,
+        near,
+    };
+    let best = best_in_c(known, here, of, one);
     best_in_d(known, here, of, best).choice
 }
 
@@ -82,10 +89,10 @@ fn single_section<'a>(
     known: SolvedSuffix<'a>,
     here: OpenState<'a>,
     section: u32,
-    after: &'a [u32],
+    after: PlacedRow<'a>,
 ) -> Choice<'a>
     requires here { HereOf known here }
-    requires after { IsRow known (length here.others.now) after.now }
+    requires after { IsRow known (length here.others.now) after.labels.now }
     requires at { here.place.position ≡ here.first.offset }
     requires base { here.first.base ≡ Section section }
     ensures chosen { Chosen known.entry here.entry result }
@@ -94,14 +101,14 @@ fn single_section<'a>(
 {
     let instr = Instr::SmBySection(section);
     let next = place_after(here, here.place.import_index);
-    let value = 1 + value_after(known, here, after);
+    let value = 1 + value_after(known, here, after.labels);
     let step = Step { instr, next };
     Choice { step, value }
 }
 
 /// Returns the extension after the first fixup, from the labels of the other fixups.
 #[inline(always)]
-pub(crate) fn value_after<'a>(known: SolvedSuffix<'a>, here: OpenState<'a>, row: &'a [u32]) -> u64
+fn value_after<'a>(known: SolvedSuffix<'a>, here: OpenState<'a>, row: &'a [u32]) -> u64
     requires here { HereOf known here }
     requires row { IsRow known (length here.others.now) row.now }
     ensures is { (l : Labels) → Agrees l known.entry here.entry.others.now → result ≡ extension l here.entry.others.now (here.entry.first.offset + 4) here.entry.place.c here.entry.place.d }
@@ -120,11 +127,11 @@ fn direct_import<'a>(
     known: SolvedSuffix<'a>,
     here: OpenState<'a>,
     import: u32,
-    after: &'a [u32],
+    after: PlacedRow<'a>,
     label: u64,
 ) -> Choice<'a>
     requires here { HereOf known here }
-    requires after { IsRow known (length here.others.now) after.now }
+    requires after { IsRow known (length here.others.now) after.labels.now }
     requires at { here.place.position ≡ here.first.offset }
     requires base { here.first.base ≡ Import import }
     ensures chosen { Chosen known.entry here.entry result }
@@ -135,7 +142,12 @@ fn direct_import<'a>(
     if u64::from(import) != here.place.import_index {
         return choice;
     }
-    let one = Sought { choice, label };
+    let near = after.place;
+    let one = Sought {
+        choice,
+        label,
+        near,
+    };
     known.best_of_run(here, Run::Imports, here.place.position, one)
 }
 
@@ -144,10 +156,10 @@ fn single_import<'a>(
     known: SolvedSuffix<'a>,
     here: OpenState<'a>,
     import: u32,
-    after: &'a [u32],
+    after: PlacedRow<'a>,
 ) -> Choice<'a>
     requires here { HereOf known here }
-    requires after { IsRow known (length here.others.now) after.now }
+    requires after { IsRow known (length here.others.now) after.labels.now }
     requires at { here.place.position ≡ here.first.offset }
     requires base { here.first.base ≡ Import import }
     ensures chosen { Chosen known.entry here.entry result }
@@ -155,7 +167,7 @@ fn single_import<'a>(
     ensures small { result.value ≤ 4 * length here.entry.others.now + 4 }
 {
     let next = place_after(here, u64::from(import) + 1);
-    let behind = value_after(known, here, after);
+    let behind = value_after(known, here, after.labels);
     if import < SMALL_IMPORTS {
         let instr = Instr::SmByImport(import);
         let value = 1 + behind;

@@ -2,12 +2,12 @@ ghost use Rattle.std.specs.Prelude.{◌≡◌, IfOk, length, true};
 ghost use Rattle.pef_cert.specs.Valid.{RegistersOf};
 ghost use Rattle.pef_plan.specs.Kept.Steps.{FallsOn, RowsAt, TrackedHere};
 ghost use Rattle.pef_plan.specs.Kept.Tables.{TablesOf};
-ghost use Rattle.pef_plan.specs.Runs.Tables.{Shaped};
+ghost use Rattle.pef_plan.specs.Runs.Tables.{IsRow, Shaped};
 ghost use Rattle.pef_reloc.specs.Fixups.{fixups_fit};
 ghost use Rattle.pef_reloc.specs.Steps.{Least};
 
 use crate::reading::{step_at, step_to};
-use crate::runs::{NearRows, OpenState, PlanState, SolvedSuffix, Step};
+use crate::runs::{NearRows, OpenState, PlacedRow, PlanState, SolvedSuffix, Step};
 use pef_cert::class_of;
 use pef_reloc::{Fixup, Instr};
 use std::alloc::{AllocError, Global};
@@ -31,7 +31,8 @@ pub(crate) fn least_program<'a>(
         c: class_of(known.registers, 0),
         d: class_of(known.registers, 1),
     };
-    let mut rows = rows_of(known, fixups.len());
+    let all = fixups.len();
+    let mut rows = rows_of(known, known.row_near(all, usize::MAX), all);
     'steps: while let Some((first, others)) = place.left.split_first() {
         let first = *first;
         let here = OpenState {
@@ -47,19 +48,8 @@ pub(crate) fn least_program<'a>(
     Ok(program)
 }
 
-/// Returns the labels for a number of fixups left, and for one fixup fewer.
-fn rows_of<'a>(known: SolvedSuffix<'a>, left: usize) -> NearRows<'a>
-    requires { Shaped known left }
-    ensures { RowsAt known.entry left result }
-{
-    NearRows {
-        left,
-        here: known.row(left),
-        after: known.row(left.saturating_sub(1)),
-    }
-}
-
-/// Returns the same, without a search for the labels that are among the last ones.
+/// Returns the labels for a number of fixups left, and for one fixup fewer. Those that are among the last ones
+/// aren't searched again.
 fn rows_from<'a>(known: SolvedSuffix<'a>, last: NearRows<'a>, left: usize) -> NearRows<'a>
     requires shaped { Shaped known left }
     requires last { RowsAt known last.left last }
@@ -68,13 +58,22 @@ fn rows_from<'a>(known: SolvedSuffix<'a>, last: NearRows<'a>, left: usize) -> Ne
     if left == last.left {
         return last;
     }
-    if left + 1 != last.left {
-        return rows_of(known, left);
+    if left + 1 == last.left {
+        return rows_of(known, last.after, left);
     }
+    rows_of(known, known.row_near(left, last.after.place), left)
+}
+
+/// Returns these labels, and those for one fixup fewer than the number left.
+fn rows_of<'a>(known: SolvedSuffix<'a>, here: PlacedRow<'a>, left: usize) -> NearRows<'a>
+    requires shaped { Shaped known left }
+    requires here { IsRow known left here.labels.now }
+    ensures { RowsAt known.entry left result }
+{
     NearRows {
         left,
-        here: last.after,
-        after: known.row(left.saturating_sub(1)),
+        here: here.labels,
+        after: known.row_near(left.saturating_sub(1), here.place),
     }
 }
 

@@ -5,11 +5,13 @@
 
 mod ahead;
 mod ends;
+mod near;
 mod run;
 mod state;
 mod suffix;
 
 pub use ends::RunEnds;
+pub use near::PlacedRow;
 pub use run::Run;
 pub use state::{Choice, FixupState, NearRows, OpenState, PlanState, Sought, Step};
 pub use suffix::{LabelledSuffix, SolvedSuffix};

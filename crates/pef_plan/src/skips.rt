@@ -8,10 +8,10 @@ ghost use Rattle.pef_plan.specs.Runs.Runs.{Holds};
 ghost use Rattle.pef_plan.specs.Runs.Tables.{Agrees};
 ghost use Rattle.pef_reloc.specs.declared.fixup.Base.TheVariants.{Section};
 
-use crate::direct::{place_after, value_after};
+use crate::direct::place_after;
 use crate::rows::at_classes;
 use crate::runs::{Choice, FixupState, OpenState, Run, RunEnds, SolvedSuffix, Sought, Step};
-use pef_cert::class_of;
+use pef_cert::{WORD, class_of};
 use pef_reloc::{Base, Instr};
 
 /// Fills in the least skips at a fixup, by the class of register C.
@@ -85,7 +85,11 @@ pub(crate) fn best_skip<'a>(
     ensures small { result.value ≤ 4 * length here.entry.others.now + 4 }
 {
     let choice = single_skip(known, here, words, section);
-    let one = Sought { choice, label: 0 };
+    let one = Sought {
+        choice,
+        label: 0,
+        near: 0,
+    };
     let from = u64::from(here.first.offset);
     known.best_of_run(here, Run::Skip { words, section }, from, one)
 }
@@ -111,7 +115,8 @@ fn single_skip<'a>(
         count: 1,
     };
     let next = place_after(here, here.place.import_index);
-    let value = 1 + value_after(known, here, known.row(here.others.len()));
+    let position = u64::from(here.first.offset) + WORD;
+    let value = 1 + known.value(here.others, position, here.place.c, here.place.d);
     let step = Step { instr, next };
     Choice { step, value }
 }

@@ -28,10 +28,10 @@ fn looks_and_labels(rt: &impl Abort, alloc: Global, fixups: &[Fixup]) -> (u64, u
 /// and four windows take in a row: of words with register C holding the section (2) and with register D holding it (2),
 /// of skips (2), of words a word apart (2). The two windows of pairs take in a number each (2) for each word but the
 /// last. That is 14 for each word, and 2 for each but the last. Then the program is read off at the first word: the end
-/// after one word, each end of the run of words, and the one end of a run a word apart. For two words that makes 28 + 2
-/// + 4. For 64 words it makes 896 + 126 + 66. In addition the window of skips, which has room for 63, looks once more
-/// at 63 rows of two as they grow old, 126 looks.
-const LOOKS: &[(u32, u64)] = &[(2, 34), (64, 1_214)];
+/// after one word, and each end of the run of words. The last of these reaches the label, so no other run is tried. For
+/// two words that makes 28 + 2 + 3. For 64 words it makes 896 + 126 + 65. In addition the window of skips, which has
+/// room for 63, looks once more at 63 rows of two as they grow old, 126 looks.
+const LOOKS: &[(u32, u64)] = &[(2, 33), (64, 1_213)];
 
 #[test]
 fn looks_of_words_in_a_row(rt: HostRuntime) {

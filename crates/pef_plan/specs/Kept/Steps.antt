@@ -59,7 +59,7 @@ pub record TrackedHere (k : SolvedSuffix) (h : OpenState) : Type 0 where
 pub record RowsAt (k : SolvedSuffix) (count : ℕ) (r : NearRows) : Type 0 where
   pub left : r.left ≡ count
   pub here : IsRow k count r.here.now
-  pub after : IsRow k (count - 1) r.after.now
+  pub after : IsRow k (count - 1) r.after.labels.now
 
 -- a step from a state in a place; the extension falls by at least the instruction's halfwords
 pub record Falls (k : SolvedSuffix) (p : PlanState) (x : Step) (s : State) : Type 0 where

@@ -6,8 +6,11 @@ use Rattle.pef_plan.specs.Kept.Steps.{ReadTo, RowsAt}
 use Rattle.pef_plan.proofs.ProgramFacts.{read_least, read_next, read_start, tables_shaped}
 use Rattle.pef_plan.proofs.program.least_program.Goals as goal
 
-pub rows_of-rows-requires : goal.rows_of-rows-requires
-rows_of-rows-requires c = tables_shaped c.args.known c.args.fixups.now c.requires.fit c.requires.registers c.requires.tables
+pub row_near-requires : goal.row_near-requires
+row_near-requires c = tables_shaped c.args.known c.args.fixups.now c.requires.fit c.requires.registers c.requires.tables
+
+pub rows_of-rows-requires-clause-shaped : goal.rows_of-rows-requires-clause-shaped
+rows_of-rows-requires-clause-shaped c = tables_shaped c.args.known c.args.fixups.now c.requires.fit c.requires.registers c.requires.tables
 
 pub steps-init : goal.steps-init
 steps-init c =

@@ -7,7 +7,7 @@ use Rattle.pef_plan.proofs.reading.step_at.Goals as goal
 pub direct-best-requires-clause-after : goal.direct-best-requires-clause-after
 direct-best-requires-clause-after c =
     let count = ap length c.requires.here.parts in
-    subst (λ (n : ℕ). IsRow c.args.known n c.args.rows.after.now) (omega (arith, count)) c.requires.rows.after
+    subst (λ (n : ℕ). IsRow c.args.known n c.args.rows.after.labels.now) (omega (arith, count)) c.requires.rows.after
 
 pub returns-then-best-label : goal.returns-then-best-label
 returns-then-best-label c =

@@ -1,4 +1,5 @@
-use Rattle.std.proofs.Common.{arith}
+use Rattle.std.proofs.Common.{◌+◌, ◌∙◌, ap, arith}
+use Rattle.pef_cert.specs.Extension.{extension}
 use Rattle.pef_plan.specs.declared.runs.run.Run.TheVariants.{Skip}
 use Rattle.pef_plan.proofs.RunsProofs.RunFacts.{one_goes}
 use Rattle.pef_plan.proofs.SkipFacts.{skip_unit, skip_worth}
@@ -12,5 +13,5 @@ returns-clause-chosen c =
     record {
       goes = one_goes a.known a.here (Skip a.words a.section) a.here.first.offset c.place_after-next.result r.here ((r.holds, r.words), r.from) (skip_unit a.here a.words a.section r.base) n.left n.position
           (let e = n.import_index in omega (arith, e)) n.c n.d;
-      worth = λ l agrees. skip_worth l a.here c.place_after-next.result c.value_after-value.result n.left n.position n.c n.d (c.value_after-value.ensures.is l agrees);
+      worth = λ l agrees. skip_worth l a.here c.place_after-next.result c.value-value.result n.left n.position n.c n.d (c.value-value.ensures.is l agrees ∙ ap (λ p. extension l a.here.others.now (p + 4) a.here.place.c a.here.place.d) c.from-position.ensures);
     }
