@@ -14,7 +14,7 @@ use Rattle.pef_plan.specs.declared.runs.suffix.SolvedSuffix.{SolvedSuffix}
 use Rattle.pef_plan.specs.declared.runs.state.FixupState.{FixupState}
 use Rattle.pef_plan.specs.declared.runs.state.OpenState.{OpenState}
 use Rattle.pef_plan.specs.declared.runs.ends.RunEnds.{RunEnds}
-use Rattle.pef_plan.specs.Kept.Rows.{Adds, AddsInBoth, AddsInC, DirectIs, EachState, state_of}
+use Rattle.pef_plan.specs.Kept.Rows.{Adds, AddsInBoth, AddsInC, DirectIs, DirectRow, EachState, state_of}
 use Rattle.pef_plan.specs.Runs.Ends.{EndsAt}
 use Rattle.pef_plan.specs.Runs.Places.{AtOf, HereOf, Led}
 use Rattle.pef_plan.specs.Runs.Tables.{Agrees, number_in, place_of}
@@ -126,7 +126,7 @@ in_c-lower k h section value lower first led better = record {
 }
 
 -- the value with the registers in two classes, by runs of both registers
-pub direct-section : (k : SolvedSuffix) (a : FixupState) (section c d value : ℕ) → AtOf k a → a.first.base ≡ Section section → AddsInBoth k (state_of a c d) section value → DirectIs k a c d value
+direct-section : (k : SolvedSuffix) (a : FixupState) (section c d value : ℕ) → AtOf k a → a.first.base ≡ Section section → AddsInBoth k (state_of a c d) section value → DirectIs k a c d value
 direct-section k a section c d value at base both =
     let h : OpenState = state_of a c d in
     low-is k a c d h value at (with-of a c d) both.first.adds.led
@@ -135,6 +135,9 @@ direct-section k a section c d value at base both =
     subst (λ (b : Base). base_test l n a.import_index a.first a.others.now c d b ≡ true) (sym base)
     (section_met l h a.import_index section n (omega (arith, low, most)) (both.first.in_c l n agrees low) (both.in_d l n agrees low)))
     both.first.adds.small
+
+pub direct-row : (k : SolvedSuffix) (a : FixupState) (section : ℕ) (row : List ℕ) → AtOf k a → a.first.base ≡ Section section → EachState k a (λ h value. AddsInBoth k h section value) row → DirectRow k a row
+direct-row k a section row at base each = λ c d under_c under_d. direct-section k a section c d (number_in (length k.registers.now + 1) row c d) at base (each c d under_c under_d)
 
 -- the same for an import that isn't the next one
 pub direct-import : (k : SolvedSuffix) (a : FixupState) (import c d value : ℕ) → AtOf k a → a.first.base ≡ Import import → Adds k (state_of a c d) (import_cost import) value

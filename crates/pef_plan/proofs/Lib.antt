@@ -2,6 +2,7 @@ pub mod Laws
 mod FillLemmas
 mod Leading
 mod LineLemmas
+mod CrossLemmas
 mod DirectLemmas
 mod LowFacts
 mod MoveFacts

@@ -5,8 +5,8 @@ ghost use Rattle.pef_reloc.specs.declared.fixup.Base.TheVariants.{Import, Sectio
 ghost use Rattle.pef_plan.specs.Runs.Ends.{EndsAt};
 ghost use Rattle.pef_plan.specs.Runs.Places.{AtOf};
 ghost use Rattle.pef_plan.specs.Runs.Tables.{number_in, place_of};
-ghost use Rattle.pef_plan.specs.Kept.Near.{NearSteps};
-ghost use Rattle.pef_plan.specs.Kept.Rows.{Adds, AddsInBoth, AddsInC, AlongOf, ClosedOf, DirectRow, EachState, LeastOf, LineOf, LinesOf, RowOf, SmallLine, state_of};
+ghost use Rattle.pef_plan.specs.Kept.Near.{NearSteps, StepsBeside};
+ghost use Rattle.pef_plan.specs.Kept.Rows.{Adds, AddsInBoth, AddsInC, AlongOf, ClosedOf, DirectRow, EachState, LeastOf, LineOf, LinesOf, LowersIn, RowOf, SmallLine, TopsOf, state_of};
 ghost use Rattle.pef_reloc.specs.Limits.{most_sections};
 
 use crate::direct::SMALL_IMPORTS;
@@ -36,14 +36,14 @@ pub(crate) fn fill_labels(
         Base::Section(section) => {
             let class = class_of(known.registers, section);
             fill_section(known, at, ends, Classed { section, class }, row);
-            close_row(row, known.classes());
         }
         Base::Import(import) => fill_import(known, at, ends, import, row),
     }
 }
 
-/// Fills in the values of the best instructions for a fixup that has a section. No register changes before them.
-/// A run can begin only if a register holds the section: in one line and one column of the row.
+/// Fills in the labels at a fixup that has a section. A run can begin only if a register holds the section: in one
+/// line and one column of the row. If no run is better than one addition, the values of one addition are already
+/// the labels, because a change of registers changes the extension by at most 1.
 fn fill_section(
     known: SolvedSuffix<'_>,
     at: FixupState<'_>,
@@ -55,23 +55,28 @@ fn fill_section(
     requires base { at.first.base ≡ Section of.section }
     requires class { class_of known.registers.now of.section ≡ of.class }
     requires ends { EndsAt known at.others.now (at.first ∷ at.others.now) ends.now }
+    requires steps { NearSteps known ends.now }
     requires row { length row.old ≡ (length known.registers.now + 1) * (length known.registers.now + 1) }
     ensures len { length row.new ≡ length row.old }
-    ensures direct { DirectRow known.entry at.entry row.new }
+    ensures labels { RowOf known.entry at.entry row.new }
 {
     ends.fill_alone(1, row);
-    lower_in_c(known, at, ends, of, row);
-    lower_in_d(known, at, ends, of, row);
+    let in_c = lower_in_c(known, at, ends, of, row);
+    let in_d = lower_in_d(known, at, ends, of, row);
+    if in_c > 0 || in_d > 0 {
+        close_cross(row, known.classes(), of.class);
+    }
 }
 
-/// Lowers the numbers in the line with the section in register C to the values of runs.
+/// Lowers the numbers in the line with the section in register C to the values of runs. Returns by how much
+/// in total.
 fn lower_in_c(
     known: SolvedSuffix<'_>,
     at: FixupState<'_>,
     ends: &RunEnds,
     of: Classed,
     row: &mut [u32],
-)
+) -> u64
     requires at { AtOf known at }
     requires base { at.first.base ≡ Section of.section }
     requires class { class_of known.registers.now of.section ≡ of.class }
@@ -80,23 +85,29 @@ fn lower_in_c(
     requires each { EachState known at (λ h value. Adds known h 1 value) row.old }
     ensures len { length row.new ≡ length row.old }
     ensures each { EachState known.entry at.entry (λ h value. AddsInC known.entry h of.section value) row.new }
+    ensures lowers { LowersIn (length known.entry.registers.now + 1) (λ c d. c ≡ of.class) row.old row.new result }
 {
+    let mut saved = 0;
     'classes: for d in 0..known.classes() {
         let place = known.place(of.class, d);
         let here = at_classes(at, of.class, d);
         let value = u64::from(row[place]);
-        row[place] = best_in_c(known, here, of, LowValue { value, ends }).value as u32;
+        let low = best_in_c(known, here, of, LowValue { value, ends }).value;
+        row[place] = low as u32;
+        saved += value - low;
     }
+    saved
 }
 
-/// Lowers the numbers in the column with the section in register D to the values of runs.
+/// Lowers the numbers in the column with the section in register D to the values of runs. Returns by how much
+/// in total.
 fn lower_in_d(
     known: SolvedSuffix<'_>,
     at: FixupState<'_>,
     ends: &RunEnds,
     of: Classed,
     row: &mut [u32],
-)
+) -> u64
     requires at { AtOf known at }
     requires base { at.first.base ≡ Section of.section }
     requires class { class_of known.registers.now of.section ≡ of.class }
@@ -105,13 +116,18 @@ fn lower_in_d(
     requires each { EachState known at (λ h value. AddsInC known h of.section value) row.old }
     ensures len { length row.new ≡ length row.old }
     ensures each { EachState known.entry at.entry (λ h value. AddsInBoth known.entry h of.section value) row.new }
+    ensures lowers { LowersIn (length known.entry.registers.now + 1) (λ c d. d ≡ of.class) row.old row.new result }
 {
+    let mut saved = 0;
     'classes: for c in 0..known.classes() {
         let place = known.place(c, of.class);
         let here = at_classes(at, c, of.class);
         let value = u64::from(row[place]);
-        row[place] = best_in_d(known, here, of, LowValue { value, ends }).value as u32;
+        let low = best_in_d(known, here, of, LowValue { value, ends }).value;
+        row[place] = low as u32;
+        saved += value - low;
     }
+    saved
 }
 
 /// Fills in the labels at a fixup that has an import. If no run begins there, the values of one addition are
@@ -199,33 +215,150 @@ pub(crate) fn at_classes<'a>(at: FixupState<'a>, c: usize, d: usize) -> OpenStat
     }
 }
 
-/// Replaces each direct value by the least over all classes, with 1 added for each register that changes.
+/// Replaces each direct value by the least over all classes, with 1 added for each register that changes. Runs
+/// lowered the values only in the line and the column of a class.
 ///
 /// The loops are unrolled for up to 9 classes, which are those of 8 sections.
-fn close_row(row: &mut [u32], classes: usize)
-    requires some { 0 < classes }
+fn close_cross(row: &mut [u32], classes: usize, class: usize)
     requires few { classes ≤ most_sections + 1 }
+    requires class { class < classes }
     requires row { length row.old ≡ classes * classes }
     requires small { SmallLine (length row.old) row.old }
+    requires steps { StepsBeside classes class row.old }
     ensures len { length row.new ≡ length row.old }
     ensures closed { ClosedOf classes row.old row.new }
 {
     match classes {
-        2 => close_classes(row, 2),
-        3 => close_classes(row, 3),
-        4 => close_classes(row, 4),
-        5 => close_classes(row, 5),
-        6 => close_classes(row, 6),
-        7 => close_classes(row, 7),
-        8 => close_classes(row, 8),
-        9 => close_classes(row, 9),
-        _ => close_classes(row, classes),
+        2 => close_around(row, 2, class),
+        3 => close_around(row, 3, class),
+        4 => close_around(row, 4, class),
+        5 => close_around(row, 5, class),
+        6 => close_around(row, 6, class),
+        7 => close_around(row, 7, class),
+        8 => close_around(row, 8, class),
+        9 => close_around(row, 9, class),
+        _ => close_around(row, classes, class),
     }
 }
 
 /// Does the same. It is inlined with a known number of classes.
 #[inline(always)]
-fn close_classes(row: &mut [u32], classes: usize)
+fn close_around(row: &mut [u32], classes: usize, class: usize)
+    requires few { classes ≤ most_sections + 1 }
+    requires class { class < classes }
+    requires row { length row.old ≡ classes * classes }
+    requires small { SmallLine (length row.old) row.old }
+    requires steps { StepsBeside classes class row.old }
+    ensures len { length row.new ≡ length row.old }
+    ensures closed { ClosedOf classes row.old row.new }
+{
+    let cross = Cross {
+        class,
+        line: least(row, class * classes, classes),
+        column: least_in_column(row, class, classes),
+    };
+    let mut room = [0; MAX_CLASSES];
+    let tops = &mut room[..classes];
+    fill_tops(row, cross, tops);
+    lower_lines(row, cross, tops);
+}
+
+/// The line and the column of a class, with the least of the direct values in each.
+#[derive(Clone, Copy)]
+struct Cross {
+    class: usize,
+    line: u32,
+    column: u32,
+}
+
+/// Returns the least value in the column of a class.
+#[inline(always)]
+fn least_in_column(row: &[u32], class: usize, classes: usize) -> u32
+    requires few { classes ≤ most_sections + 1 }
+    requires class { class < classes }
+    requires row { length row.now ≡ classes * classes }
+    ensures { LeastOf classes (λ c. number_in classes row.now c class) result }
+{
+    let mut low = row[class];
+    'classes: for c in 1..classes {
+        low = low.min(row[c * classes + class]);
+    }
+    low
+}
+
+/// Fills in what bounds the labels of each column: the direct value in the line of the cross plus 1, and the
+/// change of both registers.
+#[inline(always)]
+fn fill_tops(row: &[u32], cross: Cross, tops: &mut [u32])
+    requires few { length tops.old ≤ most_sections + 1 }
+    requires class { cross.class < length tops.old }
+    requires row { length row.now ≡ length tops.old * length tops.old }
+    requires small { SmallLine (length row.now) row.now }
+    requires line { cross.line ≤ 1048576 }
+    requires column { cross.column ≤ 1048576 }
+    ensures len { length tops.new ≡ length tops.old }
+    ensures tops { TopsOf (length tops.old) row.now cross tops.new }
+{
+    let start = cross.class * tops.len();
+    let most = cross.line.min(cross.column) + 2;
+    'classes: for d in 0..tops.len() {
+        tops[d] = (row[start + d] + 1).min(most);
+    }
+    tops[cross.class] = (cross.column + 1).min(cross.line + 2);
+}
+
+/// Replaces each direct value by the least over all classes.
+#[inline(always)]
+fn lower_lines(row: &mut [u32], cross: Cross, tops: &[u32])
+    requires few { length tops.now ≤ most_sections + 1 }
+    requires class { cross.class < length tops.now }
+    requires row { length row.old ≡ length tops.now * length tops.now }
+    requires small { SmallLine (length row.old) row.old }
+    requires line { LeastOf (length tops.now) (λ d. number_in (length tops.now) row.old cross.class d) cross.line }
+    requires column { LeastOf (length tops.now) (λ c. number_in (length tops.now) row.old c cross.class) cross.column }
+    requires steps { StepsBeside (length tops.now) cross.class row.old }
+    requires tops { TopsOf (length tops.now) row.old cross tops.now }
+    ensures len { length row.new ≡ length row.old }
+    ensures closed { ClosedOf (length tops.now) row.old row.new }
+{
+    'lines: for c in 0..tops.len() {
+        let start = c * tops.len();
+        let top = top_of_line(row[start + cross.class], c, cross);
+        lower_line(row, start, tops, top);
+    }
+}
+
+/// Returns what bounds the labels of a line, from its value in the column of the cross.
+#[inline(always)]
+fn top_of_line(number: u32, c: usize, cross: Cross) -> u32
+    requires number { number ≤ 1048576 }
+    requires line { cross.line ≤ 1048576 }
+    requires column { cross.column ≤ 1048576 }
+    ensures class { c ≡ cross.class → result ≡ min (cross.line + 1) (cross.column + 2) }
+    ensures other { c ≢ cross.class → result ≡ number + 1 }
+{
+    if c == cross.class {
+        (cross.line + 1).min(cross.column + 2)
+    } else {
+        number + 1
+    }
+}
+
+/// Lowers each number of a line to the one of its column and to `top`. The line begins at `start`.
+#[inline(always)]
+fn lower_line(row: &mut [u32], start: usize, tops: &[u32], top: u32)
+    requires inside { start + length tops.now ≤ length row.old }
+    ensures len { length row.new ≡ length row.old }
+    ensures line { (d : ℕ) → d < length tops.now → slice_index row.new (start + d) ≡ min (min (slice_index row.old (start + d)) (slice_index tops.now d)) top }
+    ensures others { (i : ℕ) → (i < start) ⊎ (start + length tops.now ≤ i) → slice_index row.new i ≡ slice_index row.old i }
+{
+    'classes: for d in 0..tops.len() {
+        row[start + d] = row[start + d].min(tops[d]).min(top);
+    }
+}
+
+/// Replaces each direct value by the least over all classes, with 1 added for each register that changes.
+fn close_row(row: &mut [u32], classes: usize)
     requires some { 0 < classes }
     requires few { classes ≤ most_sections + 1 }
     requires row { length row.old ≡ classes * classes }

@@ -1,5 +1,5 @@
 -- A row of labels, from the values of the instructions that add at a fixup.
-use Rattle.std.specs.Prelude.{◌≡◌, ◌≤◌, ◌<◌, ◌⊎◌, ◌==◌, ℕ, ◌+◌, ◌*◌, true, List, ◌∷◌, length, slice_index, Some}
+use Rattle.std.specs.Prelude.{◌≡◌, ◌≢◌, ◌≤◌, ◌<◌, ◌⊎◌, ◌==◌, ℕ, ◌+◌, ◌*◌, true, List, ◌∷◌, length, min, slice_index, Some}
 use Rattle.pef_reloc.specs.Steps.{State}
 use Rattle.pef_cert.specs.Labels.{Labels, class_of}
 use Rattle.pef_cert.specs.Extension.{extension, skips_at}
@@ -9,6 +9,7 @@ use Rattle.pef_cert.specs.LabelTests.{base_test}
 use Rattle.pef_plan.specs.declared.runs.suffix.SolvedSuffix.{SolvedSuffix}
 use Rattle.pef_plan.specs.declared.runs.state.FixupState.{FixupState}
 use Rattle.pef_plan.specs.declared.runs.state.OpenState.{OpenState}
+use Rattle.pef_plan.specs.declared.rows.Cross.{Cross}
 use Rattle.pef_plan.specs.Kept.Met.{MetInC, MetInD}
 use Rattle.pef_plan.specs.Runs.Places.{Led}
 use Rattle.pef_plan.specs.Runs.Tables.{Agrees, number_in}
@@ -52,6 +53,12 @@ pub record AddsInBoth (k : SolvedSuffix) (h : OpenState) (section value : ℕ) :
   pub first : AddsInC k h section value
   pub in_d : (l : Labels) (n : ℕ) → Agrees l k h.others.now → n ≤ value → (class_of l.registers section == h.place.d) ≡ true → MetInD l h section n
 
+-- numbers of a row were lowered in some places only, by so much in total
+pub record LowersIn (count : ℕ) (In : ℕ → ℕ → Type 0) (old new : List ℕ) (saved : ℕ) : Type 0 where
+  pub low : (c d : ℕ) → c < count → d < count → number_in count new c d ≤ number_in count old c d
+  pub others : (c d : ℕ) → c < count → d < count → (In c d → ⊥) → number_in count new c d ≡ number_in count old c d
+  pub none : saved ≡ 0 → (c d : ℕ) → c < count → d < count → number_in count new c d ≡ number_in count old c d
+
 -- a value is the least of count numbers
 pub record LeastOf (count : ℕ) (f : ℕ → ℕ) (value : ℕ) : Type 0 where
   pub low : (x : ℕ) → x < count → value ≤ f x
@@ -88,6 +95,12 @@ pub record RowOf (k : SolvedSuffix) (a : FixupState) (row : List ℕ) : Type 0 w
   pub direct : List ℕ
   pub direct_is : DirectRow k a direct
   pub closed : ClosedOf (length k.registers.now + 1) direct row
+
+-- what bounds the labels of each column: in the column of the cross the change of register C, and in the others the
+-- change of register C to the class of the cross, and that of both registers
+pub record TopsOf (count : ℕ) (direct : List ℕ) (x : Cross) (tops : List ℕ) : Type 0 where
+  pub class : slice_index tops x.class ≡ min (x.column + 1) (x.line + 2)
+  pub others : (d : ℕ) → d < count → d ≢ x.class → slice_index tops d ≡ min (number_in count direct x.class d + 1) (min x.line x.column + 2)
 
 -- all numbers of a line of this length are small
 abbrev pub SmallLine : ℕ → List ℕ → Type 0

@@ -1,11 +1,13 @@
-use Rattle.std.proofs.Common.{◌≡◌, ◌+◌, ◌<◌, length}
-use Rattle.pef_plan.specs.Kept.Rows.{Adds, AddsInC, state_of}
+use Rattle.std.proofs.Common.{◌≡◌, ◌≤◌, ◌+◌, ◌*◌, ◌<◌, length}
+use Rattle.pef_plan.specs.Kept.Rows.{Adds, AddsInC, LowersIn, state_of}
 use Rattle.pef_plan.proofs.DirectLemmas.{Lowered}
 use Rattle.pef_plan.proofs.rows.lower_in_c.Given as goal
 
 -- the numbers of the line up to a class of D are lowered
 abbrev pub invariant-classes : goal.invariant-classes
 invariant-classes l = record {
+  small : l.saved ≤ l.d * 4294967296;
+  lowers : LowersIn (length l.known.registers.now + 1) (λ c d. c ≡ l.of.class) l.fn.row l.row l.saved;
   len : length l.row ≡ length l.fn.row;
   lowered : Lowered (length l.known.registers.now + 1) (λ c d v. Adds l.known (state_of l.at c d) 1 v) (λ c d v. AddsInC l.known (state_of l.at c d) l.of.section v) (λ c d. (c ≡ l.of.class) × (d < l.d)) l.row;
 }
