@@ -1,5 +1,6 @@
 pub mod Growing
 pub mod Holds
+pub mod KindLemmas
 pub mod Leads
 pub mod LineLemmas
 pub mod ListLemmas

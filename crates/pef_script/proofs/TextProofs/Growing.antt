@@ -37,7 +37,7 @@ StateHolds s = ScriptHolds s.script
 
 -- the facts of tests that don't hold
 
-new_name : (names : List (List ℕ)) (name : List ℕ) → is_repeated names name ≡ false → number_of_name names name ≡ None
+pub new_name : (names : List (List ℕ)) (name : List ℕ) → is_repeated names name ≡ false → number_of_name names name ≡ None
 new_name names name isnt = by (number_of_name names name) isnt
   where
     by : (o : Option ℕ) → is_some o ≡ false → o ≡ None

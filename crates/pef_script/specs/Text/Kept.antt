@@ -1,4 +1,5 @@
 -- Definitions that only the code and its private contracts cite. They are no part of the crate's contracts.
+pub mod Kinds
 pub mod Reader
 pub mod Sections
 pub mod Steps

@@ -1,8 +1,9 @@
 ghost use Rattle.std.specs.Prelude.{◌≡◌, true, ◌+◌, ◌*◌, ◌^◌, ◌<◌, [], ◌∷◌, Ok, false, vec_len, IfOk, OnOk};
 ghost use Rattle.std.specs.Result.{result_err};
-ghost use Rattle.pef_words.specs.Refusals.{first_met};
-ghost use Rattle.pef_script.specs.Text.Contents.{base_named, bytes_in, bytes_line, bytes_tests, fix_line, fixup_in, fixup_of, fixup_tests, import_named, overlaps, tvector_line, vector_in, with_contents, with_fixups};
+ghost use Rattle.pef_words.specs.Refusals.{first_met, result_map};
+ghost use Rattle.pef_script.specs.Text.Contents.{base_named, bytes_in, bytes_line, bytes_tests, fix_line, fixup_of, fixup_tests, import_named, overlaps, tvector_line, vector_in, with_contents, with_fixups};
 ghost use Rattle.pef_script.specs.Text.SoFar.{section_so_far};
+ghost use Rattle.pef_script.specs.Text.Kept.Kinds.{fixup_by_kind, next_kind};
 ghost use Rattle.pef_script.specs.Text.Kept.Reader.{so_far};
 ghost use Rattle.pef_script.specs.Text.Kept.Sections.{AreApart};
 ghost use Rattle.pef_script.specs.Text.Kept.Steps.{Steps};
@@ -15,13 +16,14 @@ use crate::text::numbers::read_number;
 use crate::text::reader::Reader;
 use crate::text::tables::number_of_name;
 use crate::text::words::{
-    last_name, last_name_and_word, next_name, next_name_and_word, next_word, read_pairs,
+    behind, last_name, last_name_and_word, next_name, next_name_and_word, next_word, read_pairs,
 };
 use pef_lines::Pairs;
 use pef_reloc::{Base, Fixup, MAX_FIXUPS, WORD};
 
 impl<'a> Reader<'a> {
     /// Reads a line `bytes SECTION HEX`, from after its first word.
+    #[tactic(auto, using(crate::proofs::TextProofs::ListLemmas::distinct_set))]
     pub fn read_bytes(&mut self, line: &[u8]) -> Result<(), Stop>
         ensures { Steps result (so_far self.new) (bytes_line (so_far self.old) line.now) }
     {
@@ -33,11 +35,17 @@ impl<'a> Reader<'a> {
 
     /// Reads a line `fix SECTION OFFSET section NAME` or `fix SECTION OFFSET import NAME`, from after its
     /// first word.
+    #[tactic(auto, using(crate::proofs::TextProofs::KindLemmas::fixup_in_is))]
     pub fn read_fix(&mut self, line: &[u8]) -> Result<(), Stop>
         ensures { Steps result (so_far self.new) (fix_line (so_far self.old) line.now) }
     {
         let (k, fixup) = self.fixup_in(line)?;
-        self.put_fixups(k, &[fixup])
+        self.put_fixups(k, &[fixup])?;
+        self.place = k;
+        if let Base::Section(target) = fixup.base {
+            self.target = target as usize;
+        }
+        Ok(())
     }
 
     /// Reads a line `tvector SECTION OFFSET CODE DATA`, from after its first word.
@@ -57,25 +65,25 @@ impl<'a> Reader<'a> {
         let (name, digits) = last_name_and_word(line)?;
         let pairs = read_pairs(digits)?;
         self.enter(CONTENT_GROUP)?;
-        let k = self.section_named(name)?;
+        let k = self.section_named(self.place, name)?;
         self.test_bytes(k, pairs.count())?;
         Ok((k, pairs))
     }
 
     /// Returns the fixup that a line has for a section, by its number, if it is allowed.
-    #[tactic(auto, unfolding(crate::specs::Text::Contents::fixup_in))]
+    #[tactic(auto, unfolding(crate::specs::Text::Kept::Kinds::fixup_by_kind))]
     fn fixup_in(&self, line: &[u8]) -> Result<(usize, Fixup), LineFault>
-        ensures fixup { result ≡ fixup_in (so_far self.now) line.now }
+        ensures fixup { result ≡ fixup_by_kind (so_far self.now) line.now }
         ensures below { IfOk result (λ f. f.0 < vec_len self.now.sections) }
         ensures apart { IfOk result (λ f. AreApart (section_so_far (so_far self.now) f.0).fixups (f.1 ∷ [])) }
     {
         let (name, offset, rest) = next_name_and_word(line)?;
-        let (kind, rest) = next_word(rest)?;
+        let (kind, rest) = next_kind(rest)?;
         let target = last_name(rest)?;
         self.enter(CONTENT_GROUP)?;
-        let is_section = is_section_word(kind)?;
+        let is_section = kind?;
         let offset = read_number(MAX_NUMBER, offset)?;
-        let k = self.section_named(name)?;
+        let k = self.section_named(self.place, name)?;
         let base = self.base_named(is_section, target)?;
         self.test_fixups(k, offset, 1)?;
         Ok((k, Fixup { offset, base }))
@@ -94,7 +102,7 @@ impl<'a> Reader<'a> {
         let data = last_name(rest)?;
         self.enter(CONTENT_GROUP)?;
         let offset = read_number(MAX_NUMBER, offset)?;
-        let k = self.section_named(name)?;
+        let k = self.section_named(self.place, name)?;
         let code = self.section_base(code)?;
         let data = self.section_base(data)?;
         self.test_fixups(k, offset, 2)?;
@@ -102,6 +110,10 @@ impl<'a> Reader<'a> {
     }
 
     /// Adds fixups to those of section `k`, which the line names.
+    ///
+    /// Inlined where their count is known.
+    #[inline(always)]
+    #[tactic(auto, using(crate::proofs::TextProofs::ListLemmas::distinct_set))]
     fn put_fixups(&mut self, k: usize, fixups: &[Fixup]) -> Result<(), Stop>
         requires below { k < vec_len self.old.sections }
         requires apart { AreApart (section_so_far (so_far self.old) k).fixups fixups.now }
@@ -113,10 +125,11 @@ impl<'a> Reader<'a> {
     }
 
     /// Returns the section with a name, as a base.
+    #[inline(always)]
     fn section_base(&self, name: &[u8]) -> Result<Base, LineFault>
         ensures { result ≡ base_named (so_far self.now) true name.now }
     {
-        let k = self.section_named(name)?;
+        let k = self.section_named(self.target, name)?;
         Ok(Base::Section(k as u32))
     }
 
@@ -130,6 +143,7 @@ impl<'a> Reader<'a> {
     }
 
     /// Returns the section or the import with a name, as a base.
+    #[inline(always)]
     fn base_named(&self, is_section: bool, name: &[u8]) -> Result<Base, LineFault>
         ensures { result ≡ base_named (so_far self.now) is_section name.now }
     {
@@ -174,6 +188,29 @@ impl<'a> Reader<'a> {
         }
         Ok(())
     }
+}
+
+/// Returns whether the next word of a line says that a base is a section, and the rest after its space.
+#[inline(always)]
+fn next_kind(line: &[u8]) -> Result<(Result<bool, LineFault>, &[u8]), LineFault>
+    ensures { result_map (λ p. (p.0, p.1.now)) result ≡ next_kind line.now }
+{
+    if let Some(rest) = behind("section ", line) {
+        return Ok((Ok(true), rest));
+    }
+    if let Some(rest) = behind("import ", line) {
+        return Ok((Ok(false), rest));
+    }
+    kind_by_word(line)
+}
+
+/// Returns the same. It looks at each byte.
+#[tactic(auto, unfolding(crate::specs::Text::Kept::Kinds::next_kind))]
+fn kind_by_word(line: &[u8]) -> Result<(Result<bool, LineFault>, &[u8]), LineFault>
+    ensures { result_map (λ p. (p.0, p.1.now)) result ≡ next_kind line.now }
+{
+    let (word, rest) = next_word(line)?;
+    Ok((is_section_word(word), rest))
 }
 
 /// Returns the fixups of a transition vector at an offset: its data word follows its code word.

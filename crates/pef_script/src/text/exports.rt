@@ -41,7 +41,7 @@ impl<'a> Reader<'a> {
         self.enter(EXPORT_GROUP)?;
         let class = class_of(class)?;
         let value = read_number(MAX_NUMBER, offset)?;
-        let k = self.section_named(section)?;
+        let k = self.section_named(self.place, section)?;
         let export = ExportData {
             class,
             section: k as i32,
@@ -140,7 +140,7 @@ impl<'a> Reader<'a> {
         let (section, offset) = last_name_and_word(line)?;
         self.enter_once(group)?;
         let offset = read_number(MAX_NUMBER, offset)?;
-        let k = self.section_named(section)?;
+        let k = self.section_named(self.place, section)?;
         self.test_place(k, offset)?;
         Ok((k as u32, offset))
     }

@@ -1,5 +1,8 @@
-ghost use Rattle.std.specs.Prelude.{◌≡◌, ◌+◌, ◌≤◌, ◌<◌, None, vec_len, length, IfOk, OnOk};
+ghost use Rattle.std.specs.Prelude.{◌≡◌, ◌+◌, ◌≤◌, ◌<◌, None, vec_len, length, map, IfOk, OnOk};
+ghost use Rattle.std.proofs.Props.{props};
+ghost use Rattle.std.specs.List.{IsDistinct};
 ghost use Rattle.std.specs.Result.{result_err};
+ghost use Rattle.std.specs.Str.{bytes_eq};
 ghost use Rattle.indexmap.specs.IndexMap.{index_map_len};
 ghost use Rattle.pef_words.specs.Refusals.{first_met};
 ghost use Rattle.pef_script.specs.Text.Grammar.{is_skipped, line_by_word, line_of, no_lines};
@@ -13,9 +16,9 @@ ghost use Rattle.pef_script.specs.Text.SoFar.{counted_name_tests, entered, enter
 use crate::text::fault::Stop;
 use crate::text::kinds::spells;
 use crate::text::limits::MAX_NAME_BYTES;
-use crate::text::sections::{SectionSoFar, section_number, to_sections};
+use crate::text::sections::{SectionSoFar, is_named, section_number, to_sections};
 use crate::text::tables::number_of_name;
-use crate::text::words::next_word;
+use crate::text::words::{behind, next_word};
 use crate::text::{LineFault, ScriptFault};
 use crate::{Parts, Versions};
 use indexmap::IndexMap;
@@ -32,8 +35,13 @@ pub struct Reader<'a> {
     pub reached: u8,
     /// How many bytes the names of libraries, imports and exports have, counting one more for each.
     pub names: usize,
+    /// The section that the last line `fix` changed. The next one nearly always changes it too.
+    pub place: usize,
+    /// The last section that a line `fix` had as its base.
+    pub target: usize,
     ghost few: { vec_len sections ≤ most_sections },
     ghost counted: { names ≡ name_bytes (script_in parts) },
+    ghost distinct: { IsDistinct bytes_eq (map (λ section. section.header.name) sections.items) } by { Prim.hlevel props },
 }
 
 /// Returns whether a line is ignored: it is empty or starts with `#`.
@@ -69,6 +77,8 @@ impl<'a> Reader<'a> {
             sections: Vec::new(alloc),
             reached: 0,
             names: 0,
+            place: 0,
+            target: 0,
         }
     }
 
@@ -92,12 +102,16 @@ impl<'a> Reader<'a> {
     }
 
     /// Reads a line.
-    #[tactic(auto, unfolding(crate::specs::Text::Grammar::line_of))]
+    #[tactic(auto, using(crate::proofs::TextProofs::KindLemmas::fix_begins), unfolding(crate::specs::Text::Grammar::line_of))]
     fn read_line(&mut self, line: &'a [u8]) -> Result<(), Stop>
         ensures { Steps result (so_far self.new) (line_of (so_far self.old) line.entry.now) }
     {
         if is_skipped(line) {
             return Ok(());
+        }
+        // Most lines of a large script begin so.
+        if let Some(rest) = behind("fix ", line) {
+            return self.read_fix(rest);
         }
         let (word, rest) = next_word(line)?;
         self.read_by_word(word, rest)
@@ -159,11 +173,15 @@ impl<'a> Reader<'a> {
         Ok(())
     }
 
-    /// Returns the number of the section with a name.
-    pub fn section_named(&self, name: &[u8]) -> Result<usize, LineFault>
+    /// Returns the number of the section with a name. A section that likely has it is tested first.
+    #[inline(always)]
+    pub fn section_named(&self, likely: usize, name: &[u8]) -> Result<usize, LineFault>
         ensures found { result ≡ section_named (so_far self.now) name.now }
         ensures below { IfOk result (λ k. k < vec_len self.now.sections) }
     {
+        if is_named(&self.sections, likely, name) {
+            return Ok(likely);
+        }
         section_number(&self.sections, name).ok_or(LineFault::UnknownName)
     }
 

@@ -1,5 +1,6 @@
-ghost use Rattle.std.specs.Prelude.{◌≡◌, ◌+◌, ◌*◌, ◌^◌, ◌<◌, ◌≤◌, [], false, length, map, IfOk, IfSome, OnOk};
+ghost use Rattle.std.specs.Prelude.{◌≡◌, ◌+◌, ◌*◌, ◌^◌, ◌<◌, ◌≤◌, [], false, length, map, slice_get, IfOk, IfSome, OnOk};
 ghost use Rattle.std.specs.List.{fold};
+ghost use Rattle.std.specs.Option.{option_map_or};
 ghost use Rattle.std.specs.Str.{bytes_eq};
 ghost use Rattle.pef_script.specs.Views.{header_in};
 ghost use Rattle.pef_script.specs.Text.Contents.{overlaps, placed, with_fixups, with_image};
@@ -48,15 +49,18 @@ impl<'a> SectionSoFar<'a> {
 
     /// Appends the bytes that pairs of hex digits spell to the image.
     pub fn append(&mut self, pairs: Pairs) -> Result<(), AllocError>
-        ensures { OnOk result (self.new ≡ with_image self.old pairs.entry) }
+        ensures appended { OnOk result (self.new ≡ with_image self.old pairs.entry) }
+        ensures header { self.new.header ≡ self.old.header }
     {
         pairs.append_to(&mut self.image)
     }
 
     /// Adds fixups that don't overlap others.
+    #[inline(always)]
     pub fn add_fixups(&mut self, fixups: &[Fixup]) -> Result<(), AllocError>
         requires { AreApart self.old.fixups fixups.now }
-        ensures { OnOk result (self.new ≡ with_fixups self.old fixups.now) }
+        ensures added { OnOk result (self.new ≡ with_fixups self.old fixups.now) }
+        ensures header { self.new.header ≡ self.old.header }
     {
         self.fixups.add_all(fixups)
     }
@@ -135,6 +139,7 @@ impl FixupsSoFar {
     }
 
     /// Adds fixups that don't overlap others.
+    #[inline(always)]
     fn add_all(&mut self, fixups: &[Fixup]) -> Result<(), AllocError>
         requires { AreApart self.old fixups.now }
         ensures { OnOk result (self.new ≡ fold placed self.old fixups.now) }
@@ -146,6 +151,7 @@ impl FixupsSoFar {
     }
 
     /// Adds a fixup that doesn't overlap another.
+    #[inline(always)]
     fn add(&mut self, fixup: Fixup) -> Result<(), AllocError>
         requires { overlaps self.old fixup.offset 1 ≡ false }
         ensures { OnOk result (self.new ≡ placed self.old fixup) }
@@ -239,7 +245,19 @@ pub fn to_sections<'a>(
     Ok(made)
 }
 
+/// Returns whether section `k` is there and has a name.
+#[inline(always)]
+pub fn is_named(sections: &[SectionSoFar], k: usize, name: &[u8]) -> bool
+    ensures { result ≡ option_map_or (λ section. bytes_eq name.now section.header.name) (slice_get sections.now k) false }
+{
+    match sections.get(k) {
+        Some(section) => name == section.header.name,
+        None => false,
+    }
+}
+
 /// Returns the number of the section with a name.
+#[inline(never)]
 pub fn section_number(sections: &[SectionSoFar], name: &[u8]) -> Option<usize>
     ensures found { result ≡ number_of_name (map (λ section. section.header.name) sections.now) name.now }
     ensures below { IfSome result (λ k. k < length sections.now) }

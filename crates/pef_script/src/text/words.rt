@@ -1,10 +1,27 @@
-ghost use Rattle.std.specs.Prelude.{◌≡◌};
+ghost use Rattle.std.specs.Prelude.{◌≡◌, ◌++◌, IfSome};
 ghost use Rattle.pef_words.specs.Refusals.{result_map};
 ghost use Rattle.pef_script.specs.Text.Words.{image_of, last_name, last_name_and_word, last_two_words, last_word, next_name, next_name_and_word, next_word};
 
 use crate::text::LineFault;
+use crate::text::kinds::spells;
 use crate::text::limits::MAX_NAME;
 use pef_lines::Pairs;
+
+/// Returns what follows a text that a line begins with, or `None` if it begins with another.
+#[tactic(auto, using(crate::proofs::TextProofs::KindLemmas::begins_so))]
+#[inline(always)]
+pub fn behind<'l>(text: &str, line: &'l [u8]) -> Option<&'l [u8]>
+    ensures { IfSome result (λ rest. line.entry.now ≡ text.now ++ rest.now) }
+{
+    if line.len() < text.len() {
+        return None;
+    }
+    let (front, rest) = line.split_at(text.len());
+    if !spells(front, text) {
+        return None;
+    }
+    Some(rest)
+}
 
 /// Returns the only word that is left of a line.
 #[tactic(auto, unfolding(crate::specs::Text::Words::last_word))]
