@@ -1,5 +1,5 @@
 -- The name is new.
-use Rattle.std.proofs.Common.{◌≡◌, List, None, false, is_some, sym, subst, ap, ◌∙◌}
+use Rattle.std.proofs.Common.{◌≡◌, List, false, is_some, sym, subst, ap, ◌∙◌}
 use Rattle.std.specs.List.{IsDistinct}
 use Rattle.std.specs.Str.{bytes_eq}
 use Rattle.pef_script.specs.Script.{DescribedSection}
