@@ -16,7 +16,7 @@ use crate::text::numbers::read_number;
 use crate::text::reader::Reader;
 use crate::text::tables::number_of_name;
 use crate::text::words::{
-    behind, last_name, last_name_and_word, next_name, next_name_and_word, next_word, read_pairs,
+    last_name, last_name_and_word, next_name, next_name_and_word, next_word, read_pairs, rest_after,
 };
 use pef_lines::Pairs;
 use pef_reloc::{Base, Fixup, MAX_FIXUPS, WORD};
@@ -195,10 +195,10 @@ impl<'a> Reader<'a> {
 fn next_kind(line: &[u8]) -> Result<(Result<bool, LineFault>, &[u8]), LineFault>
     ensures { result_map (λ p. (p.0, p.1.now)) result ≡ next_kind line.now }
 {
-    if let Some(rest) = behind("section ", line) {
+    if let Some(rest) = rest_after("section ", line) {
         return Ok((Ok(true), rest));
     }
-    if let Some(rest) = behind("import ", line) {
+    if let Some(rest) = rest_after("import ", line) {
         return Ok((Ok(false), rest));
     }
     kind_by_word(line)

@@ -18,7 +18,7 @@ use crate::text::kinds::spells;
 use crate::text::limits::MAX_NAME_BYTES;
 use crate::text::sections::{SectionSoFar, is_named, section_number, to_sections};
 use crate::text::tables::number_of_name;
-use crate::text::words::{behind, next_word};
+use crate::text::words::{next_word, rest_after};
 use crate::text::{LineFault, ScriptFault};
 use crate::{Parts, Versions};
 use indexmap::IndexMap;
@@ -110,7 +110,7 @@ impl<'a> Reader<'a> {
             return Ok(());
         }
         // Most lines of a large script begin so.
-        if let Some(rest) = behind("fix ", line) {
+        if let Some(rest) = rest_after("fix ", line) {
             return self.read_fix(rest);
         }
         let (word, rest) = next_word(line)?;

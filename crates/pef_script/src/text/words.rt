@@ -10,7 +10,7 @@ use pef_lines::Pairs;
 /// Returns what follows a text that a line begins with, or `None` if it begins with another.
 #[tactic(auto, using(crate::proofs::TextProofs::KindLemmas::begins_so))]
 #[inline(always)]
-pub fn behind<'l>(text: &str, line: &'l [u8]) -> Option<&'l [u8]>
+pub fn rest_after<'l>(text: &str, line: &'l [u8]) -> Option<&'l [u8]>
     ensures { IfSome result (λ rest. line.entry.now ≡ text.now ++ rest.now) }
 {
     if line.len() < text.len() {

@@ -1,4 +1,5 @@
--- A line `fix` with the kind of its base read before the name. What is wrong with the kind is told after the other words.
+-- A line `fix`, with the kind of its base read before the name. An error of the kind is reported after those of the words and
+-- of the order of lines.
 use Rattle.std.specs.Prelude.{ℕ, Bool, List, Result, Ok}
 use Rattle.pef_words.specs.Refusals.{first_met, unless}
 use Rattle.pef_words.specs.Results.{◌>>=◌}

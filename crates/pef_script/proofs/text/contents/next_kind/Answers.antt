@@ -5,5 +5,5 @@ use Rattle.pef_script.proofs.text.contents.next_kind.Goals as goal
 pub returns-in-Some : goal.returns-in-Some
 returns-in-Some c = section_kind c.args.line.now c.in-Some.rest.now c.in-Some.ensures
 
-pub returns-in-Some-behind : goal.returns-in-Some-behind
-returns-in-Some-behind c = import_kind c.args.line.now c.in-Some-behind.rest.now c.in-Some-behind.ensures
+pub returns-in-Some-rest_after : goal.returns-in-Some-rest_after
+returns-in-Some-rest_after c = import_kind c.args.line.now c.in-Some-rest_after.rest.now c.in-Some-rest_after.ensures
