@@ -91,8 +91,9 @@ impl Window {
     {
         self.make_room(looks);
         looks.add(row.len() as u64);
-        self.reserve(row)?;
-        self.write(row);
+        let start = self.newer * self.width;
+        self.reserve(start, row)?;
+        self.write(start, row);
         Ok(())
     }
 
@@ -131,7 +132,8 @@ impl Window {
 
     /// Ensures that the numbers have room for one more newer row.
     #[inline(always)]
-    fn reserve(&mut self, row: &[u32]) -> Result<(), AllocError>
+    fn reserve(&mut self, start: usize, row: &[u32]) -> Result<(), AllocError>
+        requires start { start ≡ self.old.newer * self.old.width }
         requires wide { length row.now ≡ self.old.width }
         requires free { self.old.older + self.old.newer < self.old.limit }
         ensures width { self.new.width ≡ self.old.width }
@@ -142,7 +144,6 @@ impl Window {
         ensures low { OnOk result (self.old.width ≤ length self.new.low) }
         ensures same { OnOk result ((width limit : ℕ) (rows : List (List ℕ)) → WindowOf width limit rows self.old → WindowOf width limit rows self.new) }
     {
-        let start = self.newer * self.width;
         if self.values.len() - start < row.len() {
             return self.grow(start + row.len());
         }
@@ -168,7 +169,8 @@ impl Window {
 
     /// Writes a newer row into the numbers.
     #[inline(always)]
-    fn write(&mut self, row: &[u32])
+    fn write(&mut self, start: usize, row: &[u32])
+        requires start { start ≡ self.old.newer * self.old.width }
         requires wide { length row.now ≡ self.old.width }
         requires free { self.old.older + self.old.newer < self.old.limit }
         requires room { self.old.newer * self.old.width + self.old.width ≤ length self.old.values }
@@ -178,7 +180,6 @@ impl Window {
         if self.newer == 0 {
             write_first(row, &mut self.values, &mut self.low);
         } else {
-            let start = self.newer * self.width;
             write_next(row, start, &mut self.values, &mut self.low);
         }
         self.newer += 1;
@@ -253,6 +254,8 @@ fn write_next(row: &[u32], start: usize, values: &mut [u32], low: &mut [u32])
     'places: for place in 0..row.len() {
         let number = row[place];
         values[start + place] = number;
-        low[place] = low[place].min(number);
+        if number < low[place] {
+            low[place] = number;
+        }
     }
 }

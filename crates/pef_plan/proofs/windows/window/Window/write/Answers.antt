@@ -11,6 +11,7 @@ returns c =
     let row = c.args.row.now in
     let wide = rw (← c.self.view_is) at c.requires.wide in
     let free = rw (← c.self.view_is) at c.requires.free in
+    let start_is = rw (← c.self.view_is) at c.requires.start in
     elim c.if-self-eq0.branch [
       | then-self-eq0 b ↦
           (let none = b.if-self-eq0.true in
@@ -32,7 +33,7 @@ returns c =
           let low = b.write_next.new.low in
           let values_len : length values ≡ s.values.len = e.values_len ∙ (ap length b.deref_mut-else-self-eq0.ensures.value ∙ sym s.values.ok.0) in
           let low_len : length low ≡ s.low.len = e.low_len ∙ (ap length b.deref_mut-else-self-eq0-2.ensures.value ∙ sym s.low.ok.0) in
-          let added = subst (λ (vs : List ℕ). RowAdded row (s.newer * s.width) vs values) b.deref_mut-else-self-eq0.ensures.value e.added in
+          let added = subst (λ (n : ℕ). RowAdded row n s.values.items values) start_is (subst (λ (vs : List ℕ). RowAdded row c.args.start vs values) b.deref_mut-else-self-eq0.ensures.value e.added) in
           let lesser = subst (λ (ls : List ℕ). LesserOf (length row) ls row low) b.deref_mut-else-self-eq0-2.ensures.value e.lesser in
           rw (b.self-inside-is, same_slice s.values.len values s.values.items values_len (sym s.values.ok.0), same_slice s.low.len low s.low.items low_len (sym s.low.ok.0), ← c.self.view_is)
           (λ width limit rows w.
