@@ -1,4 +1,4 @@
-use Rattle.std.proofs.Common.{List, length, refl, subst, sym, ℕ}
+use Rattle.std.proofs.Common.{List, refl, subst, sym, ℕ}
 use Rattle.pef_reloc.specs.declared.instr.Instr.{Instr}
 use Rattle.pef_reloc.specs.Steps.{start, state_after}
 use Rattle.pef_plan.specs.declared.runs.state.PlanState.{PlanState}
