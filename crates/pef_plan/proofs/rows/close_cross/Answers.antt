@@ -1,4 +1,4 @@
-use Rattle.std.proofs.Common.{◌≡◌, ◌*◌, ◌<◌, ◌∙◌, List, ap, length, subst, sym, ℕ}
+use Rattle.std.proofs.Common.{◌≡◌, ◌*◌, ◌∙◌, List, ap, length, subst, sym, ℕ}
 use Rattle.pef_plan.specs.Kept.Near.{StepsBeside}
 use Rattle.pef_plan.specs.Kept.Rows.{ClosedOf}
 use Rattle.pef_plan.proofs.rows.close_cross.Goals as goal

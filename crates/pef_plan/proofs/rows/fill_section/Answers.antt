@@ -1,4 +1,4 @@
-use Rattle.std.proofs.Common.{◌≡◌, ◌≤◌, ◌+◌, ◌<◌, ◌∙◌, ℕ, arith, length, subst, sym}
+use Rattle.std.proofs.Common.{◌≤◌, ◌+◌, ◌<◌, ◌∙◌, ℕ, arith, length, subst, sym}
 use Rattle.pef_plan.specs.Kept.Near.{StepsBeside}
 use Rattle.pef_plan.specs.Kept.Rows.{ClosedOf}
 use Rattle.pef_plan.specs.Runs.Tables.{number_in, place_of}

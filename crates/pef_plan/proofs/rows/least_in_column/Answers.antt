@@ -2,7 +2,6 @@ use Rattle.std.proofs.Common.{◌≡◌, ◌+◌, ◌*◌, ℕ, ap, arith, refl,
 use Rattle.pef_plan.specs.Kept.Rows.{LeastOf}
 use Rattle.pef_plan.specs.Runs.Tables.{number_in}
 use Rattle.pef_plan.proofs.LineLemmas.{least-more, least-one}
-use Rattle.pef_plan.proofs.RunsProofs.PlaceLemmas.{place_under}
 use Rattle.pef_plan.proofs.rows.least_in_column.Goals as goal
 
 pub classes-init : goal.classes-init

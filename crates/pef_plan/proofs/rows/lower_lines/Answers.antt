@@ -1,8 +1,8 @@
-use Rattle.std.proofs.Common.{◌≡◌, ◌≤◌, ◌+◌, ◌*◌, ◌<◌, ◌∙◌, ℕ, ap, arith, inl, inr, length, min, slice_index, subst, sym}
+use Rattle.std.proofs.Common.{◌≡◌, ◌+◌, ◌*◌, ◌<◌, ◌∙◌, ℕ, ap, arith, inl, inr, length, min, slice_index, subst, sym}
 use Rattle.std.proofs.lemmas.Bool.Decides.{eqb_tells}
 use Rattle.std.proofs.lemmas.Nat.{mul-add-lt}
-use Rattle.pef_plan.specs.Runs.Tables.{number_in, place_of}
-use Rattle.pef_plan.proofs.CrossLemmas.{LineLowered, TopOf, closed-cross}
+use Rattle.pef_plan.specs.Runs.Tables.{place_of}
+use Rattle.pef_plan.proofs.CrossLemmas.{LineLowered, closed-cross}
 use Rattle.pef_plan.proofs.RunsProofs.PlaceLemmas.{line_inside, place_under}
 use Rattle.pef_plan.proofs.rows.lower_lines.Goals as goal
 
