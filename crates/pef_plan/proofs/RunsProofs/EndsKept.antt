@@ -8,12 +8,12 @@ use Rattle.pef_cert.specs.Labels.{Labels, class_of, classes}
 use Rattle.pef_cert.specs.Extension.{extension}
 use Rattle.pef_cert.proofs.Laws.{class_of-below}
 use Rattle.pef_plan.specs.declared.runs.run.Run.TheVariants.{WordsOfD, Spaced, Pairs, SpacedPairs, Imports}
-use Rattle.pef_plan.specs.declared.runs.ends.AlternatingWindows.{AlternatingWindows}
 use Rattle.pef_plan.specs.declared.runs.ends.RunEnds.{RunEnds}
 use Rattle.pef_plan.specs.declared.runs.ends.WordWindows.{WordWindows}
 use Rattle.pef_plan.specs.declared.runs.suffix.SolvedSuffix.{SolvedSuffix}
 use Rattle.pef_plan.specs.declared.runs.state.FixupState.{FixupState}
 use Rattle.pef_plan.specs.Runs.Ends.{Begins, Brought, BroughtMaybe, EndRows, EndsAt, EndsOf, FarAt, FarKept, FarPairsAt, FarPairsKept, GoesOnAfter, GoesOnMaybe, Holding, HoldingTwo, ImportsAt, ImportsKept, NearKept, NearSmall, PairAfter, PairsAt, PairsKept, WordEnds, SpacedAt, SpacedKept, WordsOfCAt, WordsOfCKept, WordsOfDAt, WordsOfDKept, far_pairs_run, pairs_run, rest_of, second_of, sections_of}
+use Rattle.pef_plan.specs.Runs.Kept.Turns.{Turns}
 use Rattle.pef_plan.specs.Runs.Tables.{Agrees, place_of}
 use Rattle.pef_plan.specs.Windows.Windows.{WindowOf, Windowed, rows_brought, rows_moved}
 use Rattle.pef_plan.proofs.RunsProofs.EndLemmas.{brought, brought-maybe}
@@ -238,14 +238,14 @@ far_pairs_here P count v f (g ∷ rest) (Section j) rows w base kept behind br =
           (far_pairs_go l f (g ∷ rest) count j k v rows w (kept l holds) (value l holds) b));
     }
 
-pub pairs_brought : (P : Labels → Type 0) (v : ℕ) (f : Fixup) (rest : List Fixup) (on : Option Bool) (old new : AlternatingWindows) → HoldingTwo P PairsKept rest old → ((l : Labels) → P l → PairAfter l 4 rest (sections_of f.base rest) v) → GoesOnMaybe (pairs_run (sections_of f.base rest)) (f ∷ rest) f.offset 0 on → new.next ≡ old.here → Moves on (v ∷ []) old.next new.here → HoldingTwo P PairsKept (f ∷ rest) new
+pub pairs_brought : (P : Labels → Type 0) (v : ℕ) (f : Fixup) (rest : List Fixup) (on : Option Bool) (old new : Turns) → HoldingTwo P PairsKept rest old → ((l : Labels) → P l → PairAfter l 4 rest (sections_of f.base rest) v) → GoesOnMaybe (pairs_run (sections_of f.base rest)) (f ∷ rest) f.offset 0 on → new.next ≡ old.here → Moves on (v ∷ []) old.next new.here → HoldingTwo P PairsKept (f ∷ rest) new
 pairs_brought P v f rest on old new held behind goes same moves = record {
   here = pairs_here P 1 v f rest f.base held.next.rows new.here refl held.next.kept behind
       (brought-maybe (pairs_run (sections_of f.base rest)) 1 512 (f ∷ rest) f.offset 0 on held.next.rows (v ∷ []) new.here goes (moves 1 512 held.next.rows held.next.is));
   next = subst (λ (w : Windowed). Holding P 1 512 (λ l rows. PairsKept l rest rows) w) (sym same) held.here;
 }
 
-pub far_pairs_brought : (P : Labels → Type 0) (v : ℕ) (f : Fixup) (rest : List Fixup) (on : Option Bool) (old new : AlternatingWindows) → HoldingTwo P FarPairsKept rest old → ((l : Labels) → P l → PairAfter l 8 rest (sections_of f.base rest) v) → GoesOnMaybe (far_pairs_run (sections_of f.base rest)) (f ∷ rest) f.offset 0 on → new.next ≡ old.here → Moves on (v ∷ []) old.next new.here → HoldingTwo P FarPairsKept (f ∷ rest) new
+pub far_pairs_brought : (P : Labels → Type 0) (v : ℕ) (f : Fixup) (rest : List Fixup) (on : Option Bool) (old new : Turns) → HoldingTwo P FarPairsKept rest old → ((l : Labels) → P l → PairAfter l 8 rest (sections_of f.base rest) v) → GoesOnMaybe (far_pairs_run (sections_of f.base rest)) (f ∷ rest) f.offset 0 on → new.next ≡ old.here → Moves on (v ∷ []) old.next new.here → HoldingTwo P FarPairsKept (f ∷ rest) new
 far_pairs_brought P v f rest on old new held behind goes same moves = record {
   here = far_pairs_here P 1 v f rest f.base held.next.rows new.here refl held.next.kept behind
       (brought-maybe (far_pairs_run (sections_of f.base rest)) 1 512 (f ∷ rest) f.offset 0 on held.next.rows (v ∷ []) new.here goes (moves 1 512 held.next.rows held.next.is));

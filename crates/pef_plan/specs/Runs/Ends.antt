@@ -9,9 +9,9 @@ use Rattle.pef_cert.specs.Extension.{extension}
 use Rattle.pef_plan.specs.declared.runs.suffix.SolvedSuffix.{SolvedSuffix}
 use Rattle.pef_plan.specs.declared.runs.run.Run.{Run}
 use Rattle.pef_plan.specs.declared.runs.run.Run.TheVariants.{WordsOfC, WordsOfD, Spaced, Pairs, SpacedPairs, Imports, Skip}
-use Rattle.pef_plan.specs.declared.runs.ends.AlternatingWindows.{AlternatingWindows}
 use Rattle.pef_plan.specs.declared.runs.ends.RunEnds.{RunEnds}
 use Rattle.pef_plan.specs.declared.runs.ends.WordWindows.{WordWindows}
+use Rattle.pef_plan.specs.Runs.Kept.Turns.{Turns}
 use Rattle.pef_plan.specs.Runs.Runs.{imports, stride, unit}
 use Rattle.pef_plan.specs.Runs.Tables.{Agrees, number_in, place_of}
 use Rattle.pef_plan.specs.Windows.Windows.{WindowOf, Windowed}
@@ -168,7 +168,7 @@ rest_of [] = []
 rest_of (f ∷ rest) = rest
 
 -- two alternating windows: one at some fixups, and one at those after the first
-pub record HoldingTwo (P : Labels → Type 0) (Kept : Labels → List Fixup → List (List ℕ) → Type 0) (fixups : List Fixup) (w : AlternatingWindows) : Type 0 where
+pub record HoldingTwo (P : Labels → Type 0) (Kept : Labels → List Fixup → List (List ℕ) → Type 0) (fixups : List Fixup) (w : Turns) : Type 0 where
   pub here : Holding P 1 512 (λ l rows. Kept l fixups rows) w.here
   pub next : Holding P 1 512 (λ l rows. Kept l (rest_of fixups) rows) w.next
 

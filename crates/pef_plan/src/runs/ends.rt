@@ -5,6 +5,7 @@ ghost use Rattle.pef_plan.specs.Runs.Places.{AtOf, HereOf, Led};
 ghost use Rattle.pef_plan.specs.Runs.Runs.{EndOf, Ends, RunBegins, RunOf, stride};
 ghost use Rattle.pef_plan.specs.Runs.Ends.{Begins, EndsAt, EndsOf, FarAt, GoesOnAfter, GoesOnMaybe, NearKept, PairAfter, WordEnds, far_pairs_run, pairs_run, place_in, sections_of, window_of};
 ghost use Rattle.pef_plan.specs.Runs.Tables.{Agrees, place_of};
+ghost use Rattle.pef_plan.specs.declared.runs.run.Run.TheVariants.{Pairs, SpacedPairs};
 ghost use Rattle.pef_plan.specs.Windows.Windows.{WindowOf, rows_moved};
 ghost use Rattle.pef_reloc.specs.declared.fixup.Base.TheVariants.{Section};
 ghost use Rattle.pef_reloc.specs.Limits.{most_sections};
@@ -16,7 +17,7 @@ use crate::windows::{Looks, Window, zeros};
 use pef_cert::{WORD, class_of};
 use pef_reloc::{Base, Fixup};
 use std::alloc::{AllocError, Global};
-use std::mem;
+use std::marker::Model;
 
 /// The extensions after the ends of the runs that begin at a fixup, in one window for each kind of run. The
 /// windows move along while the tables are filled from the last fixup to the first.
@@ -51,13 +52,35 @@ struct WordWindows {
     spaced: Window,
 }
 
-/// Two windows of runs that continue at every second fixup.
+/// Two windows of runs that continue at every second fixup. They take turns.
 #[derive(Drop)]
 struct AlternatingWindows {
-    /// The window of the fixup.
-    here: Window,
-    /// The window of the next fixup.
-    next: Window,
+    even: Window,
+    odd: Window,
+    /// Whether `odd` is the window of the fixup and `even` that of the next one, or the reverse.
+    odd_is_here: bool,
+}
+
+impl Model for AlternatingWindows {
+    ghost use Rattle.pef_plan.specs.Runs.Kept.Turns.{Turns, turns};
+
+    ghost Value = { Turns };
+
+    ghost view = { λ w. turns w.odd_is_here w.even w.odd };
+}
+
+/// The pair of a fixup and the next one: whether the runs of pairs that begin there go on after it, and the
+/// extensions after it. The registers hold the two sections.
+#[derive(Clone, Copy)]
+struct FirstPair {
+    /// Whether the run goes on, if one begins.
+    on: Option<bool>,
+    /// The extension right after the pair.
+    after: u32,
+    /// Whether the run of pairs that are a word apart goes on, if one begins.
+    far_on: Option<bool>,
+    /// The extension one word further on.
+    far_after: u32,
 }
 
 impl RunEnds {
@@ -119,9 +142,9 @@ impl RunEnds {
         requires ends { EndsAt known at.others.now at.others.now self.old }
         ensures { OnOk result (EndsAt known.entry at.entry.others.now (at.entry.first ∷ at.entry.others.now) self.new) }
     {
-        let (near, far) = self.after_pair(known, at);
-        self.pairs.pass(pairs_go_on(at), near, known.looks)?;
-        self.far_pairs.pass(far_pairs_go_on(at), far, known.looks)?;
+        let pair = self.pair_at(known, at);
+        self.pairs.pass(pair.on, pair.after, known.looks)?;
+        self.far_pairs.pass(pair.far_on, pair.far_after, known.looks)?;
         known.fill_after(at, &mut self.near);
         match at.first.base {
             Base::Section(section) => {
@@ -174,21 +197,33 @@ impl RunEnds {
         Ok(())
     }
 
-    /// Returns the extensions right after the pair of a fixup and the next one, and one word further on. The
-    /// registers hold the two sections.
-    fn after_pair(&self, known: SolvedSuffix<'_>, at: FixupState<'_>) -> (u32, u32)
+    /// Returns the pair of a fixup and the next one.
+    fn pair_at(&self, known: SolvedSuffix<'_>, at: FixupState<'_>) -> FirstPair
         requires at { AtOf known at }
         requires ends { EndsAt known at.others.now at.others.now self.now }
-        ensures near { (l : Labels) → Agrees l known.entry at.entry.others.now → PairAfter l 4 at.entry.others.now (sections_of at.entry.first.base at.entry.others.now) result.0 }
-        ensures far { (l : Labels) → Agrees l known.entry at.entry.others.now → PairAfter l 8 at.entry.others.now (sections_of at.entry.first.base at.entry.others.now) result.1 }
+        ensures after { (l : Labels) → Agrees l known.entry at.entry.others.now → PairAfter l 4 at.entry.others.now (sections_of at.entry.first.base at.entry.others.now) result.after }
+        ensures far_after { (l : Labels) → Agrees l known.entry at.entry.others.now → PairAfter l 8 at.entry.others.now (sections_of at.entry.first.base at.entry.others.now) result.far_after }
+        ensures on { GoesOnMaybe (pairs_run (sections_of at.entry.first.base at.entry.others.now)) (at.entry.first ∷ at.entry.others.now) at.entry.first.offset 0 result.on }
+        ensures far_on { GoesOnMaybe (far_pairs_run (sections_of at.entry.first.base at.entry.others.now)) (at.entry.first ∷ at.entry.others.now) at.entry.first.offset 0 result.far_on }
     {
         match sections_at(at) {
             Some((first, second)) => {
                 let c = class_of(known.registers, first);
                 let d = class_of(known.registers, second);
-                (self.near[known.place(c, d)], self.far[c])
+                let (on, far_on) = pairs_go_on(first, second, at);
+                FirstPair {
+                    on,
+                    after: self.near[known.place(c, d)],
+                    far_on,
+                    far_after: self.far[c],
+                }
             }
-            None => (0, 0),
+            None => FirstPair {
+                on: None,
+                after: 0,
+                far_on: None,
+                far_after: 0,
+            },
         }
     }
 
@@ -222,8 +257,8 @@ impl RunEnds {
             Run::WordsOfC(_) => &self.words.in_c,
             Run::WordsOfD(_) => &self.words.in_d,
             Run::Spaced(_) => &self.words.spaced,
-            Run::Pairs { .. } => &self.pairs.here,
-            Run::SpacedPairs { .. } => &self.far_pairs.here,
+            Run::Pairs { .. } => self.pairs.here(),
+            Run::SpacedPairs { .. } => self.far_pairs.here(),
             Run::Imports => &self.imports,
             Run::Skip { .. } => &self.words.skips,
         }
@@ -264,8 +299,9 @@ impl AlternatingWindows {
         ensures next { WindowOf 1 512 [] result.next }
     {
         AlternatingWindows {
-            here: Window::new(alloc, 1, MAX_RUN as usize),
-            next: Window::new(alloc, 1, MAX_RUN as usize),
+            even: Window::new(alloc, 1, MAX_RUN as usize),
+            odd: Window::new(alloc, 1, MAX_RUN as usize),
+            odd_is_here: false,
         }
     }
 
@@ -281,13 +317,42 @@ impl AlternatingWindows {
         ensures next { OnOk result (self.new.next ≡ self.old.here) }
         ensures here { OnOk result ((width limit : ℕ) (rows : List (List ℕ)) → WindowOf width limit rows self.old.next → WindowOf width limit (rows_moved goes_on limit rows (number ∷ [])) self.new.here) }
     {
-        mem::swap(&mut self.here, &mut self.next);
-        match goes_on {
-            Some(goes_on) => self.here.bring(goes_on, &[number], looks),
-            None => {
-                self.here.clear();
-                Ok(())
-            }
+        self.odd_is_here = !self.odd_is_here;
+        if self.odd_is_here {
+            bring_if_any(&mut self.odd, goes_on, number, looks)
+        } else {
+            bring_if_any(&mut self.even, goes_on, number, looks)
+        }
+    }
+
+    /// Returns the window of the fixup.
+    fn here(&self) -> &Window
+        ensures { result.now ≡ self.now.here }
+    {
+        if self.odd_is_here {
+            &self.odd
+        } else {
+            &self.even
+        }
+    }
+}
+
+/// Moves a window to a place. `goes_on` says whether the run that begins there continues after its first unit.
+/// If none begins, all rows are removed.
+fn bring_if_any(
+    window: &mut Window,
+    goes_on: Option<bool>,
+    number: u32,
+    looks: Looks<'_>,
+) -> Result<(), AllocError>
+    requires { window.old.width ≡ 1 }
+    ensures { OnOk result ((width limit : ℕ) (rows : List (List ℕ)) → WindowOf width limit rows window.old → WindowOf width limit (rows_moved goes_on limit rows (number ∷ [])) window.new) }
+{
+    match goes_on {
+        Some(goes_on) => window.bring(goes_on, &[number], looks),
+        None => {
+            window.clear();
+            Ok(())
         }
     }
 }
@@ -313,35 +378,23 @@ fn line_of(row: &[u32], classes: usize, class: usize) -> &[u32]
     line
 }
 
-/// Returns whether the run of pairs that begins at a fixup continues after the first pair. `None` if none begins.
-fn pairs_go_on(at: FixupState<'_>) -> Option<bool>
-    ensures { GoesOnMaybe (pairs_run (sections_of at.entry.first.base at.entry.others.now)) (at.entry.first ∷ at.entry.others.now) at.entry.first.offset 0 result }
-{
-    match sections_at(at) {
-        Some((first, second)) => pair_goes_on(Run::Pairs { first, second }, second, at),
-        None => None,
-    }
-}
-
-/// Returns the same for pairs a word apart.
-fn far_pairs_go_on(at: FixupState<'_>) -> Option<bool>
-    ensures { GoesOnMaybe (far_pairs_run (sections_of at.entry.first.base at.entry.others.now)) (at.entry.first ∷ at.entry.others.now) at.entry.first.offset 0 result }
-{
-    match sections_at(at) {
-        Some((first, second)) => pair_goes_on(Run::SpacedPairs { first, second }, second, at),
-        None => None,
-    }
-}
-
-/// Returns the same for a run of either kind, by its second section.
-#[inline(always)]
-fn pair_goes_on(run: Run, second: u32, at: FixupState<'_>) -> Option<bool>
-    ensures { GoesOnAfter run at.entry.others.now at.entry.first.offset second result }
+/// Returns whether the run of pairs of two sections that begins at a fixup continues after the first pair, and
+/// the same for pairs a word apart. `None` if none begins.
+fn pairs_go_on(first: u32, second: u32, at: FixupState<'_>) -> (Option<bool>, Option<bool>)
+    ensures near { GoesOnAfter (Pairs first second) at.entry.others.now at.entry.first.offset second result.0 }
+    ensures far { GoesOnAfter (SpacedPairs first second) at.entry.others.now at.entry.first.offset second result.1 }
 {
     let position = u64::from(at.first.offset);
     match Run::WordsOfD(second).behind(at.others, position + WORD, 0) {
-        Some(rest) => Some(run.begins(rest, position + run.stride(), 0)),
-        None => None,
+        Some(rest) => {
+            let near = Run::Pairs { first, second };
+            let far = Run::SpacedPairs { first, second };
+            (
+                Some(near.begins(rest, position + near.stride(), 0)),
+                Some(far.begins(rest, position + far.stride(), 0)),
+            )
+        }
+        None => (None, None),
     }
 }
 

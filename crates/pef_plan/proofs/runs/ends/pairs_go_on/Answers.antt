@@ -1,18 +1,10 @@
-use Rattle.std.proofs.Common.{◌≡◌, ◌∙◌, ◌∷◌, ℕ, None, Option, Some, subst, sym}
-use Rattle.pef_plan.specs.Runs.Ends.{GoesOnMaybe, pairs_run, sections_of}
-use Rattle.pef_plan.proofs.RunsProofs.EndsKept.{near_pairs_go_on}
+use Rattle.std.proofs.Common.{◌+◌, ℕ, ap₂, rules, subst}
+use Rattle.pef_plan.specs.Runs.Ends.{Begins}
+use Rattle.pef_plan.specs.declared.runs.run.Run.TheVariants.{Pairs, SpacedPairs}
 use Rattle.pef_plan.proofs.runs.ends.pairs_go_on.Goals as goal
 
-pub returns-in-Some : goal.returns-in-Some
-returns-in-Some c =
-    let a = c.args.at in
-    let s : ℕ × ℕ = (c.in-Some.first, c.in-Some.second) in
-    let is : sections_of a.first.base a.others.now ≡ Some s = sym c.sections_at.ensures ∙ c.in-Some.is in
-    subst (λ (o : Option (ℕ × ℕ)). GoesOnMaybe (pairs_run o) (a.first ∷ a.others.now) a.first.offset 0 c.pair_goes_on.result) (sym is)
-    (near_pairs_go_on a.first a.others.now s c.pair_goes_on.result is c.pair_goes_on.ensures)
+pub returns-in-Some-clause-near : goal.returns-in-Some-clause-near
+returns-in-Some-clause-near c = (c.in-Some.rest.now, search rules, subst (λ (p : ℕ). Begins (Pairs c.args.first c.args.second) p 0 c.in-Some.rest.now c.begins.result) (ap₂ (λ x y. x + y) c.from-position.ensures c.stride.ensures) c.begins.ensures)
 
-pub returns-in-None : goal.returns-in-None
-returns-in-None c =
-    let a = c.args.at in
-    let is : sections_of a.first.base a.others.now ≡ None = sym c.sections_at.ensures ∙ c.in-None.is in
-    subst (λ (o : Option (ℕ × ℕ)). GoesOnMaybe (pairs_run o) (a.first ∷ a.others.now) a.first.offset 0 None) (sym is) tt
+pub returns-in-Some-clause-far : goal.returns-in-Some-clause-far
+returns-in-Some-clause-far c = (c.in-Some.rest.now, search rules, subst (λ (p : ℕ). Begins (SpacedPairs c.args.first c.args.second) p 0 c.in-Some.rest.now c.begins-in-Some.result) (ap₂ (λ x y. x + y) c.from-position.ensures c.stride-in-Some.ensures) c.begins-in-Some.ensures)
