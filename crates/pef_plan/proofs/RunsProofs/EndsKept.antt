@@ -12,7 +12,7 @@ use Rattle.pef_plan.specs.declared.runs.ends.RunEnds.{RunEnds}
 use Rattle.pef_plan.specs.declared.runs.ends.WordWindows.{WordWindows}
 use Rattle.pef_plan.specs.declared.runs.suffix.SolvedSuffix.{SolvedSuffix}
 use Rattle.pef_plan.specs.declared.runs.state.FixupState.{FixupState}
-use Rattle.pef_plan.specs.Runs.Ends.{Begins, Brought, BroughtMaybe, EndRows, EndsAt, EndsOf, FarAt, FarKept, FarPairsAt, FarPairsKept, GoesOnAfter, GoesOnMaybe, Holding, HoldingTwo, ImportsAt, ImportsKept, NearKept, NearSmall, PairAfter, PairsAt, PairsKept, WordEnds, SpacedAt, SpacedKept, WordsOfCAt, WordsOfCKept, WordsOfDAt, WordsOfDKept, far_pairs_run, pairs_run, rest_of, second_of, sections_of}
+use Rattle.pef_plan.specs.Runs.Ends.{Begins, Brought, BroughtMaybe, ColumnAt, EndRows, EndsAt, EndsOf, FarAt, FarKept, FarPairsAt, FarPairsKept, GoesOnAfter, GoesOnMaybe, Holding, HoldingTwo, ImportsAt, ImportsKept, NearKept, NearSmall, PairAfter, PairsAt, PairsKept, WordEnds, SpacedAt, SpacedKept, WordsOfCAt, WordsOfCKept, WordsOfDAt, WordsOfDKept, far_pairs_run, pairs_run, rest_of, second_of, sections_of}
 use Rattle.pef_plan.specs.Runs.Kept.Turns.{Turns}
 use Rattle.pef_plan.specs.Runs.Tables.{Agrees, place_of}
 use Rattle.pef_plan.specs.Windows.Windows.{WindowOf, Windowed, rows_brought, rows_moved}
@@ -48,10 +48,6 @@ line_at l k a section near line agrees kept copied = λ c d is_c under_d.
     copied d (omega (arith, under_d, same))
     ∙ (ap₂ (λ n x. slice_index near (place_of n x d)) (sym same) class
     ∙ kept c d under_c under_d)
-
--- a column has the extension right after the first fixup with register D in a section's class
-abbrev pub ColumnAt : Labels → Fixup → List Fixup → List ℕ → ℕ → Type 0
-ColumnAt l f rest column k = (c d : ℕ) → c < classes l → d ≡ class_of l.registers k → slice_index column c ≡ extension l rest (f.offset + 4) c d
 
 pub column_at : (l : Labels) (k : SolvedSuffix) (a : FixupState) (section : ℕ) (near column : List ℕ) → Agrees l k a.others.now → NearKept l (a.first ∷ a.others.now) near → ((c : ℕ) → c < length k.registers.now + 1 → slice_index column c ≡ slice_index near (place_of (length k.registers.now + 1) c (class_of k.registers.now section))) → ColumnAt l a.first a.others.now column section
 column_at l k a section near column agrees kept copied = λ c d under_c is_d.

@@ -69,6 +69,16 @@ value-ahead l k fixups p c d a is away agrees under_c under_d =
     (is.skips ∙ ap (λ (fs : List Fixup). slice_index_or k.skips.now.rows (length fs) []) is.parts)
     is.class (subst (λ (fs : List Fixup). begin_at p fs ≡ false) is.parts away) (subst (λ (fs : List Fixup). Agrees l k fs) is.parts agrees) under_c under_d)
 
+-- the extension past a fixup, from the one at the fixup
+pub extension-past : (l : Labels) (fixups : List Fixup) (p c d : ℕ) → begin_at (p + 4) fixups ≡ true → extension l fixups (p + 8) c d ≡ 2 + extension l fixups (p + 4) c d
+extension-past l [] p c d at = absurd (cc)
+extension-past l (f ∷ rest) p c d at =
+    let here : p + 4 ≡ f.offset = sym (eqb-true f.offset (p + 4) at) in
+    let past : f.offset - (p + 8) ≡ 0 = omega (arith, here) in
+    extension-away l f rest (p + 8) c d (λ same. omega (arith, here, same))
+    ∙ (ap (λ n. moved_value n (l.label (length (f ∷ rest)) c d) (offer_at l f rest c d)) past
+    ∙ ap (λ n. 2 + n) (sym (extension-here l f rest (p + 4) c d here)))
+
 -- a label of a row is small
 pub label_under : (k : SolvedSuffix) (left c d : ℕ) (row : List ℕ) → Shaped k left → IsRow k left row → c < length k.registers.now + 1 → d < length k.registers.now + 1 → number_in (length k.registers.now + 1) row c d ≤ 4 * left
 label_under k left c d row shaped is under_c under_d =

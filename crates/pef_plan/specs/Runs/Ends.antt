@@ -143,6 +143,10 @@ NearKept l (f ∷ rest) row = (c d : ℕ) → c < classes l → d < classes l �
 abbrev pub NearSmall : ℕ → List Fixup → List ℕ → Type 0
 NearSmall count fixups row = (c d : ℕ) → c < count → d < count → number_in count row c d ≤ 4 * (length fixups - 1) + 2
 
+-- a column has the extension right after the first fixup with register D in a section's class
+abbrev pub ColumnAt : Labels → Fixup → List Fixup → List ℕ → ℕ → Type 0
+ColumnAt l f rest column k = (c d : ℕ) → c < classes l → d ≡ class_of l.registers k → slice_index column c ≡ extension l rest (f.offset + 4) c d
+
 abbrev pub FarAt : Labels → ℕ → List Fixup → List ℕ → Base → Type 0
 FarAt l p rest row (Section k) = (c d : ℕ) → c < classes l → d ≡ class_of l.registers k → slice_index row c ≡ extension l rest (p + 8) c d
 FarAt l p rest row (Import i) = Unit {0}

@@ -3,7 +3,7 @@ ghost use Rattle.pef_cert.specs.Extension.{extension};
 ghost use Rattle.pef_cert.specs.Labels.{Labels};
 ghost use Rattle.pef_plan.specs.Runs.Places.{AtOf, HereOf, Led};
 ghost use Rattle.pef_plan.specs.Runs.Runs.{EndOf, Ends, RunBegins, RunOf, stride};
-ghost use Rattle.pef_plan.specs.Runs.Ends.{Begins, EndsAt, EndsOf, FarAt, GoesOnAfter, GoesOnMaybe, NearKept, PairAfter, WordEnds, far_pairs_run, pairs_run, place_in, sections_of, window_of};
+ghost use Rattle.pef_plan.specs.Runs.Ends.{Begins, ColumnAt, EndsAt, EndsOf, FarAt, GoesOnAfter, GoesOnMaybe, NearKept, NearSmall, PairAfter, WordEnds, far_pairs_run, pairs_run, place_in, sections_of, window_of};
 ghost use Rattle.pef_plan.specs.Runs.Tables.{Agrees, place_of};
 ghost use Rattle.pef_plan.specs.declared.runs.run.Run.TheVariants.{Pairs, SpacedPairs};
 ghost use Rattle.pef_plan.specs.Windows.Windows.{WindowOf, rows_moved};
@@ -12,7 +12,7 @@ ghost use Rattle.pef_reloc.specs.Limits.{most_sections};
 
 use crate::runs::run::{MAX_RUN, MAX_SKIP_RUN, Run};
 use crate::runs::state::{FixupState, OpenState};
-use crate::runs::suffix::SolvedSuffix;
+use crate::runs::suffix::{SolvedSuffix, begin_at};
 use crate::windows::{Looks, Window, zeros};
 use pef_cert::{WORD, class_of};
 use pef_reloc::{Base, Fixup};
@@ -172,6 +172,7 @@ impl RunEnds {
         requires column_len { length self.old.column.items ≡ length known.registers.now + 1 }
         requires far_len { length self.old.far.items ≡ length known.registers.now + 1 }
         requires near { (l : Labels) → Agrees l known at.others.now → NearKept l (at.first ∷ at.others.now) self.old.near.items }
+        requires near_small { NearSmall (length known.registers.now + 1) (at.first ∷ at.others.now) self.old.near.items }
         requires ends { WordEnds (λ l. Agrees l known at.others.now) (length known.registers.now + 1) at.others.now self.old.words }
         ensures imports { self.new.imports ≡ self.old.imports }
         ensures pairs { self.new.pairs ≡ self.old.pairs }
@@ -185,7 +186,7 @@ impl RunEnds {
         let looks = known.looks;
         let class = class_of(known.registers, section);
         known.copy_column(&self.near, class, &mut self.column);
-        known.fill_beyond(at, section, &mut self.far);
+        fill_far(known, at, section, &self.column, &mut self.far);
         let words = goes_on(Run::WordsOfD(section), at, 0);
         self.words
             .in_c
@@ -364,6 +365,44 @@ fn goes_on(run: Run, at: FixupState<'_>, import: u64) -> bool
     ensures { Begins run (at.entry.first.offset + stride run) import at.entry.others.now result }
 {
     run.begins(at.others, u64::from(at.first.offset) + run.stride(), import)
+}
+
+/// Fills in the extension one word further on with the fixup's section in register D, by the class of C. The
+/// column has the extension right after the fixup.
+fn fill_far(
+    known: SolvedSuffix<'_>,
+    at: FixupState<'_>,
+    section: u32,
+    column: &[u32],
+    far: &mut [u32],
+)
+    requires at { AtOf known at }
+    requires base { at.first.base ≡ Section section }
+    requires column_len { length column.now ≡ length known.registers.now + 1 }
+    requires far_len { length far.old ≡ length known.registers.now + 1 }
+    requires column { (l : Labels) → Agrees l known at.others.now → ColumnAt l at.first at.others.now column.now section }
+    requires small { (c : ℕ) → c < length column.now → 2 + slice_index column.now c < 2 ^ 32 }
+    ensures len { length far.new ≡ length far.old }
+    ensures is { (l : Labels) → Agrees l known.entry at.entry.others.now → FarAt l at.entry.first.offset at.entry.others.now far.new (Section section) }
+{
+    if begin_at(at.others, u64::from(at.first.offset) + WORD) {
+        known.looks.add(far.len() as u64);
+        fill_past(column, far);
+    } else {
+        known.fill_beyond(at, section, far);
+    }
+}
+
+/// Fills in the extensions past the next fixup, from those at the fixup.
+fn fill_past(column: &[u32], past: &mut [u32])
+    requires len { length column.now ≡ length past.old }
+    requires small { (c : ℕ) → c < length column.now → 2 + slice_index column.now c < 2 ^ 32 }
+    ensures len { length past.new ≡ length past.old }
+    ensures are { (c : ℕ) → c < length past.old → slice_index past.new c ≡ 2 + slice_index column.now c }
+{
+    'classes: for c in 0..past.len() {
+        past[c] = 2 + column[c];
+    }
 }
 
 /// Returns the numbers of a row with register C in a class, by the class of D.

@@ -276,7 +276,7 @@ fn fill_column_ahead(ahead: NextFixup<'_>, class: usize, values: &mut [u32])
 
 /// Returns whether the first of some fixups is at a position.
 #[inline(always)]
-fn begin_at(fixups: &[Fixup], position: u64) -> bool
+pub(crate) fn begin_at(fixups: &[Fixup], position: u64) -> bool
     ensures { result ≡ begin_at position fixups.now }
 {
     match fixups.first() {
