@@ -24,10 +24,10 @@ use Rattle.pef_plan.specs.declared.runs.state.FixupState.{FixupState}
 use Rattle.pef_plan.specs.declared.runs.ends.RunEnds.{RunEnds}
 use Rattle.pef_plan.specs.Runs.Ends.{EndsAt, EndsOf}
 use Rattle.pef_plan.specs.Runs.Places.{AtOf, Counts}
-use Rattle.pef_plan.specs.Kept.Near.{NearSteps}
+use Rattle.pef_plan.specs.Kept.Near.{StepsFrom}
 use Rattle.pef_plan.specs.Kept.Rows.{RowOf, SkipsOf}
 use Rattle.pef_plan.specs.Kept.Steps.{labels_tabled}
-use Rattle.pef_plan.proofs.SetLemmas.{extension-set_c, extension-set_d}
+use Rattle.pef_plan.proofs.ImportLemmas.{steps-from}
 use Rattle.pef_plan.specs.Runs.Tables.{Agrees, OffersAre, OffersFrom, SameLabels, Shaped, label_in, number_in, place_of, skip_in}
 use Rattle.pef_cert.specs.Rows.{LaidRows}
 use Rattle.pef_words.proofs.Laws.Lists.{all-append}
@@ -358,9 +358,9 @@ fill-at fixups rs labels skips at n index k a fit right step inside t known stat
       import_small = (let low = index-small (take at fixups) 0 (all-take (λ f. fixup_fits f ≡ true) at fixups (each_fits fixups fit)) (omega arith) in let is = state.import_index in omega (arith, low, is));
     }
 
--- the change of one register changes the extension right after the fixup by at most 1
-pub fill-steps : (fixups : List Fixup) (rs : List ℕ) (labels : List (List ℕ)) (skips : List (List ℕ)) (at n index : ℕ) (k : SolvedSuffix) (a : FixupState) (ends : RunEnds) → fixups_fit fixups ≡ true → RegistersOf fixups rs → n ≡ at + 1 → n ≤ length fixups → Tabled rs labels skips index (drop n fixups) → KnownOf k rs labels skips → StateAt fixups at a → EndsAt k a.others.now (a.first ∷ a.others.now) ends → NearSteps k ends
-fill-steps fixups rs labels skips at n index k a ends fit right step inside t known state is =
+-- the change of one register changes the extension at each suffix of the fixups that are left by at most 1
+pub fill-steps : (fixups : List Fixup) (rs : List ℕ) (labels : List (List ℕ)) (skips : List (List ℕ)) (at n index : ℕ) (k : SolvedSuffix) (a : FixupState) → fixups_fit fixups ≡ true → RegistersOf fixups rs → n ≡ at + 1 → n ≤ length fixups → Tabled rs labels skips index (drop n fixups) → KnownOf k rs labels skips → StateAt fixups at a → StepsFrom k a.others.now
+fill-steps fixups rs labels skips at n index k a fit right step inside t known state =
     let rest : drop n fixups ≡ a.others.now = ap (λ m. drop m fixups) step ∙ sym state.others in
     let t' = subst (λ (fs : List Fixup). Tabled rs labels skips index fs) rest t in
     let l : Labels = labels_tabled k in
@@ -368,29 +368,17 @@ fill-steps fixups rs labels skips at n index k a ends fit right step inside t kn
       registers_are = known.registers_are;
       label_is = λ left c d _ _ _. ap₂ (λ (xs : List ℕ) (ls : List (List ℕ)). label_in (length xs + 1) ls left c d) known.registers_are known.labels_are;
     } in
-    let agrees : Agrees l k a.others.now = record {
+    let here = fill-at fixups rs labels skips at n index k a fit right step inside t known state in
+    steps-from k l index a.others.now
+    (record {
       same = record { registers_are = refl; label_is = λ left c d _ _ _. refl };
       offers = subst (λ (xs : List (List ℕ)). OffersFrom l xs a.others.now) (sym known.skips_are) (t'.offers l same);
-    } in
-    let here = fill-at fixups rs labels skips at n index k a fit right step inside t known state in
-    let world : World l index a.others.now = record {
+    })
+    (record {
       numbers = numbers fixups l fit (subst (λ (xs : List ℕ). RegistersOf fixups xs) (sym known.registers_are) right);
       registered = registered-all k.registers.now a.others.now here.counts.1;
       feasible = t'.feasible l same;
-    } in
-    let near = is.near l agrees in
-    record {
-      c_line = λ c e d under_c under_e under_d.
-          let low = extension-set_c l index a.others.now (a.first.offset + 4) c e d world under_c under_e under_d in
-          let one = near c d under_c under_d in
-          let two = near e d under_e under_d in
-          omega (arith, low, one, two);
-      d_line = λ c d e under_c under_d under_e.
-          let low = extension-set_d l index a.others.now (a.first.offset + 4) c d e world under_c under_d under_e in
-          let one = near c d under_c under_d in
-          let two = near c e under_c under_e in
-          omega (arith, low, one, two);
-    }
+    })
 
 first_is : (fixups : List Fixup) (at : ℕ) (a : FixupState) → at < length fixups → StateAt fixups at a → index_after (take (at + 1) fixups) 0 ≡ index_past a.first.base (index_after (take at fixups) 0)
 first_is fixups at a under state =

@@ -1,6 +1,7 @@
 pub mod Laws
 mod FillLemmas
 mod Leading
+mod ImportLemmas
 mod LineLemmas
 mod CrossLemmas
 mod DirectLemmas

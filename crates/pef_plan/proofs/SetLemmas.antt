@@ -123,10 +123,9 @@ extension-set_d l index (f ∷ rest) p c d e w under_c under under_e =
           (moved-is (f.offset - p) (label_here l f rest c e) (offer_at l f rest c e)))
     ]
 
--- a row of such numbers with a cost added is closed
-pub closed-alone : (count cost : ℕ) (base row : List ℕ) → StepsOf count base → ((c d : ℕ) → c < count → d < count → number_in count row c d ≡ cost + number_in count base c d) → ClosedOf count row row
-closed-alone count cost base row steps are = record {
-  below = λ c d _ _. omega arith;
+-- a row of such numbers with a cost added has such numbers, and is closed
+pub steps-plus : (count cost : ℕ) (base row : List ℕ) → StepsOf count base → ((c d : ℕ) → c < count → d < count → number_in count row c d ≡ cost + number_in count base c d) → StepsOf count row
+steps-plus count cost base row steps are = record {
   c_line = λ c e d under_c under_e under_d.
       let low = steps.c_line c e d under_c under_e under_d in
       let here = are c d under_c under_d in
@@ -137,5 +136,7 @@ closed-alone count cost base row steps are = record {
       let here = are c d under_c under_d in
       let there = are c e under_c under_e in
       omega (arith, low, here, there);
-  from = λ c d _ _. inl refl;
 }
+
+pub closed-steps : (count : ℕ) (row : List ℕ) → StepsOf count row → ClosedOf count row row
+closed-steps count row steps = record { below = λ c d _ _. omega arith; c_line = steps.c_line; d_line = steps.d_line; from = λ c d _ _. inl refl }

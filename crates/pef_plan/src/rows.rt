@@ -5,8 +5,8 @@ ghost use Rattle.pef_reloc.specs.declared.fixup.Base.TheVariants.{Import, Sectio
 ghost use Rattle.pef_plan.specs.Runs.Ends.{EndsAt};
 ghost use Rattle.pef_plan.specs.Runs.Places.{AtOf};
 ghost use Rattle.pef_plan.specs.Runs.Tables.{number_in, place_of};
-ghost use Rattle.pef_plan.specs.Kept.Near.{NearSteps, StepsBeside};
-ghost use Rattle.pef_plan.specs.Kept.Rows.{Adds, AddsInBoth, AddsInC, AlongOf, ClosedOf, DirectRow, EachState, LeastOf, LineOf, LinesOf, LowersIn, RowOf, SmallLine, TopsOf, state_of};
+ghost use Rattle.pef_plan.specs.Kept.Near.{StepsBeside, StepsFrom, StepsOf};
+ghost use Rattle.pef_plan.specs.Kept.Rows.{Adds, AddsInBoth, AddsInC, ClosedOf, DirectRow, EachState, LeastOf, LowersIn, RowOf, SmallLine, TopsOf, state_of};
 ghost use Rattle.pef_reloc.specs.Limits.{most_sections};
 
 use crate::direct::SMALL_IMPORTS;
@@ -27,7 +27,7 @@ pub(crate) fn fill_labels(
 )
     requires at { AtOf known at }
     requires ends { EndsAt known at.others.now (at.first ∷ at.others.now) ends.now }
-    requires steps { NearSteps known ends.now }
+    requires steps { StepsFrom known at.others.now }
     requires row { length row.old ≡ (length known.registers.now + 1) * (length known.registers.now + 1) }
     ensures len { length row.new ≡ length row.old }
     ensures labels { RowOf known.entry at.entry row.new }
@@ -55,7 +55,7 @@ fn fill_section(
     requires base { at.first.base ≡ Section of.section }
     requires class { class_of known.registers.now of.section ≡ of.class }
     requires ends { EndsAt known at.others.now (at.first ∷ at.others.now) ends.now }
-    requires steps { NearSteps known ends.now }
+    requires steps { StepsFrom known at.others.now }
     requires row { length row.old ≡ (length known.registers.now + 1) * (length known.registers.now + 1) }
     ensures len { length row.new ≡ length row.old }
     ensures labels { RowOf known.entry at.entry row.new }
@@ -130,8 +130,8 @@ fn lower_in_d(
     saved
 }
 
-/// Fills in the labels at a fixup that has an import. If no run begins there, the values of one addition are
-/// already the labels, because a change of registers changes the extension by at most 1.
+/// Fills in the labels at a fixup that has an import. The direct values are already the labels: runs of imports
+/// need no register, and a change of registers changes the extension after an instruction by at most 1.
 fn fill_import(
     known: SolvedSuffix<'_>,
     at: FixupState<'_>,
@@ -142,7 +142,7 @@ fn fill_import(
     requires at { AtOf known at }
     requires base { at.first.base ≡ Import import }
     requires ends { EndsAt known at.others.now (at.first ∷ at.others.now) ends.now }
-    requires steps { NearSteps known ends.now }
+    requires steps { StepsFrom known at.others.now }
     requires row { length row.old ≡ (length known.registers.now + 1) * (length known.registers.now + 1) }
     ensures len { length row.new ≡ length row.old }
     ensures labels { RowOf known.entry at.entry row.new }
@@ -150,7 +150,6 @@ fn fill_import(
     ends.fill_alone(import_cost(import), row);
     if u64::from(import) == at.import_index {
         lower_by_imports(known, at, ends, import, row);
-        close_row(row, known.classes());
     }
 }
 
@@ -176,8 +175,11 @@ fn lower_by_imports(
     requires ends { EndsAt known at.others.now (at.first ∷ at.others.now) ends.now }
     requires row { length row.old ≡ (length known.registers.now + 1) * (length known.registers.now + 1) }
     requires each { EachState known at (λ h value. Adds known h (import_cost import) value) row.old }
+    requires alone { StepsOf (length known.registers.now + 1) row.old }
+    requires steps { StepsFrom known at.others.now }
     ensures len { length row.new ≡ length row.old }
     ensures direct { DirectRow known.entry at.entry row.new }
+    ensures steps { StepsOf (length known.entry.registers.now + 1) row.new }
 {
     let classes = known.classes();
     let (mut c, mut d) = (0, 0);
@@ -355,111 +357,6 @@ fn lower_line(row: &mut [u32], start: usize, tops: &[u32], top: u32)
     'classes: for d in 0..tops.len() {
         row[start + d] = row[start + d].min(tops[d]).min(top);
     }
-}
-
-/// Replaces each direct value by the least over all classes, with 1 added for each register that changes.
-fn close_row(row: &mut [u32], classes: usize)
-    requires some { 0 < classes }
-    requires few { classes ≤ most_sections + 1 }
-    requires row { length row.old ≡ classes * classes }
-    requires small { SmallLine (length row.old) row.old }
-    ensures len { length row.new ≡ length row.old }
-    ensures closed { ClosedOf classes row.old row.new }
-{
-    let mut room = [0; MAX_CLASSES];
-    let lows = &mut room[..classes];
-    fill_lows(row, lows);
-    close_lines(row, lows);
-}
-
-/// Fills in the least of each column of a row, by the class of register D.
-#[inline(always)]
-fn fill_lows(row: &[u32], lows: &mut [u32])
-    requires some { 0 < length lows.old }
-    requires few { length lows.old ≤ most_sections + 1 }
-    requires row { length row.now ≡ length lows.old * length lows.old }
-    ensures len { length lows.new ≡ length lows.old }
-    ensures least { (d : ℕ) → d < length lows.old → LeastOf (length lows.old) (λ c. number_in (length lows.old) row.now c d) (slice_index lows.new d) }
-{
-    let classes = lows.len();
-    let (first, _) = row.split_at(classes);
-    lows.copy_from_slice(first);
-    'lines: for c in 1..classes {
-        lower_to_line(lows, row, c * classes);
-    }
-}
-
-/// Lowers each number to the one of a row's line, if that is less. The line begins at `start`.
-#[inline(always)]
-fn lower_to_line(lows: &mut [u32], row: &[u32], start: usize)
-    requires inside { start + length lows.old ≤ length row.now }
-    ensures len { length lows.new ≡ length lows.old }
-    ensures lower { (d : ℕ) → d < length lows.old → slice_index lows.new d ≡ min (slice_index lows.old d) (slice_index row.now (start + d)) }
-{
-    'numbers: for d in 0..lows.len() {
-        lows[d] = lows[d].min(row[start + d]);
-    }
-}
-
-/// Does the same from the least of each column.
-#[inline(always)]
-fn close_lines(row: &mut [u32], lows: &[u32])
-    requires some { 0 < length lows.now }
-    requires few { length lows.now ≤ most_sections + 1 }
-    requires row { length row.old ≡ length lows.now * length lows.now }
-    requires small { SmallLine (length row.old) row.old }
-    requires lows { (d : ℕ) → d < length lows.now → LeastOf (length lows.now) (λ c. number_in (length lows.now) row.old c d) (slice_index lows.now d) }
-    ensures len { length row.new ≡ length row.old }
-    ensures closed { ClosedOf (length lows.now) row.old row.new }
-{
-    let low = least(lows, 0, lows.len());
-    'lines: for c in 0..lows.len() {
-        close_line(row, c * lows.len(), lows, low);
-    }
-}
-
-/// Does the same for one class of register C. Its line begins at `start`.
-#[inline(always)]
-fn close_line(row: &mut [u32], start: usize, lows: &[u32], low: u32)
-    requires some { 0 < length lows.now }
-    requires inside { start + length lows.now ≤ length row.old }
-    requires lows { SmallLine (length lows.now) lows.now }
-    requires low { low ≤ 1048576 }
-    requires above { (d : ℕ) → d < length lows.now → low ≤ slice_index row.old (start + d) }
-    ensures len { length row.new ≡ length row.old }
-    ensures line { LineOf (length lows.now) (λ d. slice_index row.old (start + d)) (λ d. slice_index lows.now d) low (λ d. slice_index row.new (start + d)) }
-    ensures others { (i : ℕ) → (i < start) ⊎ (start + length lows.now ≤ i) → slice_index row.new i ≡ slice_index row.old i }
-{
-    let along = least_along(row, start, lows.len(), low);
-    'classes: for d in 0..lows.len() {
-        row[start + d] = row[start + d].min(lows[d] + 1).min(along + 1);
-    }
-}
-
-/// Returns the least of the numbers of a line, or `low + 1` if that is less. None of them is below `low`. The line
-/// begins at `start`.
-#[inline(always)]
-fn least_along(row: &[u32], start: usize, count: usize, low: u32) -> u32
-    requires inside { start + count ≤ length row.now }
-    requires low { low ≤ 1048576 }
-    requires above { (d : ℕ) → d < count → low ≤ slice_index row.now (start + d) }
-    ensures is { AlongOf count (λ d. slice_index row.now (start + d)) low result }
-    ensures small { result ≤ low + 1 }
-{
-    let mut along = low + 1;
-    'numbers: for d in 0..count {
-        along = low_if_equal(row[start + d], low, along);
-    }
-    along
-}
-
-/// Returns `low` if a number is equal to it, and otherwise `along`.
-#[inline(always)]
-fn low_if_equal(number: u32, low: u32, along: u32) -> u32
-    ensures equal { number ≡ low → result ≡ low }
-    ensures other { number ≢ low → result ≡ along }
-{
-    if number == low { low } else { along }
 }
 
 /// Returns the least of `count` numbers, beginning at index `from`.

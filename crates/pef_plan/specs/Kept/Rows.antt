@@ -66,23 +66,6 @@ pub record LeastOf (count : ℕ) (f : ℕ → ℕ) (value : ℕ) : Type 0 where
   pub under : at < count
   pub is : f at ≡ value
 
--- the least of so many numbers, or 1 more than a lower bound if that is less
-pub record AlongOf (count : ℕ) (f : ℕ → ℕ) (low value : ℕ) : Type 0 where
-  pub each : (x : ℕ) → x < count → value ≤ f x
-  pub most : value ≤ low + 1
-  pub one : ((x : ℕ) × (x < count) × (f x ≡ value)) ⊎ (value ≡ low + 1)
-
--- a line of labels, computed from a line of direct values, the least of each column, and the least of all
-pub record LineOf (count : ℕ) (direct lows : ℕ → ℕ) (low : ℕ) (line : ℕ → ℕ) : Type 0 where
-  pub here : (d : ℕ) → d < count → line d ≤ direct d
-  pub column : (d : ℕ) → d < count → line d ≤ lows d + 1
-  pub along : (d e : ℕ) → d < count → e < count → line d ≤ direct e + 1
-  pub all : (d : ℕ) → d < count → line d ≤ low + 2
-  pub is : (d : ℕ) → d < count → ((line d ≡ direct d) ⊎ (line d ≡ lows d + 1)) ⊎ (((e : ℕ) × (e < count) × (line d ≡ direct e + 1)) ⊎ (line d ≡ low + 2))
-
-abbrev pub LinesOf : ℕ → List ℕ → List ℕ → ℕ → List ℕ → Type 0
-LinesOf count direct lows low row = (c : ℕ) → c < count → LineOf count (λ d. number_in count direct c d) (λ d. slice_index lows d) low (λ d. number_in count row c d)
-
 -- each label of a row is the least over all changes of registers
 pub record ClosedOf (count : ℕ) (direct row : List ℕ) : Type 0 where
   pub below : (c d : ℕ) → c < count → d < count → number_in count row c d ≤ number_in count direct c d

@@ -4,8 +4,9 @@ use Rattle.pef_plan.specs.Kept.Rows.{ClosedOf}
 use Rattle.pef_plan.specs.Runs.Tables.{number_in, place_of}
 use Rattle.pef_plan.proofs.CrossLemmas.{steps-beside}
 use Rattle.pef_plan.proofs.DirectLemmas.{adds-section, direct-row, each_place}
+use Rattle.pef_plan.proofs.ImportLemmas.{near-steps}
 use Rattle.pef_plan.proofs.RunsProofs.PlaceLemmas.{place_under}
-use Rattle.pef_plan.proofs.SetLemmas.{closed-alone}
+use Rattle.pef_plan.proofs.SetLemmas.{closed-steps, steps-plus}
 use Rattle.pef_plan.proofs.rows.fill_section.Goals as goal
 
 pub fill_alone-requires-clause-small : goal.fill_alone-requires-clause-small
@@ -41,7 +42,7 @@ close_cross-requires-clause-steps c =
     let r : ℕ = length a.known.registers.now + 1 in
     let row = c.requires.row in
     subst (λ (n : ℕ). StepsBeside n a.of.class c.lower_in_d-in_d.new.row) (sym c.classes.ensures)
-    (steps-beside r a.of.class 1 c.lower_in_c-in_c.result c.lower_in_d-in_d.result a.ends.now.near.items c.fill_alone.new.row c.lower_in_c-in_c.new.row c.lower_in_d-in_d.new.row c.requires.steps
+    (steps-beside r a.of.class 1 c.lower_in_c-in_c.result c.lower_in_d-in_d.result a.ends.now.near.items c.fill_alone.new.row c.lower_in_c-in_c.new.row c.lower_in_d-in_d.new.row (near-steps a.known a.at a.ends.now c.requires.ends c.requires.steps)
     (λ x y under_x under_y. c.fill_alone.ensures.are (place_of r x y) (let inside = place_under r x y under_x under_y in omega (arith, inside, row)))
     c.lower_in_c-in_c.ensures.lowers c.lower_in_d-in_d.ensures.lowers)
 
@@ -65,9 +66,9 @@ returns-else-in_d-gt0-clause-labels c =
     record {
       direct = last;
       direct_is = direct-row a.known a.at a.of.section last c.requires.at c.requires.base c.lower_in_d-in_d.ensures.each;
-      closed = closed-alone r 1 a.ends.now.near.items last c.requires.steps
+      closed = closed-steps r last (steps-plus r 1 a.ends.now.near.items last (near-steps a.known a.at a.ends.now c.requires.ends c.requires.steps)
           (λ x y under_x under_y.
           c.lower_in_d-in_d.ensures.lowers.none (omega (arith, in_d)) x y under_x under_y
           ∙ (c.lower_in_c-in_c.ensures.lowers.none (omega (arith, in_c)) x y under_x under_y
-          ∙ c.fill_alone.ensures.are (place_of r x y) (let inside = place_under r x y under_x under_y in omega (arith, inside, row))));
+          ∙ c.fill_alone.ensures.are (place_of r x y) (let inside = place_under r x y under_x under_y in omega (arith, inside, row)))));
     }

@@ -75,10 +75,9 @@ fill_labels-requires-clause-steps c =
     let e = c.state_at-state.ensures in
     let t = c.fixups-test.true in
     let i = c.fixups.invariant in
-    fill-steps c.args.fixups.now c.args.registers.now c.fixups.labels.rows c.fixups.skips.rows (c.fixups.at - 1) c.fixups.at _ _ c.state_at-state.result c.pass.new.self c.requires.fit c.requires.registers (omega (arith, t)) i.inside i.tables.tabled
+    fill-steps c.args.fixups.now c.args.registers.now c.fixups.labels.rows c.fixups.skips.rows (c.fixups.at - 1) c.fixups.at _ _ c.state_at-state.result c.requires.fit c.requires.registers (omega (arith, t)) i.inside i.tables.tabled
     (record { registers_are = refl; labels_are = refl; skips_are = refl; labels_wide = i.tables.labels_wide; skips_wide = i.tables.skips_wide })
     (record { left = e.left; parts = e.parts; others = e.others; import_index = e.import_index })
-    c.in_ok-pass.ensures
 
 pub fill_skips-requires-clause-at : goal.fill_skips-requires-clause-at
 fill_skips-requires-clause-at c =
