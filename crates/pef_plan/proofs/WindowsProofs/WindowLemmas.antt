@@ -44,15 +44,15 @@ low-both xs ys i v w a b = record {
   ];
 }
 
-pub row-both : (width : ℕ) (xs ys : List (List ℕ)) (a b s : List ℕ) → LowRow width xs a → LowRow width ys b → LesserOf width a b s → LowRow width (xs ++ ys) s
+row-both : (width : ℕ) (xs ys : List (List ℕ)) (a b s : List ℕ) → LowRow width xs a → LowRow width ys b → LesserOf width a b s → LowRow width (xs ++ ys) s
 row-both width xs ys a b s one other is i under =
     subst (λ (v : ℕ). LowIn (xs ++ ys) i v) (sym (is i under)) (low-both xs ys i (slice_index a i) (slice_index b i) (one i under) (other i under))
 
-pub row-one : (width : ℕ) (s : List ℕ) → LowRow width (s ∷ []) s
+row-one : (width : ℕ) (s : List ℕ) → LowRow width (s ∷ []) s
 row-one width s i under = record { each = (omega arith, tt); one = inl (omega arith) }
 
 -- the better of a number and the least of some rows
-pub best-low : (rows : List (List ℕ)) (first i low : ℕ) → LowIn rows i low → BestOf first rows i (min first (1 + low))
+best-low : (rows : List (List ℕ)) (first i low : ℕ) → LowIn rows i low → BestOf first rows i (min first (1 + low))
 best-low rows first i low l = record {
   first_is = omega arith;
   each = each-more low (min first (1 + low)) rows i l.each (omega arith);
@@ -62,7 +62,7 @@ best-low rows first i low l = record {
   ];
 }
 
-pub best-both : (older newer : List (List ℕ)) (first i best low : ℕ) → BestOf first older i best → LowIn newer i low → BestOf first (newer ++ older) i (min best (1 + low))
+best-both : (older newer : List (List ℕ)) (first i best low : ℕ) → BestOf first older i best → LowIn newer i low → BestOf first (newer ++ older) i (min best (1 + low))
 best-both older newer first i best low b l =
     let is = b.first_is in
     record {
