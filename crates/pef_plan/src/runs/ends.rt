@@ -386,6 +386,7 @@ fn fill_far(
     ensures is { (l : Labels) → Agrees l known.entry at.entry.others.now → FarAt l at.entry.first.offset at.entry.others.now far.new (Section section) }
 {
     if begin_at(at.others, u64::from(at.first.offset) + WORD) {
+        // The position is past the next fixup, so moving back to it costs two halfwords.
         known.looks.add(far.len() as u64);
         fill_past(column, far);
     } else {
