@@ -1,4 +1,4 @@
-ghost use Rattle.std.specs.Prelude.{◌≡◌, ◌+◌, ◌-◌, ◌^◌, ◌<◌, ◌≤◌, ◌++◌, ◌∷◌, [], IfOk, MatchOption, OnErr, OnOk, Some, None, drop, length, replicate, slice_get, slice_index_or, take};
+ghost use Rattle.std.specs.Prelude.{◌≡◌, ◌+◌, ◌^◌, ◌<◌, ◌++◌, ◌∷◌, [], IfOk, OnErr, OnOk, length, replicate, slice_index_or};
 
 use std::alloc::{AllocError, Global};
 use std::marker::Model;
@@ -8,13 +8,12 @@ use std::marker::Model;
 pub struct Table {
     width: usize,
     rows: usize,
-    /// The numbers of the rows, and then those of rows that were removed. A new row replaces them, so that it
-    /// needs no allocation.
+    /// The numbers of the rows.
     values: Vec<u32>,
 }
 
 impl Model for Table {
-    ghost use Rattle.std.specs.Prelude.{◌≤◌, ◌*◌, length};
+    ghost use Rattle.std.specs.Prelude.{◌≡◌, ◌*◌, length};
     ghost use Rattle.pef_cert.specs.Rows.{LaidRows};
     ghost use Rattle.pef_plan.specs.Windows.Tables.{rows_of};
 
@@ -22,7 +21,7 @@ impl Model for Table {
 
     ghost view = { λ t. record { width = t.width; rows = rows_of t.rows t.width t.values.items } };
 
-    ghost invariant = { λ t. t.rows * t.width ≤ length t.values.items };
+    ghost invariant = { λ t. t.rows * t.width ≡ length t.values.items };
 }
 
 impl Table {
@@ -37,14 +36,6 @@ impl Table {
         }
     }
 
-    /// Returns the number of rows.
-    #[inline(always)]
-    pub fn rows(&self) -> usize
-        ensures { result ≡ length self.now.rows }
-    {
-        self.rows
-    }
-
     /// Adds a row after the last one.
     ///
     /// # Errors
@@ -57,7 +48,7 @@ impl Table {
         ensures ok { OnOk result (self.new ≡ record { width = self.old.width; rows = self.old.rows ++ row.now ∷ [] }) }
         ensures err { OnErr result (self.new ≡ self.old) }
     {
-        write_row(&mut self.values, self.rows * self.width, row)?;
+        self.values.extend_from_slice(row)?;
         self.rows += 1;
         Ok(())
     }
@@ -72,70 +63,6 @@ impl Table {
         let (_, rest) = self.values.split_at(index * self.width);
         let (row, _) = rest.split_at(self.width);
         row
-    }
-
-    /// Returns the last row, if there is one.
-    #[inline(always)]
-    pub fn last(&self) -> Option<&[u32]>
-        ensures is { MatchOption result (self.now.rows ≡ []) (λ row. slice_get self.now.rows (length self.now.rows - 1) ≡ Some row.now) }
-        ensures wide { MatchOption result (self.now.rows ≡ []) (λ row. length row.now ≡ self.now.width) }
-    {
-        if self.rows == 0 {
-            return None;
-        }
-        Some(self.row(self.rows - 1))
-    }
-
-    /// Removes the last row.
-    #[inline(always)]
-    pub fn pop(&mut self)
-        ensures { self.new ≡ record { width = self.old.width; rows = take (length self.old.rows - 1) self.old.rows } }
-    {
-        if self.rows > 0 {
-            self.rows -= 1;
-        }
-    }
-
-    /// Removes all rows.
-    #[inline(always)]
-    pub fn clear(&mut self)
-        ensures { self.new ≡ record { width = self.old.width; rows = [] } }
-    {
-        self.rows = 0;
-    }
-}
-
-/// Writes a row at an index, over the numbers that are there or after them.
-///
-/// # Errors
-///
-/// `AllocError`, if the allocation failed. The numbers before the index are unchanged then.
-#[inline(always)]
-fn write_row(values: &mut Vec<u32>, start: usize, row: &[u32]) -> Result<(), AllocError>
-    requires { start ≤ length values.old.items }
-    ensures before { take start values.new.items ≡ take start values.old.items }
-    ensures inside { start ≤ length values.new.items }
-    ensures room { OnOk result (start + length row.now ≤ length values.new.items) }
-    ensures row { OnOk result (take (length row.now) (drop start values.new.items) ≡ row.now) }
-{
-    if values.len() - start < row.len() {
-        values.truncate(start);
-        return values.extend_from_slice(row);
-    }
-    let (_, rest) = values.split_at_mut(start);
-    copy_row(row, rest);
-    Ok(())
-}
-
-/// Copies a row to the front of some numbers. Rows are short, and then this is faster than a copy by the
-/// library.
-#[inline(always)]
-fn copy_row(row: &[u32], numbers: &mut [u32])
-    requires { length row.now ≤ length numbers.old }
-    ensures { numbers.new ≡ row.now ++ drop (length row.now) numbers.old }
-{
-    'numbers: for i in 0..row.len() {
-        numbers[i] = row[i];
     }
 }
 
