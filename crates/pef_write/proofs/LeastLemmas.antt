@@ -14,7 +14,7 @@ use Rattle.pef_words.proofs.Laws.Lists.{all-get}
 use Rattle.pef_write.specs.LeastPrograms.{HasLeastProgram}
 use Rattle.pef_write.specs.Linked.{AreCertified, IsCertified, IsLinked, LinkedContainer, program_of, programs_from}
 use Rattle.pef_write.specs.Loaders.{ProgramEntry}
-use Rattle.pef_write.proofs.Certificates.{certified_least}
+use Rattle.pef_write.proofs.CertificateLemmas.{certified_least}
 
 -- the programs for section k, among those written for sections from a number on
 abbrev own_of : ℕ → List ProgramEntry → List ProgramEntry
@@ -74,11 +74,11 @@ certificate_at from (suc i) (s ∷ sections) (c ∷ certificates) section are th
 
 pub least_program : (s : DescribedScript) (l : LinkedContainer) (linked : IsLinked s l) (k : ℕ) (section : DescribedSection) → slice_get s.sections k ≡ Some section → HasLeastProgram s l linked k section
 least_program s l linked k section there =
-    let found = certificate_at 0 k s.sections l.certificates section linked.certified there in
+    let found = certificate_at 0 k s.sections linked.certificates section linked.certified there in
     let at : 0 + k ≡ k = omega arith in
     let is : IsCertified k section.fixups found.certificate = subst (λ n. IsCertified n section.fixups found.certificate) at found.is in
     let holds = all-get (SectionHolds (length s.sections) (length s.imports)) s.sections k section linked.holds.sections.each there in
-    let program : slice_get linked.programs k ≡ Some found.certificate.program = ap (λ programs. slice_get programs k) linked.programs_are ∙ slice_get-map (λ (c : Certified). c.program) l.certificates k ∙ ap (option_map (λ (c : Certified). c.program)) found.there in
+    let program : slice_get linked.programs k ≡ Some found.certificate.program = ap (λ programs. slice_get programs k) linked.programs_are ∙ slice_get-map (λ (c : Certified). c.program) linked.certificates k ∙ ap (option_map (λ (c : Certified). c.program)) found.there in
     record {
       certificate = found.certificate;
       there = found.there;

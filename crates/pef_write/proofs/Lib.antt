@@ -9,7 +9,7 @@ mod TablesStand
 mod TablesRead
 mod Counts
 mod Programs
-mod Certificates
+mod CertificateLemmas
 mod LeastLemmas
 mod ExportNames
 mod Fitting

@@ -3,49 +3,58 @@ use Rattle.std.proofs.Common.{◌≡◌, ◌∙◌, ℕ, ◌<◌, ◌^◌, List,
 use Rattle.std.proofs.lemmas.List.{length-map}
 use Rattle.pef_cert.specs.Certified.{Certified}
 use Rattle.pef_reloc.specs.declared.instr.Instr.{Instr}
-use Rattle.pef_reloc.specs.Instrs.{spelled}
+use Rattle.pef_reloc.specs.Instrs.{program_length, spelled}
 use Rattle.pef_script.specs.Script.{DescribedScript}
-use Rattle.pef_write.specs.Linked.{AreProgramsFor, linked_bytes, linked_loader, linked_tables, script_tables}
-use Rattle.pef_write.specs.Kept.Encoded.{AreEncoded, HasCertificates, HasRoom, container_with, nonempty_from}
-use Rattle.pef_write.proofs.Certificates.{certified_programs}
+use Rattle.pef_write.specs.Linked.{AreProgramsFor, IsLinked, LinkedContainer, linked_bytes, linked_loader, linked_tables, script_tables}
+use Rattle.pef_write.specs.Kept.Encoded.{AreEncoded, HasRoom, container_with, nonempty_from}
+use Rattle.pef_write.proofs.CertificateLemmas.{certified_programs}
 use Rattle.pef_write.proofs.Fitting.{sections_fit, sizes_of}
 use Rattle.pef_write.proofs.Listing.{map-twice}
 use Rattle.pef_write.proofs.Programs.{length-programs, own_programs-are}
 
--- the programs of certificates
-abbrev pub programs_of : List Certified → List (List Instr)
-programs_of certificates = map (λ c. c.program) certificates
+module _ (s : DescribedScript) (programs : List (List ℕ)) (lengths : List ℕ) (e : AreEncoded s programs lengths) where
+  -- the programs of its certificates
+  abbrev pub planned : List (List Instr)
+  planned = map (λ c. c.program) e.each.certificates
 
--- .. as bytes
-pub encoded : (s : DescribedScript) (certificates given : List Certified) (bytes : List (List ℕ)) → HasCertificates s certificates → given ≡ certificates → bytes ≡ map (λ (c : Certified). spelled c.program) given → AreEncoded s certificates bytes
-encoded s certificates given bytes has same are = record { has = has; bytes_are = are ∙ ap (map (λ (c : Certified). spelled c.program)) same }
+  pub programs_for : AreProgramsFor (length s.sections) s.sections planned
+  programs_for = certified_programs (length s.sections) (length s.imports) 0 s.sections e.each.certificates e.holds.sections.each e.each.certified
 
-module _ (s : DescribedScript) (certificates : List Certified) (bytes : List (List ℕ)) (e : AreEncoded s certificates bytes) where
-  pub programs_for : AreProgramsFor (length s.sections) s.sections (programs_of certificates)
-  programs_for = certified_programs (length s.sections) (length s.imports) 0 s.sections certificates e.has.holds.sections.each e.has.certified
-
-  bytes_as : bytes ≡ map spelled (programs_of certificates)
-  bytes_as = e.bytes_are ∙ map-twice spelled (λ (c : Certified). c.program) certificates
+  bytes_as : programs ≡ map spelled planned
+  bytes_as = e.each.programs_are ∙ map-twice spelled (λ (c : Certified). c.program) e.each.certificates
 
   -- the programs that have bytes are those of the sections that have fixups
-  tables_as : script_tables s (nonempty_from 0 bytes) ≡ linked_tables s (programs_of certificates)
-  tables_as = ap (script_tables s) (ap (nonempty_from 0) bytes_as ∙ sym (own_programs-are (length s.sections) 0 s.sections (programs_of certificates) programs_for))
+  tables_as : script_tables s (nonempty_from 0 programs) ≡ linked_tables s planned
+  tables_as = ap (script_tables s) (ap (nonempty_from 0) bytes_as ∙ sym (own_programs-are (length s.sections) 0 s.sections planned programs_for))
 
   -- the container that is written
-  pub container_is : container_with s bytes ≡ linked_bytes s (programs_of certificates)
+  pub container_is : container_with s programs ≡ linked_bytes s planned
   unfolding linked_loader linked_bytes
   container_is = rw tables_as refl
 
-  container_fits : length (linked_bytes s (programs_of certificates)) < 2 ^ 32
+  container_fits : length (linked_bytes s planned) < 2 ^ 32
   unfolding linked_bytes
-  container_fits = (sections_fit s (programs_of certificates) e.has.holds programs_for).size
+  container_fits = (sections_fit s planned e.holds programs_for).size
 
   -- programs are few, and there is room for them
-  pub has_room : HasRoom s bytes
+  pub has_room : HasRoom s programs
   has_room = record {
-    holds = e.has.holds;
-    few = omega (arith, ap length bytes_as ∙ length-map (programs_of certificates) spelled, length-programs (length s.sections) s.sections (programs_of certificates) programs_for, e.has.holds.sections.count);
-    loader = rw tables_as (omega (arith, (sizes_of s (programs_of certificates) e.has.holds programs_for).loader));
-    strings = rw tables_as (sizes_of s (programs_of certificates) e.has.holds programs_for).strings;
+    holds = e.holds;
+    few = omega (arith, ap length bytes_as ∙ length-map planned spelled, length-programs (length s.sections) s.sections planned programs_for, e.holds.sections.count);
+    loader = rw tables_as (omega (arith, (sizes_of s planned e.holds programs_for).loader));
+    strings = rw tables_as (sizes_of s planned e.holds programs_for).strings;
     container = omega (arith, ap length container_is, container_fits);
+  }
+
+  -- what is written is a linked container
+  pub is_linked : (l : LinkedContainer) → l.bytes ≡ container_with s programs → l.lengths ≡ lengths → IsLinked s l
+  is_linked l bytes are = record {
+    holds = e.holds;
+    programs = planned;
+    are = programs_for;
+    bytes = bytes ∙ container_is;
+    lengths = are ∙ e.each.lengths_are ∙ map-twice program_length (λ (c : Certified). c.program) e.each.certificates;
+    certificates = e.each.certificates;
+    certified = e.each.certified;
+    programs_are = refl;
   }

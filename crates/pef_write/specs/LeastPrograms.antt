@@ -13,7 +13,7 @@ use Rattle.pef_write.specs.Linked.{IsCertified, IsLinked, LinkedContainer, progr
 -- fixups
 pub record HasLeastProgram (s : DescribedScript) (l : LinkedContainer) (linked : IsLinked s l) (k : ℕ) (section : DescribedSection) : Type 0 where
   pub certificate : Certified
-  pub there : slice_get l.certificates k ≡ Some certificate
+  pub there : slice_get linked.certificates k ≡ Some certificate
   pub certified : IsCertified k section.fixups certificate
   pub least : Least section.fixups certificate.program
   pub length_is : slice_get l.lengths k ≡ Some (program_length certificate.program)

@@ -47,6 +47,11 @@ AreCertified k [] (c ∷ certificates) = ⊥
 AreCertified k (s ∷ sections) [] = ⊥
 AreCertified k (s ∷ sections) (c ∷ certificates) = IsCertified k s.fixups c × AreCertified (k + 1) sections certificates
 
+-- certificates for the sections of a script that keeps the limits
+pub record HasCertificates (s : DescribedScript) (certificates : List Certified) : Type 0 where
+  pub holds : ScriptHolds s
+  pub certified : AreCertified 0 s.sections certificates
+
 -- library k with its imports: how many it has, and how many the libraries before it have
 abbrev pub linked_library : List Import → ℕ → DescribedLibrary → Library
 linked_library imports k l = record {
@@ -109,20 +114,19 @@ linked_loader s programs = written_loader (linked_tables s programs)
 unfoldable pub linked_bytes : DescribedScript → List (List Instr) → List ℕ
 linked_bytes s programs = written_container s.versions s.sections (linked_loader s programs)
 
--- a linked container: its bytes, and for each section the length of its program, in halfwords, and the
--- certificate that none is shorter
+-- a linked container: its bytes, and for each section the length of its program, in halfwords
 pub record LinkedContainer : Type 0 where
   pub bytes : List ℕ
   pub lengths : List ℕ
-  pub certificates : List Certified
 
 -- a container linked from a script, which keeps the limits: its bytes with some programs for its sections,
--- their lengths, and the certificates that have the programs
+-- their lengths, and certificates that have the programs
 pub record IsLinked (script : DescribedScript) (l : LinkedContainer) : Type 0 where
   pub holds : ScriptHolds script
   pub programs : List (List Instr)
   pub are : AreProgramsFor (length script.sections) script.sections programs
   pub bytes : l.bytes ≡ linked_bytes script programs
   pub lengths : l.lengths ≡ map program_length programs
-  pub certified : AreCertified 0 script.sections l.certificates
-  pub programs_are : programs ≡ map (λ c. c.program) l.certificates
+  pub certificates : List Certified
+  pub certified : AreCertified 0 script.sections certificates
+  pub programs_are : programs ≡ map (λ c. c.program) certificates

@@ -2,8 +2,8 @@
 //!
 //! The format is that of Mac OS Runtime Architectures, "PEF Structure", and of PEFBinaryFormat.h.
 //! [`link`] takes a script and returns its container, with a shortest relocation program for each
-//! section that has fixups, and a certificate for each. The container is read back as the script: see
-//! [`linked_containers`], [`linked_programs`] and [`linked_programs_are_least`].
+//! section that has fixups. [`certificates`] returns a certificate for each section. The container is read
+//! back as the script: see [`linked_containers`], [`linked_programs`] and [`linked_programs_are_least`].
 #![tactic(auto)]
 
 mod container;
@@ -20,4 +20,5 @@ mod theorems;
 
 pub use fault::LinkFault;
 pub use linking::{Linked, link};
+pub use program::certificates;
 pub use theorems::{linked_containers, linked_programs, linked_programs_are_least};

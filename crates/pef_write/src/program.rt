@@ -1,8 +1,8 @@
-//! The relocation programs of a script's sections, with their certificates.
+//! The relocation programs of a script's sections, and the certificates that none is shorter.
 ghost use Rattle.std.specs.Prelude.{◌≡◌, IfOk, map, true};
-ghost use Rattle.std.specs.List.{All};
 ghost use Rattle.pef_reloc.specs.Instrs.{instrs_fit, spelled};
-ghost use Rattle.pef_write.specs.Kept.Encoded.{HasCertificates};
+ghost use Rattle.pef_write.specs.Linked.{HasCertificates};
+ghost use Rattle.pef_write.specs.Kept.Encoded.{AreEncoded};
 
 use crate::fault::LinkFault;
 use pef_cert::Certificate;
@@ -11,11 +11,13 @@ use pef_reloc::{Instr, encode};
 use pef_script::Script;
 use std::alloc::{AllocError, Global};
 
-/// Returns the certificate of each section of `script`, with its program.
-pub(crate) fn certificates(
-    alloc: Global,
-    script: &Script<'_>,
-) -> Result<Vec<Certificate>, LinkFault>
+/// Returns the certificate of each section of a script, in order. It has a program for the section's
+/// fixups, and proves that no program without repeats is shorter.
+///
+/// # Errors
+///
+/// Only `OutOfMemory`.
+pub fn certificates(alloc: Global, script: &Script<'_>) -> Result<Vec<Certificate>, LinkFault>
     ensures { IfOk result (λ certificates. HasCertificates script.now certificates.items) }
 {
     let sections = &script.parts().sections;
@@ -26,19 +28,29 @@ pub(crate) fn certificates(
     Ok(certificates)
 }
 
-/// Returns the bytes of the program of each of `certificates`. A section without fixups has none.
-pub(crate) fn programs(
-    alloc: Global,
-    certificates: &[Certificate],
-) -> Result<Vec<Vec<u8>>, AllocError>
-    requires { All (λ c. instrs_fit c.program ≡ true) certificates.now }
-    ensures { IfOk result (λ programs. map (λ p. p.items) programs.items ≡ map (λ c. spelled c.program) certificates.now) }
+/// The bytes of the program of each section, and its number of halfwords. A section without fixups has
+/// none.
+#[derive(Drop)]
+pub(crate) struct EncodedPrograms {
+    pub(crate) programs: Vec<Vec<u8>>,
+    pub(crate) lengths: Vec<u32>,
+}
+
+/// Returns the program of each section of a script.
+///
+/// It keeps one certificate at a time, since the labels of all sections would take much memory.
+pub(crate) fn programs(alloc: Global, script: &Script<'_>) -> Result<EncodedPrograms, LinkFault>
+    ensures { IfOk result (λ encoded. AreEncoded script.now (map (λ p. p.items) encoded.programs.items) encoded.lengths.items) }
 {
-    let mut programs = Vec::with_capacity(alloc, certificates.len())?;
-    for certificate in certificates {
+    let sections = &script.parts().sections;
+    let mut programs = Vec::with_capacity(alloc, sections.len())?;
+    let mut lengths = Vec::with_capacity(alloc, sections.len())?;
+    for (k, section) in sections.iter().enumerate() {
+        let certificate = plan(alloc, k as u32, &section.fixups)?;
         programs.push(program_bytes(alloc, &certificate.program)?)?;
+        lengths.push(certificate.program_length() as u32)?;
     }
-    Ok(programs)
+    Ok(EncodedPrograms { programs, lengths })
 }
 
 /// Returns the bytes of a program.

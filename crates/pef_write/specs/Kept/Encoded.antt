@@ -1,8 +1,8 @@
--- The certificates of a script's sections and their relocation programs as bytes, as the code has them.
+-- The relocation programs of a script's sections as bytes, as the code has them.
 use Rattle.std.specs.Prelude.{◌≡◌, ℕ, ◌+◌, ◌<◌, ◌^◌, List, [], ◌∷◌, ◌++◌, length, map}
 use Rattle.pef_cert.specs.Certified.{Certified}
-use Rattle.pef_reloc.specs.Instrs.{spelled}
-use Rattle.pef_script.specs.Script.{DescribedScript}
+use Rattle.pef_reloc.specs.Instrs.{program_length, spelled}
+use Rattle.pef_script.specs.Script.{DescribedScript, DescribedSection}
 use Rattle.pef_script.specs.WellFormed.{ScriptHolds}
 use Rattle.pef_write.specs.Containers.{written_container}
 use Rattle.pef_write.specs.Linked.{AreCertified, script_tables}
@@ -18,15 +18,17 @@ abbrev pub nonempty_from : ℕ → List (List ℕ) → List ProgramEntry
 nonempty_from k [] = []
 nonempty_from k (bytes ∷ programs) = nonempty k bytes ++ nonempty_from (k + 1) programs
 
--- certificates for the sections of a script that was read
-pub record HasCertificates (s : DescribedScript) (certificates : List Certified) : Type 0 where
-  pub holds : ScriptHolds s
-  pub certified : AreCertified 0 s.sections certificates
+-- programs as bytes, and their numbers of halfwords. They are those of certificates for some sections
+pub record AreEncodedFor (sections : List DescribedSection) (programs : List (List ℕ)) (lengths : List ℕ) : Type 0 where
+  pub certificates : List Certified
+  pub certified : AreCertified 0 sections certificates
+  pub programs_are : programs ≡ map (λ c. spelled c.program) certificates
+  pub lengths_are : lengths ≡ map (λ c. program_length c.program) certificates
 
--- .. and the bytes of their programs
-pub record AreEncoded (s : DescribedScript) (certificates : List Certified) (bytes : List (List ℕ)) : Type 0 where
-  pub has : HasCertificates s certificates
-  pub bytes_are : bytes ≡ map (λ c. spelled c.program) certificates
+-- .. for those of a script that was read
+pub record AreEncoded (s : DescribedScript) (programs : List (List ℕ)) (lengths : List ℕ) : Type 0 where
+  pub holds : ScriptHolds s
+  pub each : AreEncodedFor s.sections programs lengths
 
 -- the loader section of a script with the programs of its sections as bytes, and the container
 

@@ -1,9 +1,8 @@
 -- Certificates for the sections of a script: their programs are programs for the sections, and least ones.
 use Rattle.std.proofs.Common.{◌≡◌, ◌∙◌, ℕ, suc, ◌+◌, ◌<◌, ◌^◌, Bool, true, false, ◌&&◌, ◌||◌, List, [], ◌∷◌, ◌++◌, get_or, length, take, map, refl, sym, ap, subst, arith}
-use Rattle.std.specs.List.{All, AllByRecursion}
+use Rattle.std.specs.List.{AllByRecursion}
 use Rattle.std.proofs.lemmas.Bool.{and_from, and_parts, eqb-true, lt-ltb}
-use Rattle.std.proofs.lemmas.List.{length-take-le, take_more}
-use Rattle.std.proofs.lemmas.List.Elements.{All-cons}
+use Rattle.std.proofs.lemmas.List.{length-take-le, map-append, take_more}
 use Rattle.pef_cert.specs.Certified.{Certified}
 use Rattle.pef_cert.proofs.Laws.{valid-least}
 use Rattle.pef_plan.proofs.Laws.{least-names, least-short}
@@ -13,11 +12,13 @@ use Rattle.pef_reloc.specs.declared.fixup.Fixup.{Fixup}
 use Rattle.pef_reloc.specs.declared.instr.Instr.{Instr}
 use Rattle.pef_reloc.specs.Deliveries.{all_meet, is_section, named_imports, names_used, uses_import, uses_section}
 use Rattle.pef_reloc.proofs.Laws.{fixups_fit-parts}
-use Rattle.pef_reloc.specs.Instrs.{instrs_fit, program_length, repeat_free}
+use Rattle.pef_reloc.specs.Instrs.{program_length, spelled}
 use Rattle.pef_reloc.specs.Steps.{Least, all_below, named_sections, names_below}
 use Rattle.pef_script.specs.Script.{DescribedSection}
 use Rattle.pef_script.specs.WellFormed.{BaseThere, SectionHolds}
+use Rattle.pef_words.proofs.Laws.Lists.{all-at}
 use Rattle.pef_write.specs.Linked.{AreCertified, AreProgramsFor, IsCertified, IsProgramFor}
+use Rattle.pef_write.specs.Kept.Encoded.{AreEncodedFor}
 
 -- a section that fixups use exists
 base_there : (n j k : ℕ) (b : Base) → BaseThere n j b → is_section k b ≡ true → k < n
@@ -68,23 +69,11 @@ certified_programs n j k (s ∷ sections) [] holds are = absurd are
 certified_programs n j k (s ∷ sections) (c ∷ certificates) holds are =
     (certified_program n j k s c holds.0 are.0, certified_programs n j (k + 1) sections certificates holds.1 are.1)
 
--- .. whose fields fit
-pub certified_fit : (k : ℕ) (sections : List DescribedSection) (certificates : List Certified) → AreCertified k sections certificates → All (λ (c : Certified). instrs_fit c.program ≡ true) certificates
-certified_fit k [] [] are = λ i d under. absurd (omega arith)
-certified_fit k [] (c ∷ certificates) are = absurd are
-certified_fit k (s ∷ sections) [] are = absurd are
-certified_fit k (s ∷ sections) (c ∷ certificates) are =
-    All-cons (λ (c : Certified). instrs_fit c.program ≡ true) c certificates (and_parts (repeat_free c.program) (instrs_fit c.program) are.0.valid.flat).1 (certified_fit (k + 1) sections certificates are.1)
-
--- .. and which are short
-pub certified_short : (n j k : ℕ) (sections : List DescribedSection) (certificates : List Certified) → AllByRecursion (SectionHolds n j) sections → AreCertified k sections certificates → All (λ (c : Certified). program_length c.program < 2 ^ 32) certificates
-certified_short n j k [] [] holds are = λ i d under. absurd (omega arith)
-certified_short n j k [] (c ∷ certificates) holds are = absurd are
-certified_short n j k (s ∷ sections) [] holds are = absurd are
-certified_short n j k (s ∷ sections) (c ∷ certificates) holds are =
-    let short = (certified_program n j k s c holds.0 are.0).short in
-    let few = (fixups_fit-parts s.fixups holds.0.fixups).count in
-    All-cons (λ (c : Certified). program_length c.program < 2 ^ 32) c certificates (omega (arith, short, few)) (certified_short n j (k + 1) sections certificates holds.1 are.1)
+-- a certified program is short
+pub certified_short : (n j k : ℕ) (sections : List DescribedSection) (i : ℕ) (s d : DescribedSection) (c : Certified) → AllByRecursion (SectionHolds n j) sections → i < length sections → s ≡ get_or sections i d → IsCertified k s.fixups c → program_length c.program < 2 ^ 32
+certified_short n j k sections i s d c hold under found is =
+    let holds : SectionHolds n j s = subst (SectionHolds n j) (sym found) (all-at (SectionHolds n j) sections i d hold under) in
+    omega (arith, (certified_program n j k s c holds is).short, (fixups_fit-parts s.fixups holds.fixups).count)
 
 -- one certificate more, for the next section
 certified_after : (k : ℕ) (sections : List DescribedSection) (certificates : List Certified) (s : DescribedSection) (c : Certified) → AreCertified k sections certificates → IsCertified (k + length sections) s.fixups c → AreCertified k (sections ++ s ∷ []) (certificates ++ c ∷ [])
@@ -104,3 +93,13 @@ certified_more sections k s d done now c under found is pushed are =
     let own : IsCertified (0 + length (take k sections)) s.fixups c = subst (λ n. IsCertified n s.fixups c) at is in
     subst (λ cs. AreCertified 0 (take (k + 1) sections) cs) (sym pushed)
     (subst (λ ss. AreCertified 0 ss (done ++ c ∷ [])) (sym taken) (certified_after 0 (take k sections) done s c are own))
+
+-- .. with their programs, and one more
+pub encoded_more : (sections : List DescribedSection) (k : ℕ) (s d : DescribedSection) (done now : List (List ℕ)) (lengths after : List ℕ) (c : Certified) → k < length sections → s ≡ get_or sections k d → IsCertified k s.fixups c
+    → now ≡ done ++ spelled c.program ∷ [] → after ≡ lengths ++ program_length c.program ∷ [] → AreEncodedFor (take k sections) done lengths → AreEncodedFor (take (k + 1) sections) now after
+encoded_more sections k s d done now lengths after c under found is spelt counted e = record {
+  certificates = e.certificates ++ c ∷ [];
+  certified = certified_more sections k s d e.certificates (e.certificates ++ c ∷ []) c under found is refl e.certified;
+  programs_are = spelt ∙ ap (λ ps. ps ++ spelled c.program ∷ []) e.programs_are ∙ sym (map-append (λ (c : Certified). spelled c.program) e.certificates (c ∷ []));
+  lengths_are = counted ∙ ap (λ ns. ns ++ program_length c.program ∷ []) e.lengths_are ∙ sym (map-append (λ (c : Certified). program_length c.program) e.certificates (c ∷ []));
+}
