@@ -58,7 +58,7 @@ headline-prepares script s t name p answer reached linked resolve there rooms so
         (step.number, prepared-present script s t name number p reached linked step (subst (λ (c : Closed). Contains c.order p) same there))
     by (Err fault) why = (refused-bound s name closure fault rooms.room sound why.0, why.1)
 
-pub headline-least : (script : DescribedScript) (pairs : List Pair) (p : ℕ) (linked : HasLinked pairs p script) → HasLeastPrograms pairs p script linked.container
+pub headline-least : (script : DescribedScript) (pairs : List Pair) (p : ℕ) (linked : HasLinked pairs p script) → HasLeastPrograms pairs p script linked
 headline-least script pairs p linked =
     let read = linked-read script linked.container pairs p linked.linked linked.bytes in
     record { fragment = read.0; read = read.1; least = λ k section there. linked_least script linked.container pairs p read.0 k section linked.linked linked.bytes read.1 there }

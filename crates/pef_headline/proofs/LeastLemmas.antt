@@ -91,15 +91,15 @@ fragment_is : (f g : Fragment) (read : Result Fragment BindRefusal) → read ≡
 fragment_is f g read one two = let both = sym one ∙ two in cc
 
 -- each section of a linked container has a least program, in the loader section that is read from its bytes
-pub linked_least : (script : DescribedScript) (linked : LinkedContainer) (pairs : List Pair) (p : ℕ) (f : Fragment) (k : ℕ) (section : DescribedSection) → IsLinked script linked → (pair_of pairs p).bytes ≡ linked.bytes
-    → fragment_of pairs p ≡ Ok f → slice_get script.sections k ≡ Some section → HasLeast linked f.loader k section.fixups
+pub linked_least : (script : DescribedScript) (linked : LinkedContainer) (pairs : List Pair) (p : ℕ) (f : Fragment) (k : ℕ) (section : DescribedSection) (is : IsLinked script linked) → (pair_of pairs p).bytes ≡ linked.bytes
+    → fragment_of pairs p ≡ Ok f → slice_get script.sections k ≡ Some section → HasLeast is.certificates f.loader k section.fixups
 linked_least script linked pairs p f k section is holds read there =
     let read_as_linked = fragment_linked script linked is pairs p holds in
     let same = ap (λ (g : Fragment). g.loader) (fragment_is (read_fragment script linked is pairs p) f (fragment_of pairs p) read_as_linked.read read) in
     let least = least_program script linked is k section there in
     let instrs = least.certificate.program in
     let reads : instrs_of (spelled instrs) ≡ instrs = instrs_of-spelled instrs (and_parts (repeat_free instrs) (instrs_fit instrs) least.least.flat).1 in
-    subst (λ (loader : Loaded). HasLeast linked loader k section.fixups) same (record {
+    subst (λ (loader : Loaded). HasLeast is.certificates loader k section.fixups) same (record {
       program = spelled instrs;
       header = has_program script is.programs (read_fragment script linked is pairs p).loader k section.fixups instrs read_as_linked.of.tables least.written;
       readable = program_readable script linked is k section.fixups instrs least.written least.least;

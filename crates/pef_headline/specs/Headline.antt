@@ -72,7 +72,7 @@ PreparesAsDescribed s (Err fault) t p script = (fault_number fault ≡ 99) × (t
 
 -- "for each section its relocation program ..": the bytes in place p are read as a container with a loader section, and
 -- that has a least program for each section of the script
-pub record HasLeastPrograms (pairs : List Pair) (p : ℕ) (script : DescribedScript) (container : LinkedContainer) : Type 0 where
+pub record HasLeastPrograms (pairs : List Pair) (p : ℕ) (script : DescribedScript) (linked : HasLinked pairs p script) : Type 0 where
   pub fragment : Fragment
   pub read : fragment_of pairs p ≡ Ok fragment
-  pub least : (k : ℕ) (section : DescribedSection) → slice_get script.sections k ≡ Some section → HasLeast container fragment.loader k section.fixups
+  pub least : (k : ℕ) (section : DescribedSection) → slice_get script.sections k ≡ Some section → HasLeast linked.linked.certificates fragment.loader k section.fixups

@@ -9,7 +9,6 @@ use Rattle.pef_reloc.specs.Instrs.{program_length, spelled}
 use Rattle.pef_reloc.specs.Steps.{Least}
 use Rattle.pef_reloc.specs.Unrolled.{instrs_of, program_fault}
 use Rattle.pef_reloc.specs.declared.fixup.Fixup.{Fixup}
-use Rattle.pef_write.specs.Linked.{LinkedContainer}
 
 -- one relocation header is that of section k, with this program, and no other is
 pub record HasOneHeader (loader : Loaded) (k : ℕ) (program : List ℕ) : Type 0 where
@@ -24,14 +23,14 @@ HasProgram loader k (fixup ∷ fixups) program = HasOneHeader loader k program
 
 -- the bytes of section k's relocation program (no bytes if there is no header) are read as instructions that make the
 -- section's fixups, each once and in address order. No repeat-free program that makes them so has fewer halfwords. The
--- linked container has a certificate of the program, which is valid for the fixups
-pub record HasLeast (linked : LinkedContainer) (loader : Loaded) (k : ℕ) (fixups : List Fixup) : Type 0 where
+-- program is that of the section's certificate, which is valid for the fixups
+pub record HasLeast (certificates : List Certified) (loader : Loaded) (k : ℕ) (fixups : List Fixup) : Type 0 where
   pub program : List ℕ
   pub header : HasProgram loader k fixups program
   pub readable : program_fault program ≡ None
   pub least : Least fixups (instrs_of program)
   pub halfwords : length program ≡ 2 * program_length (instrs_of program)
   pub certificate : Certified
-  pub there : slice_get linked.certificates k ≡ Some certificate
+  pub there : slice_get certificates k ≡ Some certificate
   pub valid : Valid fixups certificate
   pub written : program ≡ spelled certificate.program

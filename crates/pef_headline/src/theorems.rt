@@ -40,7 +40,7 @@ pub fn headline()
     ensures prepares { (script : DescribedScript) (s t : ContextState) (name : List ℕ) (p : ℕ) (answer : Result ℕ PrepareFault) → IsReached s → HasLinked s.pairs p script → (resolve : LibrariesResolve s name) → Contains resolve.closed.order p
         → SectionsFindRoom s resolve.closed → OthersAreSound s resolve.closed → MayAnswer s name answer t → PreparesAsDescribed s answer t p script }
     ensures present { (script : DescribedScript) (s : ContextState) (p : ℕ) → IsReached s → HasLinked s.pairs p script → is_present s.present p ≡ true → HasDescribedMemory s p script }
-    ensures least { (script : DescribedScript) (pairs : List Pair) (p : ℕ) (linked : HasLinked pairs p script) → HasLeastPrograms pairs p script linked.container }
+    ensures least { (script : DescribedScript) (pairs : List Pair) (p : ℕ) (linked : HasLinked pairs p script) → HasLeastPrograms pairs p script linked }
 {}
 
 /// Each preparation that gives a connection meets the conditions of `prepares`, so the conditions require no more than
