@@ -2,6 +2,7 @@
 use pef_cert::Certificate;
 use pef_loader::Loader;
 use pef_reloc::{Base, Instr};
+use pef_script::Script;
 use pef_views::Container;
 use pef_write::Linked;
 use std::alloc::Global;
@@ -95,11 +96,16 @@ fn first_header<'a>(rt: &impl Abort, bytes: &'a [u8]) -> (usize, u32, &'a [u8]) 
     (loader.relocs(), section, program)
 }
 
-/// Tests that a section's certificate has the program that is written.
-fn test_written(rt: &impl Abort, alloc: Global, linked: &Linked, section: u32, written: &[u8]) {
-    let certificate = certificate_of(rt, linked, section);
+/// Tests that the certificate of a script's section has the program that is written.
+fn test_written(rt: &impl Abort, alloc: Global, text: &[u8], section: u32, written: &[u8]) {
+    let certificates = certificates_of(rt, alloc, text);
     assert!(rt; section == OWN as u32);
-    test_spelled(rt, alloc, certificate, written);
+    test_spelled(
+        rt,
+        alloc,
+        certificate_of(rt, &certificates, section),
+        written,
+    );
 }
 
 /// Tests that a certificate has the program that these bytes spell.
@@ -108,10 +114,10 @@ fn test_spelled(rt: &impl Abort, alloc: Global, certificate: &Certificate, writt
     assert!(rt; certificate.program == program);
 }
 
-/// Links a script whose second section has these fixups.
-fn link_listed(rt: &impl Abort, alloc: Global, listed: &[(u32, Base)]) -> Linked {
-    let text = script_of(rt, alloc, listed);
-    link_text(alloc, text.as_bytes()).expect(rt, "a container")
+/// Returns the certificates of a script.
+fn certificates_of(rt: &impl Abort, alloc: Global, text: &[u8]) -> Vec<Certificate> {
+    let script = Script::read(alloc, text).expect(rt, "a script");
+    pef_write::certificates(alloc, &script).expect(rt, "memory")
 }
 
 /// Tests the length of the section's program, and its bytes if some are given.
@@ -121,21 +127,22 @@ fn test_bytes(rt: &impl Abort, linked: &Linked, written: &[u8], halfwords: u32, 
     assert!(rt; bytes.is_empty() || written == bytes);
 }
 
-/// Tests a container whose second section has this many fixups: the section's program, and that it is the one of the
-/// certificate.
+/// Tests the container of a script whose second section has this many fixups: the section's program, and that it is the
+/// one of the certificate.
 fn test_linked(
     rt: &impl Abort,
     alloc: Global,
-    linked: &Linked,
+    text: &[u8],
     fixups: usize,
     halfwords: u32,
     bytes: &[u8],
 ) {
+    let linked = link_text(alloc, text).expect(rt, "a container");
     let (headers, section, written) = first_header(rt, linked.bytes());
     assert!(rt; headers == usize::from(fixups > 0));
-    test_bytes(rt, linked, written, halfwords, bytes);
+    test_bytes(rt, &linked, written, halfwords, bytes);
     if headers > 0 {
-        test_written(rt, alloc, linked, section, written);
+        test_written(rt, alloc, text, section, written);
     }
 }
 
@@ -148,8 +155,8 @@ fn test_program(
     halfwords: u32,
     bytes: &[u8],
 ) {
-    let linked = link_listed(rt, alloc, listed);
-    test_linked(rt, alloc, &linked, listed.len(), halfwords, bytes);
+    let text = script_of(rt, alloc, listed);
+    test_linked(rt, alloc, text.as_bytes(), listed.len(), halfwords, bytes);
 }
 
 /// Tests the program of each of some lists.
@@ -202,8 +209,7 @@ fn address_of_the_last_section(rt: HostRuntime) {
     limits::push_sections(&mut text, MOST.sections, 4, 4).expect(&rt, "memory");
     text.push_str("fix s1 0 section s15\n")
         .expect(&rt, "memory");
-    let linked = link_text(rt.alloc(), text.as_bytes()).expect(&rt, "a container");
-    test_linked(&rt, rt.alloc(), &linked, 1, 1, LAST_SECTION);
+    test_linked(&rt, rt.alloc(), text.as_bytes(), 1, 1, LAST_SECTION);
 }
 
 /// The most bytes that a section may have.
@@ -248,8 +254,8 @@ fn longest_script(rt: &impl Abort, alloc: Global) -> String {
 #[test]
 fn longest_program(rt: HostRuntime) {
     let text = longest_script(&rt, rt.alloc());
-    let linked = link_text(rt.alloc(), text.as_bytes()).expect(&rt, "a container");
-    test_linked(&rt, rt.alloc(), &linked, MOST.fixups as usize, LONGEST, &[]);
+    let fixups = MOST.fixups as usize;
+    test_linked(&rt, rt.alloc(), text.as_bytes(), fixups, LONGEST, &[]);
 }
 
 /// Two transition vectors, side by side, of which each has the code's address and the data's.
@@ -291,44 +297,35 @@ fn test_labels(rt: &impl Abort, alloc: Global, certificate: &Certificate, wanted
 }
 
 /// Returns the certificate of a section.
-fn certificate_of<'a>(rt: &impl Abort, linked: &'a Linked, section: u32) -> &'a Certificate {
-    let found = linked.certificate(section as usize);
+fn certificate_of<'a>(
+    rt: &impl Abort,
+    certificates: &'a [Certificate],
+    section: u32,
+) -> &'a Certificate {
+    let found = certificates.get(section as usize);
     let certificate = found.expect(rt, "a certificate");
     assert!(rt; certificate.section == section);
     certificate
 }
 
 /// Tests the certificate of a section.
-fn test_certificate(rt: &impl Abort, alloc: Global, linked: &Linked, certified: &Certified) {
+fn test_certificate(
+    rt: &impl Abort,
+    alloc: Global,
+    certificates: &[Certificate],
+    certified: &Certified,
+) {
     let (section, program, registers, labels) = *certified;
-    let certificate = certificate_of(rt, linked, section);
+    let certificate = certificate_of(rt, certificates, section);
     test_program_and_registers(rt, certificate, program, registers);
     test_labels(rt, alloc, certificate, labels);
 }
 
-/// Tests that the certificates are in the order of the sections.
-fn test_order(rt: &impl Abort, certificates: &[Certificate]) {
-    for (k, certificate) in certificates.iter().enumerate() {
-        assert!(rt; certificate.section as usize == k);
-    }
-}
-
-/// Tests that the vectors have two certificates.
-fn test_two_certificates(rt: &impl Abort, linked: &Linked) {
-    assert!(rt; linked.certificates().len() == 2 && linked.certificate(2).is_none());
-    test_order(rt, linked.certificates());
-}
-
-/// Tests the certificates of the vectors.
-fn test_certificates(rt: &impl Abort, alloc: Global, linked: &Linked) {
-    for certified in CERTIFIED {
-        test_certificate(rt, alloc, linked, certified);
-    }
-    test_two_certificates(rt, linked);
-}
-
 #[test]
 fn certificates(rt: HostRuntime) {
-    let linked = link_text(rt.alloc(), VECTORS).expect(&rt, "a container");
-    test_certificates(&rt, rt.alloc(), &linked);
+    let certificates = certificates_of(&rt, rt.alloc(), VECTORS);
+    assert!(rt; certificates.len() == CERTIFIED.len());
+    for certified in CERTIFIED {
+        test_certificate(&rt, rt.alloc(), &certificates, certified);
+    }
 }

@@ -1,8 +1,10 @@
-//! `link` when an allocation fails. To test this, run it with one allocation failing after another, as
-//! `tools/refuse-memory` does.
+//! `link` and `certificates` when an allocation fails. To test this, run them with one allocation failing after another,
+//! as `tools/refuse-memory` does.
 
+use pef_cert::Certificate;
+use pef_reloc::Instr;
 use pef_script::Script;
-use pef_write::{LinkFault, Linked, link};
+use pef_write::{LinkFault, Linked, certificates, link};
 use std::alloc::Global;
 use std::process::Abort;
 use std::test::Fail;
@@ -41,4 +43,40 @@ fn linked_again(rt: HostRuntime) -> Result<(), Fail> {
     let alloc = rt.alloc();
     let script = Script::read(alloc, VECTORS).expect(&rt, "a script");
     link_again(&rt, alloc, &script, VECTORS_LEAST)
+}
+
+/// Certifies a script, and once more if an allocation fails. Also returns whether one failed.
+fn certify_refused(
+    rt: &impl Abort,
+    alloc: Global,
+    script: &Script<'_>,
+) -> (Vec<Certificate>, bool) {
+    match certificates(alloc, script) {
+        Ok(found) => (found, false),
+        Err(LinkFault::OutOfMemory) => (certificates(alloc, script).expect(rt, "memory"), true),
+    }
+}
+
+/// Tests that the sections of a script have certificates with these programs, also if an allocation fails at first.
+fn certify_again(
+    rt: &(impl Abort + Print),
+    alloc: Global,
+    script: &Script<'_>,
+    programs: &[&[Instr]],
+) -> Result<(), Fail> {
+    say_begins(rt)?;
+    let (found, refused) = certify_refused(rt, alloc, script);
+    assert!(rt; found.len() == programs.len());
+    for (certificate, program) in found.iter().zip(programs) {
+        assert!(rt; certificate.program.as_slice() == *program);
+    }
+    say_answered(rt, refused)
+}
+
+/// If an allocation fails in `certificates`, `certificates` reports it, and the next call gives the certificates.
+#[test]
+fn certified_again(rt: HostRuntime) -> Result<(), Fail> {
+    let alloc = rt.alloc();
+    let script = Script::read(alloc, VECTORS).expect(&rt, "a script");
+    certify_again(&rt, alloc, &script, &[&[], &[Instr::TVector8(2)]])
 }
