@@ -1,4 +1,4 @@
--- The certificates of a linked container can be printed, and `check` answers yes for each.
+-- Certificates of the sections of a script can be printed, and `check` answers yes for each.
 use Rattle.std.proofs.Common.{◌≡◌, ℕ, ◌+◌, ◌^◌, ◌≤◌, ◌==◌, suc, true, false, List, [], ◌∷◌, Result, Ok, Err, length, map, refl, sym, ap, ap₂, subst, ◌∙◌, eq-eqb, arith}
 use Rattle.std.specs.List.{AllByRecursion}
 use Rattle.pef_cert.specs.Certified.{Certified}
@@ -11,10 +11,10 @@ use Rattle.pef_script.specs.Text.Grammar as grammar
 use Rattle.pef_script.specs.Text.Grammar.{script_of}
 use Rattle.pef_script.specs.Script.{DescribedScript, DescribedSection}
 use Rattle.pef_script.specs.WellFormed.{SectionHolds}
-use Rattle.pef_write.specs.Linked.{AreCertified, IsLinked, LinkedContainer}
+use Rattle.pef_write.specs.Linked.{AreCertified, HasCertificates, IsLinked, LinkedContainer}
 use Rattle.pef_tool.specs.Check.{AreVerdicts, Judges, Texts, are_numbered, match_sections}
 use Rattle.std.proofs.lemmas.Bool.{and_from}
-use Rattle.pef_tool.specs.Distances.{IsYesToAll}
+use Rattle.pef_tool.specs.Distances.{CertifiesFile, IsYesToAll}
 use Rattle.pef_tool.specs.Link.{LinksFile}
 use Rattle.pef_tool.specs.declared.check.Verdict.{Verdict}
 use Rattle.pef_tool.specs.declared.check.Verdict.TheVariants.{Yes, No}
@@ -30,10 +30,10 @@ certified_print sections imports k (s ∷ each) (c ∷ certificates) hold are fe
     let own = are.0.section in
     (valid_prints s.fixups c hold.0.fixups are.0.valid (omega (arith, own, few)), certified_print sections imports (k + 1) each certificates hold.1 are.1 (omega (arith, few)))
 
-pub linked_prints : (script : DescribedScript) (l : LinkedContainer) (given : List Certified) → IsLinked script l → given ≡ l.certificates → AllByRecursion Printable given
-linked_prints script l given linked is =
-    let few = linked.holds.sections.count in
-    subst (AllByRecursion Printable) (sym is) (certified_print (length script.sections) (length script.imports) 0 script.sections l.certificates linked.holds.sections.each linked.certified (omega (arith, few)))
+pub certificates_print : (script : DescribedScript) (certificates given : List Certified) → HasCertificates script certificates → given ≡ certificates → AllByRecursion Printable given
+certificates_print script certificates given has is =
+    let few = has.holds.sections.count in
+    subst (AllByRecursion Printable) (sym is) (certified_print (length script.sections) (length script.imports) 0 script.sections certificates has.holds.sections.each has.certified (omega (arith, few)))
 
 -- a file whose script was linked
 pub files_linked : {F : Type 0} {port : FilesPort F} {before after : F} {path text : List ℕ} {l : LinkedContainer} (given : List ℕ) (script : DescribedScript)
@@ -44,6 +44,17 @@ files_linked {F} {port} {before} {after} {path} {text} {l} given script read sam
   script = script;
   is_script = ap script_of (sym same) ∙ reads;
   linked = linked;
+}
+
+-- .. and one that has certificates
+pub file_certified : {F : Type 0} {port : FilesPort F} {before after : F} {path text : List ℕ} {certificates : List Certified} (given : List ℕ) (script : DescribedScript)
+    → Reads port before after path (Ok text) → given ≡ text → script_of given ≡ Ok script → HasCertificates script certificates → CertifiesFile port before after path certificates
+file_certified {F} {port} {before} {after} {path} {text} {certificates} given script read same reads has = record {
+  text = text;
+  read = read;
+  script = script;
+  is_script = ap script_of (sym same) ∙ reads;
+  has = has;
 }
 
 -- certificates of the sections of a script are numbered as these, and there are as many
@@ -59,11 +70,11 @@ certified_count k [] (c ∷ certificates) are = absurd are
 certified_count k (s ∷ sections) [] are = absurd are
 certified_count k (s ∷ sections) (c ∷ certificates) are = ap suc (certified_count (k + 1) sections certificates are.1)
 
-linked_match : (script : DescribedScript) (l : LinkedContainer) → IsLinked script l → match_sections script l.certificates ≡ true
-linked_match script l linked =
-    and_from (length l.certificates == length script.sections) (are_numbered 0 l.certificates)
-    (eq-eqb (length l.certificates) (length script.sections) (certified_count 0 script.sections l.certificates linked.certified))
-    (certified_numbered 0 script.sections l.certificates linked.certified)
+certificates_match : (script : DescribedScript) (certificates : List Certified) → HasCertificates script certificates → match_sections script certificates ≡ true
+certificates_match script certificates has =
+    and_from (length certificates == length script.sections) (are_numbered 0 certificates)
+    (eq-eqb (length certificates) (length script.sections) (certified_count 0 script.sections certificates has.certified))
+    (certified_numbered 0 script.sections certificates has.certified)
 
 -- each verdict on them is a yes
 all_yes : (k : ℕ) (sections : List DescribedSection) (certificates : List Certified) (verdicts : List Verdict) → AreCertified k sections certificates → AreVerdicts sections certificates verdicts → verdicts ≡ map (λ c. Yes (program_length c.program)) certificates
@@ -83,25 +94,25 @@ same_certificates : (r : Result (List Certified) ℕ) (cs ds : List Certified) �
 same_certificates r cs ds one two = let both = sym one ∙ two in cc
 
 -- the result for two texts: the first is a script, and the second is the text of its certificates
-pub accepted : (texts : Texts) (script : DescribedScript) (l : LinkedContainer) (judged : Result (List Verdict) Refusal)
-    → script_of texts.script ≡ Ok script → IsLinked script l → texts.certificates ≡ certificates_text l.certificates → Judges texts judged → IsYesToAll l.certificates judged
-accepted texts script l judged is linked printed judges = by judged judges
+pub accepted : (texts : Texts) (script : DescribedScript) (certificates : List Certified) (judged : Result (List Verdict) Refusal)
+    → script_of texts.script ≡ Ok script → HasCertificates script certificates → texts.certificates ≡ certificates_text certificates → Judges texts judged → IsYesToAll certificates judged
+accepted texts script certificates judged is has printed judges = by judged judges
   where
-    reads : certificates_of texts.certificates ≡ Ok l.certificates
-    reads = ap certificates_of printed ∙ reads_back l.certificates (linked_prints script l l.certificates linked refl)
+    reads : certificates_of texts.certificates ≡ Ok certificates
+    reads = ap certificates_of printed ∙ reads_back certificates (certificates_print script certificates certificates has refl)
 
-    by : (judged : Result (List Verdict) Refusal) → Judges texts judged → IsYesToAll l.certificates judged
-    by (Ok verdicts) has =
-        let one = same_script (script_of texts.script) has.checked.script script has.has.script is in
-        let two = same_certificates (certificates_of texts.certificates) has.checked.certificates l.certificates has.has.certificates reads in
-        let first = subst (λ (s : DescribedScript). AreVerdicts s.sections has.checked.certificates verdicts) one has.verdicts_are in
-        all_yes 0 script.sections l.certificates verdicts linked.certified (subst (λ (cs : List Certified). AreVerdicts script.sections cs verdicts) two first)
+    by : (judged : Result (List Verdict) Refusal) → Judges texts judged → IsYesToAll certificates judged
+    by (Ok verdicts) judged =
+        let one = same_script (script_of texts.script) judged.checked.script script judged.has.script is in
+        let two = same_certificates (certificates_of texts.certificates) judged.checked.certificates certificates judged.has.certificates reads in
+        let first = subst (λ (s : DescribedScript). AreVerdicts s.sections judged.checked.certificates verdicts) one judged.verdicts_are in
+        all_yes 0 script.sections certificates verdicts has.certified (subst (λ (cs : List Certified). AreVerdicts script.sections cs verdicts) two first)
     by (Err (Script fault line)) refused = let wrong = sym is ∙ refused in absurd (cc)
     by (Err (BadCertificate line)) refuses = let wrong = sym reads ∙ refuses.refused in absurd (cc)
-    by (Err SectionsDiffer) has =
-        let one = same_script (script_of texts.script) has.checked.script script has.has.script is in
-        let two = same_certificates (certificates_of texts.certificates) has.checked.certificates l.certificates has.has.certificates reads in
-        let wrong : true ≡ false = sym (linked_match script l linked) ∙ (ap₂ match_sections (sym one) (sym two) ∙ has.differ) in
+    by (Err SectionsDiffer) judged =
+        let one = same_script (script_of texts.script) judged.checked.script script judged.has.script is in
+        let two = same_certificates (certificates_of texts.certificates) judged.checked.certificates certificates judged.has.certificates reads in
+        let wrong : true ≡ false = sym (certificates_match script certificates has) ∙ (ap₂ match_sections (sym one) (sym two) ∙ judged.differ) in
         absurd (cc)
     by (Err OutOfMemory) any = refl
     by (Err (Listing fault)) never = absurd never

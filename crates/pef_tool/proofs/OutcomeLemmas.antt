@@ -1,5 +1,5 @@
 -- How a command ends, by its steps before.
-use Rattle.std.proofs.Common.{◌≡◌, List, [], ℕ, Option, None, Some, Ok, Err, refl, sym, ap, ◌∙◌, inl, inr, arith}
+use Rattle.std.proofs.Common.{◌≡◌, List, [], ℕ, Option, None, Some, Ok, refl, sym, ap, ◌∙◌, inl, inr, arith}
 use Rattle.pef_ports.specs.Ports.{Begins, FilesPort, Reads, Stream}
 use Rattle.pef_tool.specs.Request.Requests.{Asked, check, distances, link, list, load, show}
 use Rattle.pef_script.specs.Text.Grammar.{script_of}
@@ -16,7 +16,7 @@ use Rattle.pef_tool.specs.Show as show
 use Rattle.pef_tool.specs.Check as check
 use Rattle.pef_tool.specs.Distances as distances
 use Rattle.pef_tool.specs.Link as link
-use Rattle.pef_tool.specs.Kept.Linking.{LinksFrom, RefusesText, unlinked_answer}
+use Rattle.pef_tool.specs.Kept.Linking.{RefusesText, StopsLinking, unlinked_answer}
 use Rattle.pef_tool.specs.Kept.Loading.{StopsReading}
 use Rattle.pef_tool.specs.Kept.Reading.{StopsFile, unread_answer}
 use Rattle.pef_tool.specs.List as list
@@ -48,13 +48,13 @@ unread_path told path same = ap (λ (p : List ℕ). answer_refused (unreadable_t
 
 module _ {F : Type 0} (port : FilesPort F) (before after : F) where
   -- the reason why a script isn't linked ends `link`
-  pub link_ends : (script out : List ℕ) (why : Unlinked) → LinksFrom port before after script (Err why) → (o : link.LinkOutcome) × link.LinkEnds port before after script out o × (unlinked_answer why ≡ link.link_answer script out o)
+  pub link_ends : (script out : List ℕ) (why : Unlinked) → StopsLinking port before after script why → (o : link.LinkOutcome) × link.LinkEnds port before after script out o × (unlinked_answer why ≡ link.link_answer script out o)
   link_ends script out (Unread (Unreadable told)) stops = (link.unreadable, stops.1, unread_path told.now script stops.0)
   link_ends script out (Unread OutOfMemory) stops = (link.refuses refusal.OutOfMemory, inl (inr (inl stops)), refl)
   link_ends script out (Refused refused) refuses = (link.refuses refused.refusal, refuses_link port before after script out refused.refusal refuses, refl)
 
   -- and `distances`
-  pub distances_end : (script : List ℕ) (why : Unlinked) → LinksFrom port before after script (Err why) → (o : distances.DistancesOutcome) × distances.DistancesEnd port before after script o × (unlinked_answer why ≡ distances.distances_answer script o)
+  pub distances_end : (script : List ℕ) (why : Unlinked) → StopsLinking port before after script why → (o : distances.DistancesOutcome) × distances.DistancesEnd port before after script o × (unlinked_answer why ≡ distances.distances_answer script o)
   distances_end script (Unread (Unreadable told)) stops = (distances.unreadable, stops.1, unread_path told.now script stops.0)
   distances_end script (Unread OutOfMemory) stops = (distances.refuses refusal.OutOfMemory, inr (inl stops), refl)
   distances_end script (Refused refused) refuses = (distances.refuses refused.refusal, refuses, refl)

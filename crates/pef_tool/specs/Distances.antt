@@ -1,35 +1,45 @@
--- The answer of `distances SCRIPT` (README). It reads SCRIPT, links it, and prints the certificates of its sections. It
--- makes no other call on files: the container isn't written.
+-- The answer of `distances SCRIPT` (README). It reads SCRIPT, and prints certificates of its sections. It makes no other
+-- call on files.
 use Rattle.std.specs.Prelude.{◌≡◌, ℕ, List, Result, Ok, Err, map}
 use Rattle.pef_cert.specs.Certified.{Certified}
 use Rattle.pef_cert.specs.Text.Printed.{certificates_text}
 use Rattle.pef_ports.specs.Ports.{FilesPort, Reads}
 use Rattle.pef_ports.specs.declared.ports.FileFault.TheVariants as file_fault
 use Rattle.pef_reloc.specs.Instrs.{program_length}
+use Rattle.pef_script.specs.Script.{DescribedScript}
+use Rattle.pef_script.specs.Text.Grammar.{script_of}
 use Rattle.pef_tool.specs.Answers.Answers.{Answer, answer_done, answer_refused}
-use Rattle.pef_tool.specs.Link.{LinksFile, RefusesLinking}
+use Rattle.pef_tool.specs.Link.{RefusesLinking}
 use Rattle.pef_tool.specs.Answers.Refusals.{refusal_text, unreadable_text}
 use Rattle.pef_tool.specs.declared.check.Verdict.{Verdict}
 use Rattle.pef_tool.specs.declared.check.Verdict.TheVariants.{Yes}
 use Rattle.pef_tool.specs.declared.answers.refusal.Refusal.{Refusal}
 use Rattle.pef_tool.specs.declared.answers.refusal.Refusal.TheVariants.{OutOfMemory}
-use Rattle.pef_write.specs.Linked.{LinkedContainer}
+use Rattle.pef_write.specs.Linked.{HasCertificates}
 
--- how `distances` ends: it prints the certificates of the linked container, it can't read SCRIPT, or it is refused
+-- SCRIPT was read, and its script has these certificates: one for each section, in order, which is valid
+pub record CertifiesFile {F : Type 0} (port : FilesPort F) (before after : F) (path : List ℕ) (certificates : List Certified) : Type 0 where
+  pub text : List ℕ
+  pub read : Reads port before after path (Ok text)
+  pub script : DescribedScript
+  pub is_script : script_of text ≡ Ok script
+  pub has : HasCertificates script certificates
+
+-- how `distances` ends: it prints the certificates of the script, it can't read SCRIPT, or it is refused
 pub data DistancesOutcome : Type 0 where
-  certifies : LinkedContainer → DistancesOutcome
+  certifies : List Certified → DistancesOutcome
   unreadable : DistancesOutcome
   refuses : Refusal → DistancesOutcome
 
 -- when it ends in this way, by the states of the files before and after
 abbrev pub DistancesEnd : {F : Type 0} → FilesPort F → F → F → List ℕ → DistancesOutcome → Type 0
-DistancesEnd port before after script (certifies l) = LinksFile port before after script l
+DistancesEnd port before after script (certifies certificates) = CertifiesFile port before after script certificates
 DistancesEnd port before after script unreadable = Reads port before after script (Err file_fault.Failed)
 DistancesEnd port before after script (refuses refusal) = RefusesLinking port before after script refusal
 
 -- the answer for each end
 abbrev pub distances_answer : List ℕ → DistancesOutcome → Answer
-distances_answer script (certifies l) = answer_done (certificates_text l.certificates)
+distances_answer script (certifies certificates) = answer_done (certificates_text certificates)
 distances_answer script unreadable = answer_refused (unreadable_text script)
 distances_answer script (refuses refusal) = answer_refused (refusal_text refusal)
 

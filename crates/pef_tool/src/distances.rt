@@ -1,10 +1,14 @@
+ghost use Rattle.pef_words.specs.Refusals.{result_map};
 ghost use Rattle.pef_tool.specs.Answers.Answers.{Answer, IsDelivered, answer_done, status_of};
 ghost use Rattle.pef_tool.specs.Distances.{DistancesAnswers};
+ghost use Rattle.pef_tool.specs.Kept.Linking.{CertifiesFrom, CertifiesText};
 
 use crate::answers::{Outcome, Refusal, Reply, deliver};
-use crate::linking::link_file;
+use crate::linking::{ScriptRefusal, Unlinked, read_script};
+use crate::reading::read_file;
 use pef_cert::Certificate;
 use pef_ports::{Files, Page, Sink, StreamFault, send};
+use pef_write::certificates;
 use std::alloc::Global;
 
 /// Prints the certificates of the script at a path. The certificate of a section states that no program is shorter than
@@ -21,13 +25,45 @@ pub fn print_distances<F: Files, W: Sink>(
         × DistancesAnswers (record { state = F.state; was_read = F.was_read; was_written = F.was_written }) files.old files.new script.now answer
         × IsDelivered (W.stream out.old) (W.stream out.new) answer (status_of result) }
 {
-    let linked = match link_file(alloc, files, script) {
-        Ok(linked) => linked,
+    let certificates = match certify_file(alloc, files, script) {
+        Ok(certificates) => certificates,
         Err(unlinked) => return deliver(out, &unlinked),
     };
-    match Certificate::print(alloc, linked.certificates()) {
+    match Certificate::print(alloc, &certificates) {
         Ok(text) => deliver(out, &Distances { text }),
         Err(_) => deliver(out, &Refusal::OutOfMemory),
+    }
+}
+
+/// Reads the script at a path, and returns the certificates of its sections.
+fn certify_file<'a, F: Files>(
+    alloc: Global,
+    files: &mut F,
+    path: &'a [u8],
+) -> Result<Vec<Certificate>, Unlinked<'a>>
+    ensures { CertifiesFrom (record { state = F.state; was_read = F.was_read; was_written = F.was_written }) files.old files.new path.now (result_map (λ certificates. certificates.items) result) }
+{
+    let text = match read_file(alloc, files, path) {
+        Ok(text) => text,
+        Err(fault) => return Err(Unlinked::Unread(fault)),
+    };
+    match certify_text(alloc, text.as_slice()) {
+        Ok(certificates) => Ok(certificates),
+        Err(refused) => Err(Unlinked::Refused(refused)),
+    }
+}
+
+/// Parses the script in a text, and returns the certificates of its sections.
+fn certify_text(alloc: Global, text: &[u8]) -> Result<Vec<Certificate>, ScriptRefusal>
+    ensures { CertifiesText text.now (result_map (λ certificates. certificates.items) result) }
+{
+    let script = match read_script(alloc, text) {
+        Ok(script) => script,
+        Err(refused) => return Err(refused),
+    };
+    match certificates(alloc, &script) {
+        Ok(certificates) => Ok(certificates),
+        Err(_) => Err(ScriptRefusal::OUT_OF_MEMORY),
     }
 }
 

@@ -1,6 +1,6 @@
 ghost use Rattle.pef_tool.specs.Answers.Answers.{answer_refused};
 ghost use Rattle.pef_tool.specs.Answers.Refusals.{refusal_text};
-ghost use Rattle.pef_tool.specs.Kept.Linking.{LinksFrom, LinksText, unlinked_answer};
+ghost use Rattle.pef_tool.specs.Kept.Linking.{LinksFrom, LinksText, ReadsScript, unlinked_answer};
 
 use crate::answers::{Outcome, Refusal, Reply, script_refusal};
 use crate::reading::{ReadingFault, read_file};
@@ -15,6 +15,14 @@ use std::alloc::Global;
 pub struct ScriptRefusal {
     refusal: Refusal,
     detail: Option<Detail>,
+}
+
+impl ScriptRefusal {
+    /// An allocation failed.
+    pub const OUT_OF_MEMORY: ScriptRefusal = ScriptRefusal {
+        refusal: Refusal::OutOfMemory,
+        detail: None,
+    };
 }
 
 impl Reply for ScriptRefusal {
@@ -78,20 +86,27 @@ pub fn link_file<'a, F: Files>(
 pub fn link_text(alloc: Global, text: &[u8]) -> Result<Linked, ScriptRefusal>
     ensures { LinksText text.now result }
 {
-    let script = match Script::read(alloc, text) {
+    let script = match read_script(alloc, text) {
         Ok(script) => script,
-        Err(fault) => {
-            let refusal = script_refusal(fault);
-            let detail = refusal_detail(text, refusal);
-            return Err(ScriptRefusal { refusal, detail });
-        }
+        Err(refused) => return Err(refused),
     };
     match link(alloc, &script) {
         Ok(linked) => Ok(linked),
-        Err(_) => Err(ScriptRefusal {
-            refusal: Refusal::OutOfMemory,
-            detail: None,
-        }),
+        Err(_) => Err(ScriptRefusal::OUT_OF_MEMORY),
+    }
+}
+
+/// Parses the script in a text.
+pub fn read_script<'a>(alloc: Global, text: &'a [u8]) -> Result<Script<'a>, ScriptRefusal>
+    ensures { ReadsScript text.now result }
+{
+    match Script::read(alloc, text) {
+        Ok(script) => Ok(script),
+        Err(fault) => {
+            let refusal = script_refusal(fault);
+            let detail = refusal_detail(text, refusal);
+            Err(ScriptRefusal { refusal, detail })
+        }
     }
 }
 

@@ -4,6 +4,7 @@ ghost use Rattle.cfm_memory.specs.Extents.{LackRoom, no_instances};
 ghost use Rattle.pef_headline.specs.Now.{described_extents};
 ghost use Rattle.pef_script.specs.WellFormed.{ScriptHolds};
 ghost use Rattle.pef_tool.specs.Limits.{memory_limit};
+ghost use Rattle.pef_cert.specs.Certified.{Certified};
 ghost use Rattle.pef_cert.specs.Text.Printed.{certificates_text};
 ghost use Rattle.pef_script.specs.Text.Grammar.{script_of};
 ghost use Rattle.pef_script.specs.Script.{DescribedScript};
@@ -11,13 +12,13 @@ ghost use Rattle.pef_tool.specs.Check.{Judges, Texts};
 ghost use Rattle.pef_tool.specs.Distances.{IsYesToAll};
 ghost use Rattle.pef_tool.specs.declared.check.Verdict.{Verdict};
 ghost use Rattle.pef_tool.specs.declared.answers.refusal.Refusal.{Refusal};
-ghost use Rattle.pef_write.specs.Linked.{IsLinked, LinkedContainer};
+ghost use Rattle.pef_write.specs.Linked.{HasCertificates};
 
 /// `check` accepts the certificates that `distances` prints of a script. It answers yes for the certificate of each
 /// section, with the number of halfwords of the section's program, or reports that an allocation failed.
 pub fn distances_are_accepted()
-    ensures { (texts : Texts) (script : DescribedScript) (linked : LinkedContainer) (judged : Result (List Verdict) Refusal) → script_of texts.script ≡ Ok script → IsLinked script linked → texts.certificates ≡ certificates_text linked.certificates
-        → Judges texts judged → IsYesToAll linked.certificates judged }
+    ensures { (texts : Texts) (script : DescribedScript) (certificates : List Certified) (judged : Result (List Verdict) Refusal) → script_of texts.script ≡ Ok script → HasCertificates script certificates → texts.certificates ≡ certificates_text certificates
+        → Judges texts judged → IsYesToAll certificates judged }
 {}
 
 /// There is always room in the memory of `show` for up to fifteen sections of a script, whatever their lengths and

@@ -27,5 +27,5 @@ returns-in_err-print_length g c =
 
 pub returns : goal.returns
 returns g c =
-    let past : length c.args.linked.now.lengths ≤ c.loop-k.k = omega (arith, c.sections-k-end.ensures.lengths) in
+    let past : length c.args.linked.now.lengths ≤ c.loop-k.k = omega (arith, c.sections-k-end.ensures) in
     sent-all c.loop-k.invariant (ap (lengths_text c.loop-k.k) (drop_all c.loop-k.k c.args.linked.now.lengths past))

@@ -1,5 +1,5 @@
 -- The size and then the lengths.
-use Rattle.std.proofs.Common.{◌≡◌, List, ℕ, length, ap}
+use Rattle.std.proofs.Common.{List, ℕ, length, ap}
 use Rattle.pef_ports.proofs.Laws.Sending.{Sends-short, Sends-then, StopsShort-longer}
 use Rattle.pef_tool.specs.Link.{lengths_text, size_text}
 use Rattle.pef_tool.proofs.AnswersProofs.PieceLemmas.{same_printed, same_short}
