@@ -1,5 +1,5 @@
-//! `link` and `certificates` when an allocation fails. To test this, run them with one allocation failing after another,
-//! as `tools/refuse-memory` does.
+//! `link` and `certificates` when an allocation fails. To test this, run them with one allocation failing after
+//! another, as `tools/refuse-memory` does.
 
 use pef_cert::Certificate;
 use pef_reloc::Instr;
