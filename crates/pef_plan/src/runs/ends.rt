@@ -144,7 +144,8 @@ impl RunEnds {
     {
         let pair = self.pair_at(known, at);
         self.pairs.pass(pair.on, pair.after, known.looks)?;
-        self.far_pairs.pass(pair.far_on, pair.far_after, known.looks)?;
+        self.far_pairs
+            .pass(pair.far_on, pair.far_after, known.looks)?;
         known.fill_after(at, &mut self.near);
         match at.first.base {
             Base::Section(section) => {
