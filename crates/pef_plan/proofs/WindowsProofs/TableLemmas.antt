@@ -50,7 +50,7 @@ rows-more (suc n) w values =
 pub rows-added : (n w : ℕ) (old row : List ℕ) → n * w ≡ length old → length row ≡ w → rows_of (n + 1) w (old ++ row) ≡ rows_of n w old ++ row ∷ []
 rows-added n w old row full wide =
     let front : take (n * w) (old ++ row) ≡ take (n * w) old =
-        ap (λ k. take k (old ++ row)) full ∙ (take-append_seam old row ∙ (sym (take_all (length old) old (omega arith)) ∙ ap (λ k. take k old) (sym full))) in
+    ap (λ k. take k (old ++ row)) full ∙ (take-append_seam old row ∙ (sym (take_all (length old) old (omega arith)) ∙ ap (λ k. take k old) (sym full))) in
     rows-more n w (old ++ row)
     ∙ ap₂ (λ rs r. rs ++ r ∷ []) (rows-same n w (old ++ row) old front)
     (ap (take w) (ap (λ k. drop k (old ++ row)) full ∙ drop-append_seam old row) ∙ take_all w row (omega (arith, wide)))
