@@ -550,7 +550,7 @@ class Connection:
 
     @property
     def fragments(self) -> List[Fragment]:
-        """The closure: libraries before the fragments that need them, as far as circles allow, and the root last."""
+        """The closure: libraries before the fragments that need them, except in cycles, and the root last."""
         return self._fragments("pef_fragments")
 
     @property
