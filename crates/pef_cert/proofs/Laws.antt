@@ -64,6 +64,13 @@ pub use Rattle.pef_cert.proofs.RunLemmas.{numbered_test-met, pairs_test-met, row
 pub use Rattle.pef_cert.proofs.TestLemmas.{import_tests-met, section_tests-met}
 -- a value for which they hold is at most the value after each instruction that adds at the fixup
 pub use Rattle.pef_cert.proofs.TestLemmas.{tested}
+-- a label is at most the value after each instruction that sets a register, if the change of one register changes
+-- it by at most 1
+pub use Rattle.pef_cert.proofs.TestLemmas.{sets_falls}
+-- the addition of an import has at most two halfwords
+pub use Rattle.pef_cert.proofs.TestLemmas.{any_cost}
+-- a fixup that tests as an addition of a base at a position is it
+pub use Rattle.pef_cert.proofs.FixupsProofs.FixupLemmas.{is_added-is}
 -- if all of them hold, labels are feasible at the fixup
 pub use Rattle.pef_cert.proofs.TestLemmas.{feasible-tested}
 -- Texts.

@@ -247,7 +247,8 @@ set_falls_d l index k n f rest s sets at some =
     let here = extension-here l f rest s.position (class_of l.registers s.c) (class_of l.registers k) at.position in
     omega (arith, low, here)
 
-sets_falls : (l : Labels) (index : ℕ) (f : Fixup) (rest : List Fixup) (x : Instr) (s : State) → SetsHold l (length (f ∷ rest)) → AtFixup f index s → sets_register x ≡ true → label_at l (f ∷ rest) s ≤ instr_length x + extension_at l (f ∷ rest) (next_state x s)
+-- a label is at most the value after each instruction that sets a register
+pub sets_falls : (l : Labels) (index : ℕ) (f : Fixup) (rest : List Fixup) (x : Instr) (s : State) → SetsHold l (length (f ∷ rest)) → AtFixup f index s → sets_register x ≡ true → label_at l (f ∷ rest) s ≤ instr_length x + extension_at l (f ∷ rest) (next_state x s)
 sets_falls l index f rest (SmSetSectC k) s sets at is = set_falls_c l index k 1 f rest s sets at (omega arith)
 sets_falls l index f rest (SmSetSectD k) s sets at is = set_falls_d l index k 1 f rest s sets at (omega arith)
 sets_falls l index f rest (LgSetSectC k) s sets at is = set_falls_c l index k 2 f rest s sets at (omega arith)

@@ -1,6 +1,8 @@
--- Facts of least programs, for the proofs of other crates.
+-- Facts of least programs and certificates, for the proofs of other crates.
 
 -- a least program has at most four halfwords for each fixup
 pub use Rattle.pef_plan.proofs.Reaching.{least-short}
 -- a least program names only what its fixups use
 pub use Rattle.pef_plan.proofs.NameFacts.{least-names}
+-- there is a valid certificate for fixups that fit, and its labels are least lengths
+pub use Rattle.pef_plan.proofs.Existence.{some_certificate}

@@ -1,8 +1,12 @@
 pub mod Laws
+mod Existence
+mod FailedTests
 mod FillLemmas
 mod Leading
 mod ImportLemmas
 mod LineLemmas
+mod ClimbedTests
+mod ClosedLabels
 mod CrossLemmas
 mod DirectLemmas
 mod LowFacts
@@ -14,8 +18,10 @@ mod Reaching
 mod RegisterLemmas
 mod RowLemmas
 mod RunTests
+mod SameExtension
 mod SetLemmas
 mod SkipFacts
+mod SolvedRows
 mod StepFacts
 mod WordByWord
 mod RunsProofs

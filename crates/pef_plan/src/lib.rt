@@ -19,6 +19,7 @@ mod windows;
 pub use fault::PlanFault;
 pub use planner::{counted_plan, plan};
 pub use theorems::{
-    least_programs_are_short, least_programs_name_what_is_used, reached_labels_are_least,
+    certificates_exist, least_programs_are_short, least_programs_name_what_is_used,
+    reached_labels_are_least,
 };
 pub use windows::Looks;

@@ -1,9 +1,10 @@
 //! Laws of the definitions, for the proofs of other crates. The functions have no effect.
-ghost use Rattle.std.specs.Prelude.{◌≡◌, ◌≤◌, ◌*◌, ◌++◌, List, length, true};
+ghost use Rattle.std.specs.Prelude.{◌≡◌, ◌≤◌, ◌*◌, ◌++◌, ℕ, List, length, true};
+ghost use Rattle.pef_cert.specs.Certified.{Certified};
 ghost use Rattle.pef_cert.specs.Extension.{extension_at};
 ghost use Rattle.pef_cert.specs.Feasible.{Feasible};
 ghost use Rattle.pef_cert.specs.Labels.{Labels};
-ghost use Rattle.pef_cert.specs.Valid.{RegistersOf};
+ghost use Rattle.pef_cert.specs.Valid.{RegistersOf, Valid, labels_of};
 ghost use Rattle.pef_plan.specs.Exact.{Exact, LeastFrom};
 ghost use Rattle.pef_plan.specs.Reached.{ReachedFrom};
 ghost use Rattle.pef_reloc.specs.Deliveries.{StandsAfter, names_used};
@@ -28,4 +29,10 @@ pub fn least_programs_are_short()
 /// Proves that a least program names only sections and imports of its fixups.
 pub fn least_programs_name_what_is_used()
     ensures { (fixups : List Fixup) (instrs : List Instr) → Least fixups instrs → names_used fixups instrs ≡ true }
+{}
+
+/// Proves that there is a certificate for each list of fixups that fits, and for each section number. It is valid,
+/// and each of its labels is a least length.
+pub fn certificates_exist()
+    ensures { (fixups : List Fixup) (section : ℕ) → fixups_fit fixups ≡ true → (c : Certified) × (c.section ≡ section) × Valid fixups c × Exact (labels_of c (length fixups)) fixups }
 {}
