@@ -6,3 +6,5 @@ pub use Rattle.pef_write.proofs.LinkedLaws.{is_read_back}
 pub use Rattle.pef_write.proofs.LinkedPrograms.{section_programs}
 -- a section's program is a least one
 pub use Rattle.pef_write.proofs.LeastLemmas.{least_program}
+-- for every script there is one
+pub use Rattle.pef_write.proofs.LinkExists.{some_link}

@@ -16,6 +16,7 @@ mod Fitting
 mod LinkedTables
 mod LinkedLaws
 mod LinkedPrograms
+mod LinkExists
 mod LinkLemmas
 mod RelocationSteps
 mod EntrySteps

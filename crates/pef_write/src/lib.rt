@@ -3,7 +3,8 @@
 //! The format is that of Mac OS Runtime Architectures, "PEF Structure", and of PEFBinaryFormat.h.
 //! [`link`] takes a script and returns its container, with a shortest relocation program for each
 //! section that has fixups. [`certificates`] returns a certificate for each section. The container is read
-//! back as the script: see [`linked_containers`], [`linked_programs`] and [`linked_programs_are_least`].
+//! back as the script: see [`linked_containers`], [`linked_programs`] and [`linked_programs_are_least`]. For
+//! every script there is one: see [`every_script_links`].
 #![tactic(auto)]
 
 mod container;
@@ -21,4 +22,6 @@ mod theorems;
 pub use fault::LinkFault;
 pub use linking::{Linked, link};
 pub use program::certificates;
-pub use theorems::{linked_containers, linked_programs, linked_programs_are_least};
+pub use theorems::{
+    every_script_links, linked_containers, linked_programs, linked_programs_are_least,
+};

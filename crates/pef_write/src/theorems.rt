@@ -1,6 +1,7 @@
 //! Laws of linked containers, for the proofs of crates that read them. The functions do nothing.
 ghost use Rattle.std.specs.Prelude.{◌≡◌, ℕ, Some, slice_get};
 ghost use Rattle.pef_script.specs.Script.{DescribedScript, DescribedSection};
+ghost use Rattle.pef_script.specs.WellFormed.{ScriptHolds};
 ghost use Rattle.pef_write.specs.LeastPrograms.{HasLeastProgram};
 ghost use Rattle.pef_write.specs.Linked.{IsLinked, LinkedContainer, programs_from};
 ghost use Rattle.pef_write.specs.Loaders.{ProgramEntry};
@@ -23,4 +24,9 @@ pub fn linked_programs()
 /// section.
 pub fn linked_programs_are_least()
     ensures { (s : DescribedScript) (l : LinkedContainer) (linked : IsLinked s l) (k : ℕ) (section : DescribedSection) → slice_get s.sections k ≡ Some section → HasLeastProgram s l linked k section }
+{}
+
+/// For every script that keeps the limits there is a linked container, which `link` may give.
+pub fn every_script_links()
+    ensures { (s : DescribedScript) → ScriptHolds s → (l : LinkedContainer) × IsLinked s l }
 {}
