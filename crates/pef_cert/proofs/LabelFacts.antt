@@ -179,7 +179,8 @@ extension-label l f rest p c d =
       | inr away ↦ rw (extension-away l f rest p c d away.1) (moved-far (f.offset - p) (label_here l f rest c d) (offer_at l f rest c d))
     ]
 
-change_most : (c c' : ℕ) → change c c' ≤ 1
+-- the change of a register counts at most 1
+pub change_most : (c c' : ℕ) → change c c' ≤ 1
 change_most c c' =
     elim (eqb_tells c c') [
       | inl same ↦ rw same.0 (omega arith)

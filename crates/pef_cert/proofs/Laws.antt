@@ -35,6 +35,9 @@ pub use Rattle.pef_cert.proofs.MinimaLemmas.{AtMost, at_most-weaker}
 -- skip
 pub use Rattle.pef_cert.proofs.MinimaLemmas.{Moved, far, late, moved-is, moved-near, moved-skip, near, skips}
 -- Skips and offers.
+-- the change of a register counts 0 if its class stays, and else 1
+pub use Rattle.pef_cert.proofs.LabelFacts.{change_most}
+pub use Rattle.pef_cert.proofs.SkipLemmas.{change_one, change_zero}
 -- a skip's value is 1 plus the extension after the end of one of its runs, and at most that after each
 pub use Rattle.pef_cert.proofs.ExtensionLemmas.{skip-is, skip-most}
 -- the values after a skip of one word, and of more

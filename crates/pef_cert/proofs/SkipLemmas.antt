@@ -48,10 +48,11 @@ has_of l b k d is has =
       | inr other ↦ (let wrong : true ≡ false = sym has ∙ (ap (has_class l.registers d) is ∙ other.0) in absurd (cc))
     ]
 
-change_zero : (c : ℕ) → change c c ≡ 0
+-- it counts 0 if the class stays, and else 1
+pub change_zero : (c : ℕ) → change c c ≡ 0
 change_zero c = rw (eq-eqb c c refl) refl
 
-change_one : (c c' : ℕ) → (change c c' ≡ 1) ⊎ (c ≡ c')
+pub change_one : (c c' : ℕ) → (change c c' ≡ 1) ⊎ (c ≡ c')
 change_one c c' =
     elim (eqb_tells c c') [
       | inl same ↦ inr same.1

@@ -1,8 +1,7 @@
 -- The least of some numbers over all changes of registers.
-use Rattle.std.proofs.Common.{◌≡◌, ◌≢◌, ℕ, zero, suc, ◌+◌, ◌<◌, ◌≤◌, ◌⊎◌, inl, inr, min, refl, ap, ap₂, sym, ◌∙◌, subst, arith, eq-eqb}
-use Rattle.std.proofs.lemmas.Bool.{ne_eqb}
-use Rattle.std.proofs.lemmas.Bool.Decides.{eqb_tells}
+use Rattle.std.proofs.Common.{◌≡◌, ℕ, zero, suc, ◌+◌, ◌<◌, ◌≤◌, ◌⊎◌, inl, inr, min, refl, ap, ap₂, sym, ◌∙◌, subst, arith}
 use Rattle.pef_cert.specs.Extension.{change}
+use Rattle.pef_cert.proofs.Laws.{change_most, change_one, change_zero}
 use Rattle.pef_plan.specs.Kept.Rows.{LeastOf}
 use Rattle.pef_plan.proofs.LineLemmas.{least-more, least-one}
 
@@ -21,19 +20,6 @@ least_to-is (suc n) f =
 -- the least of numbers by two classes, each with 1 added for each register that changes
 pub closed : ℕ → (ℕ → ℕ → ℕ) → ℕ → ℕ → ℕ
 closed n direct c d = least_to n (λ x. least_to n (λ y. change c x + change d y + direct x y))
-
-change_same : (c : ℕ) → change c c ≡ 0
-change_same c = rw (eq-eqb c c refl) refl
-
-change_other : (c x : ℕ) → c ≢ x → change c x ≡ 1
-change_other c x apart = rw (ne_eqb c x apart) refl
-
-change_small : (c x : ℕ) → change c x ≤ 1
-change_small c x =
-    elim (eqb_tells c x) [
-      | inl same ↦ rw same.0 (omega arith)
-      | inr other ↦ rw other.0 (omega arith)
-    ]
 
 -- it is at most each of these numbers
 closed_low : (n : ℕ) (direct : ℕ → ℕ → ℕ) (c d x y : ℕ) → x < n + 1 → y < n + 1 → closed n direct c d ≤ change c x + change d y + direct x y
@@ -61,8 +47,8 @@ closed_is n direct c d =
 pub closed-below : (n : ℕ) (direct : ℕ → ℕ → ℕ) (c d : ℕ) → c < n + 1 → d < n + 1 → closed n direct c d ≤ direct c d
 closed-below n direct c d under_c under_d =
     let low = closed_low n direct c d c d under_c under_d in
-    let same_c = change_same c in
-    let same_d = change_same d in
+    let same_c = change_zero c in
+    let same_d = change_zero d in
     omega (arith, low, same_c, same_d)
 
 -- the change of one register changes it by at most 1
@@ -70,7 +56,7 @@ pub closed-c_line : (n : ℕ) (direct : ℕ → ℕ → ℕ) (c e d : ℕ) → c
 closed-c_line n direct c e d =
     let to = closed_is n direct e d in
     let low = closed_low n direct c d to.x to.y to.under_x to.under_y in
-    let small = change_small c to.x in
+    let small = change_most c to.x in
     let is = to.is in
     omega (arith, low, small, is)
 
@@ -78,7 +64,7 @@ pub closed-d_line : (n : ℕ) (direct : ℕ → ℕ → ℕ) (c d e : ℕ) → c
 closed-d_line n direct c d e =
     let to = closed_is n direct c e in
     let low = closed_low n direct c d to.x to.y to.under_x to.under_y in
-    let small = change_small d to.y in
+    let small = change_most d to.y in
     let is = to.is in
     omega (arith, low, small, is)
 
@@ -90,22 +76,20 @@ pub closed-from : (n : ℕ) (direct : ℕ → ℕ → ℕ) (c d : ℕ) → Chang
 closed-from n direct c d =
     let to = closed_is n direct c d in
     let is = to.is in
-    elim (eqb_tells c to.x) [
-      | inl same_c ↦ elim (eqb_tells d to.y) [
-        | inl same_d ↦
-            (let none_c = ap (change c) (sym same_c.1) ∙ change_same c in
-            let none_d = ap (change d) (sym same_d.1) ∙ change_same d in
-            let same = ap₂ direct same_c.1 same_d.1 in
-            inl (omega (arith, is, none_c, none_d, same)))
-        | inr other ↦
-            (let low = closed_low n direct c to.y to.x to.y to.under_x to.under_y in
-            let none = change_same to.y in
-            let one = change_other d to.y other.1 in
-            inr (inr (to.y, to.under_y, omega (arith, is, low, none, one))))
-      ]
-      | inr other ↦
+    elim (change_one c to.x) [
+      | inl one ↦
           (let low = closed_low n direct to.x d to.x to.y to.under_x to.under_y in
-          let none = change_same to.x in
-          let one = change_other c to.x other.1 in
+          let none = change_zero to.x in
           inr (inl (to.x, to.under_x, omega (arith, is, low, none, one))))
+      | inr same_c ↦ elim (change_one d to.y) [
+        | inl one ↦
+            (let low = closed_low n direct c to.y to.x to.y to.under_x to.under_y in
+            let none = change_zero to.y in
+            inr (inr (to.y, to.under_y, omega (arith, is, low, none, one))))
+        | inr same_d ↦
+            (let none_c = ap (change c) (sym same_c) ∙ change_zero c in
+            let none_d = ap (change d) (sym same_d) ∙ change_zero d in
+            let same = ap₂ direct same_c same_d in
+            inl (omega (arith, is, none_c, none_d, same)))
+      ]
     ]

@@ -20,15 +20,16 @@ some_certificates n j k (s ∷ sections) holds =
 pub some_link : (s : DescribedScript) → ScriptHolds s → (l : LinkedContainer) × IsLinked s l
 some_link s holds =
     let certificates = some_certificates (length s.sections) (length s.imports) 0 s.sections holds.sections.each in
-    let programs = map (λ (c : Certified). c.program) certificates.0 in
-    (record { bytes = linked_bytes s programs; lengths = map program_length programs },
-    record {
-      holds = holds;
-      programs = programs;
-      are = certified_programs (length s.sections) (length s.imports) 0 s.sections certificates.0 holds.sections.each certificates.1;
-      bytes = refl;
-      lengths = refl;
-      certificates = certificates.0;
-      certified = certificates.1;
-      programs_are = refl;
-    })
+    let programs = map (λ (c : Certified). c.program) certificates.0 in (
+      record { bytes = linked_bytes s programs; lengths = map program_length programs },
+      record {
+        holds = holds;
+        programs = programs;
+        are = certified_programs (length s.sections) (length s.imports) 0 s.sections certificates.0 holds.sections.each certificates.1;
+        bytes = refl;
+        lengths = refl;
+        certificates = certificates.0;
+        certified = certificates.1;
+        programs_are = refl;
+      },
+    )
