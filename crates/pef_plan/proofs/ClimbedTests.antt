@@ -15,7 +15,7 @@ pub record Climbed (test : ℕ → Bool) (value : ℕ) : Type 0 where
   pub below : (n : ℕ) → n ≤ value → test n ≡ true
   pub next : test (suc value) ≡ false
 
--- the number from one on, if the test fails within so many
+-- from a number on, the last one before the test fails, if it fails within so many
 pub climb : (ℕ → Bool) → ℕ → ℕ → ℕ
 climb test zero at = at
 climb test (suc more) at = cond (test (suc at)) (climb test more (suc at)) at

@@ -28,7 +28,7 @@ used_to : (fixups : List Fixup) (most : ℕ) → Used fixups most
 used_to fixups zero = record { registers = []; are = used_none fixups }
 used_to fixups (suc most) = (let next : most + 1 ≡ suc most = omega arith in subst (λ n. Used fixups n) next (used_next fixups most (uses_section fixups most) refl (used_to fixups most)))
 
--- so the sections that they use can be listed
+-- the sections that fixups use
 registers_for : List Fixup → List ℕ
 registers_for fixups = (used_to fixups most_sections).registers
 

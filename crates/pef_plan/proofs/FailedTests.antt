@@ -1,4 +1,4 @@
--- A test that fails gives an instruction.
+-- If a test of a label fails, an instruction leads on within fewer halfwords.
 use Rattle.std.proofs.Common.{◌≡◌, ℕ, zero, suc, ◌+◌, ◌*◌, ◌<◌, ◌≤◌, ◌⊎◌, inl, inr, Bool, true, false, cond, ◌&&◌, ◌||◌, ◌==◌, nat_le, nat_lt, List, [], ◌∷◌, ◌++◌, length, refl, ap, ap₂, sym, ◌∙◌, arith, length-append}
 use Rattle.std.specs.List.{AllByRecursion}
 use Rattle.std.proofs.lemmas.Bool.{and_cases, and_parts, eqb-true, leb-false, lt-ltb, ltb-true, or_cases}
@@ -19,7 +19,7 @@ use Rattle.pef_cert.specs.LabelTests.{asked, base_test, import_cost, numbered_te
 use Rattle.pef_cert.proofs.Laws.{RegisteredBase, class_of-same, is_added-is}
 use Rattle.pef_words.proofs.Laws.Numbers.{counts_fit}
 
--- an instruction adds at least the first fixup, and then leads on within a number of halfwords
+-- an instruction adds at least the first fixup. Its halfwords and the extension after it are at most a number
 pub record AddsWithin (l : Labels) (s : State) (f : Fixup) (rest : List Fixup) (n : ℕ) : Type 0 where
   pub instr : Instr
   pub left : List Fixup
@@ -28,7 +28,7 @@ pub record AddsWithin (l : Labels) (s : State) (f : Fixup) (rest : List Fixup) (
   pub shorter : length left ≤ length rest
   pub falls : instr_length instr + extension_at l left (next_state instr s) ≤ n
 
--- if the additions are one and others
+-- if an instruction adds a fixup and others, it adds at least the first
 adds_within : (l : Labels) (s : State) (f : Fixup) (rest : List Fixup) (n : ℕ) (x : Instr) (a : Fixup) (more left : List Fixup) → is_flat_instr x ≡ true → f ∷ rest ≡ additions x s ++ left → additions x s ≡ a ∷ more → instr_length x + extension_at l left (next_state x s) ≤ n → AddsWithin l s f rest n
 adds_within l s f rest n x a more left flat parts some falls =
     let whole : f ∷ rest ≡ a ∷ (more ++ left) = parts ∙ ap (λ made. made ++ left) some in
@@ -41,7 +41,7 @@ adds_within l s f rest n x a more left flat parts some falls =
       falls = falls;
     }
 
--- a test of runs that fails ends at a run
+-- the parts of a test that fails
 run_on_fails : (b here more : Bool) → run_on b here more ≡ false → (b ≡ true) × ((here ≡ false) ⊎ (more ≡ false))
 run_on_fails true here more e = (refl, and_cases here more e)
 run_on_fails false here more e = absurd (cc)
@@ -53,7 +53,7 @@ asked_fails : (b test : Bool) → asked b test ≡ false → (b ≡ true) × (te
 asked_fails true test e = (refl, e)
 asked_fails false test e = absurd (cc)
 
--- the end of a run, after which the value is at most a number: for rows of words, for pairs and for imports
+-- the end of a run, with 1 plus the extension there at most a number: for rows of words, pairs and imports
 record RowEnd (l : Labels) (v w : ℕ) (b : Base) (c d n p : ℕ) (fixups : List Fixup) : Type 0 where
   more : ℕ
   left : List Fixup
@@ -198,7 +198,7 @@ imports_run l s f rest v at e =
     let low = e.low in
     adds_within l s f rest v (ImportRun (suc e.more)) (added s.position (Import s.import_index)) (numbered e.more (s.position + 4) (s.import_index + 1)) e.left (counts_fit 512 (suc e.more) (omega arith) (omega (arith, e.under))) there refl (omega (arith, low, same))
 
--- the fixup alone
+-- the addition of the fixup alone
 added_alone : (s : State) (f : Fixup) (rest : List Fixup) (b : Base) → s.position ≡ f.offset → f.base ≡ b → f ∷ rest ≡ added s.position b ∷ rest
 added_alone s f rest b at base = ap (λ g. g ∷ rest) (λ i. record { offset = sym at i; base = base i })
 

@@ -25,8 +25,10 @@ use Rattle.pef_plan.proofs.FailedTests.{failed-test}
 use Rattle.pef_plan.proofs.RunsProofs.PlaceLemmas.{place_under}
 use Rattle.pef_plan.proofs.SameExtension.{SameTo, extension_same, over, same_fewer}
 
--- labels as they follow from those with fewer fixups left
+-- labels g at a fixup and later ones. The labels at the later ones are also h, and those at the fixup are computed
+-- from h
 module _ (rs : List ℕ) (g h : ℕ → ℕ → ℕ → ℕ) (index : ℕ) (f : Fixup) (rest : List Fixup) (same : SameTo (length rest) g h) (is : (c d : ℕ) → c < length rs + 1 → d < length rs + 1 → g (length (f ∷ rest)) c d ≡ closed (length rs) (direct_value (over rs h) index f rest) c d) where
+  -- the least halfwords if the first instruction adds at the fixup
   abbrev direct : ℕ → ℕ → ℕ
   direct = direct_value (over rs h) index f rest
 
