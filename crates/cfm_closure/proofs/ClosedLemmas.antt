@@ -27,6 +27,7 @@ record IsClosed (pairs : List Pair) (root : ℕ) (c : Closed) : Type 0 where
   pub store : c.pairs ≡ pairs
   pub order : order_of pairs root ≡ Ok c.order
   pub passes : first_refused pairs c.order ≡ None
+  pub init_order : init_order_of pairs c.order ≡ Ok c.init_order
 
 is_closed : (pairs : List Pair) (root : ℕ) (c : Closed) → closed_of pairs root ≡ Ok c → IsClosed pairs root c
 unfolding closed_of
@@ -36,10 +37,13 @@ is_closed pairs root c is =
     let d = came (init_order_of pairs a.value) (λ init_order. Ok (record { pairs = pairs; order = a.value; init_order = init_order })) c b.1 in
     let whole : Closed = record { pairs = pairs; order = a.value; init_order = d.value } in
     let same = same_ok (Ok whole) whole c refl d.leads in
-    subst (IsClosed pairs root) same (record { store = refl; order = a.is; passes = b.0 })
+    subst (IsClosed pairs root) same (record { store = refl; order = a.is; passes = b.0; init_order = d.is })
 
 pub closed-order : (pairs : List Pair) (root : ℕ) (c : Closed) → closed_of pairs root ≡ Ok c → order_of pairs root ≡ Ok c.order
 closed-order pairs root c is = (is_closed pairs root c is).order
+
+pub closed-init_order : (pairs : List Pair) (root : ℕ) (c : Closed) → closed_of pairs root ≡ Ok c → init_order_of pairs c.order ≡ Ok c.init_order
+closed-init_order pairs root c is = (is_closed pairs root c is).init_order
 
 pub closed-store : (pairs : List Pair) (root : ℕ) (c : Closed) → closed_of pairs root ≡ Ok c → c.pairs ≡ pairs
 closed-store pairs root c is = (is_closed pairs root c is).store

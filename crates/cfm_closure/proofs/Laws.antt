@@ -4,6 +4,8 @@
 pub use Rattle.cfm_closure.proofs.PlaceLemmas.{place_of-below, place_of-first, place_of-named}
 -- a closure is one of its store; its order has each fragment once, with all its libraries, and its root last
 pub use Rattle.cfm_closure.proofs.ClosedLemmas.{closed-complete, closed-root, closed-store}
+-- each import of a closure's fragments has a target, or none
+pub use Rattle.cfm_closure.proofs.ClosedLemmas.{closed-target}
 -- a target that is a place is in an instantiated section of a fragment of the closure
 pub use Rattle.cfm_closure.proofs.TargetLemmas.{target-inside}
 -- if a closure is refused for a fragment's bytes, one of the store isn't read, and the refusal names it

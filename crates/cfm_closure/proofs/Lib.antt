@@ -8,6 +8,7 @@ mod HopFacts
 mod HopLemmas
 mod ImportLemmas
 mod InitLemmas
+mod InitOrderLemmas
 mod KnownLemmas
 pub mod Laws
 mod LeadLemmas

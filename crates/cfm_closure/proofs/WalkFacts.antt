@@ -64,7 +64,7 @@ module _ (pairs : List Pair) where
           by false met = refl
 
 -- each two elements of a list differ, if they did before and the last one is new
-once-push : (xs : List ℕ) (y : ℕ) → AllPairs (λ p q. p ≢ q) xs → (Contains xs y → ⊥) → AllPairs (λ p q. p ≢ q) (xs ++ y ∷ [])
+pub once-push : (xs : List ℕ) (y : ℕ) → AllPairs (λ p q. p ≢ q) xs → (Contains xs y → ⊥) → AllPairs (λ p q. p ≢ q) (xs ++ y ∷ [])
 once-push xs y once absent i j d less below same =
     let long : length (xs ++ y ∷ []) ≡ length xs + 1 = length_push xs y in
     let inside : i < length xs = omega arith in
@@ -80,14 +80,14 @@ module _ (pairs : List Pair) (s : Walked) (p : ℕ) (unmet : is_marked s p ≡ f
   inside : p < length s.marked
   inside = unmarked_inside s p unmet
 
-  here : is_marked (marking p s) p ≡ true
+  pub here : is_marked (marking p s) p ≡ true
   here = get_or-set_same s.marked p true true inside
 
   -- a mark changes only that fragment
   elsewhere : (q : ℕ) → q ≢ p → is_marked (marking p s) q ≡ is_marked s q
   elsewhere q other = get_or-set_other s.marked p q true true other
 
-  more : (q : ℕ) → is_marked s q ≡ true → is_marked (marking p s) q ≡ true
+  pub more : (q : ℕ) → is_marked s q ≡ true → is_marked (marking p s) q ≡ true
   more q met = elim (eqb_tells q p) [
     | inl same ↦ (let P : ℕ → Type 0 = λ q. is_marked (marking p s) q ≡ true in subst P (sym same.1) here)
     | inr other ↦ elsewhere q other.1 ∙ met
@@ -99,7 +99,7 @@ module _ (pairs : List Pair) (s : Walked) (p : ℕ) (unmet : is_marked s p ≡ f
     | inr other ↦ sym (elsewhere q other.1) ∙ none
   ]
 
-  met_before : (q : ℕ) → is_marked (marking p s) q ≡ true → (q ≡ p) ⊎ (is_marked s q ≡ true)
+  pub met_before : (q : ℕ) → is_marked (marking p s) q ≡ true → (q ≡ p) ⊎ (is_marked s q ≡ true)
   met_before q met = elim (eqb_tells q p) [
     | inl same ↦ inl same.1
     | inr other ↦ inr (sym (elsewhere q other.1) ∙ met)

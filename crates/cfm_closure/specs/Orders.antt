@@ -1,5 +1,8 @@
--- Closure orders of a store, and their properties apart from their definition.
-use Rattle.std.specs.Prelude.{◌≡◌, ◌≢◌, ℕ, ◌<◌, ◌≤◌, List, [], ◌∷◌, ◌++◌, length, Option, Some, Ok, Contains, AllPairs}
+-- The two orders of a closure, and their properties apart from their definitions.
+use Rattle.std.specs.Prelude.{◌≡◌, ◌≢◌, ◌↔◌, ℕ, ◌<◌, ◌≤◌, true, List, [], ◌∷◌, ◌++◌, length, Option, Some, Ok, Contains, AllPairs}
+use Rattle.pef_format.specs.Symbols.{options_of}
+use Rattle.pef_loader.specs.Library.{Library}
+use Rattle.pef_loader.specs.Loader.{library_of}
 use Rattle.cfm_closure.specs.Stores.{Pair}
 use Rattle.cfm_closure.specs.Fragments.{Fragment, fragment_of}
 use Rattle.cfm_closure.specs.Libraries.{bound_to}
@@ -26,3 +29,32 @@ pub record IsComplete (pairs : List Pair) (order : List ℕ) : Type 0 where
 -- the last fragment of an order
 abbrev pub EndsWith : List ℕ → ℕ → Type 0
 EndsWith order p = (front : List ℕ) × (order ≡ front ++ p ∷ [])
+
+-- library entry l of the fragment in place p wants the fragment in place q to be initialized first: the entry has
+-- that option, and q is its library. An entry whose library is absent wants none
+pub record WantsFirst (pairs : List Pair) (p l q : ℕ) : Type 0 where
+  pub fragment : Fragment
+  pub read : fragment_of pairs p ≡ Ok fragment
+  pub library : Library
+  pub entry : library_of fragment.loader l ≡ Some library
+  pub option : (options_of library.options).init_before ≡ true
+  pub bound : bound_to pairs p l ≡ Ok (Some q)
+
+-- a fragment waits for none but some others: all that its entries want first are among these
+abbrev pub IsReadyAfter : List Pair → List ℕ → ℕ → Type 0
+IsReadyAfter pairs before p = (l q : ℕ) → WantsFirst pairs p l q → Contains before q
+
+-- a fragment is next after some others: it is ready after them, and each fragment that is earlier in closure order and
+-- is ready after them is one of them
+pub record IsNext (pairs : List Pair) (order before : List ℕ) (p : ℕ) : Type 0 where
+  pub ready : IsReadyAfter pairs before p
+  pub front : List ℕ
+  pub rest : List ℕ
+  pub place : order ≡ front ++ p ∷ rest
+  pub first : (q : ℕ) → Contains front q → IsReadyAfter pairs before q → Contains before q
+
+-- an initialization order has the fragments of a closure order, each once, and each is next after those before it
+pub record IsInitOrder (pairs : List Pair) (order init_order : List ℕ) : Type 0 where
+  pub same : (p : ℕ) → Contains init_order p ↔ Contains order p
+  pub once : AllPairs (λ p q. p ≢ q) init_order
+  pub next : (before after : List ℕ) (p : ℕ) → init_order ≡ before ++ p ∷ after → IsNext pairs order before p

@@ -5,7 +5,7 @@ ghost use Rattle.pef_views.specs.declared.fault.ViewFault.{ViewFault};
 ghost use Rattle.cfm_closure.specs.Stores.{Pair};
 ghost use Rattle.cfm_closure.specs.Faults.{BindRefusal, no_container, no_loader, reexport_loop};
 ghost use Rattle.cfm_closure.specs.Fragments.{import_count};
-ghost use Rattle.cfm_closure.specs.Orders.{EndsWith, IsComplete};
+ghost use Rattle.cfm_closure.specs.Orders.{EndsWith, IsComplete, IsInitOrder};
 ghost use Rattle.cfm_closure.specs.Walk.{order_of};
 ghost use Rattle.cfm_closure.specs.Closures.{Closed, closed_of};
 ghost use Rattle.cfm_closure.specs.Promises.{AllRead, HasTarget, IsEndless, IsOfBinding, IsOfUnread, target_within};
@@ -22,6 +22,13 @@ pub fn closure_orders()
     ensures store { (pairs : List Pair) (root : ℕ) (c : Closed) → closed_of pairs root ≡ Ok c → c.pairs ≡ pairs }
     ensures complete { (pairs : List Pair) (root : ℕ) (c : Closed) → closed_of pairs root ≡ Ok c → IsComplete pairs c.order }
     ensures root { (pairs : List Pair) (root : ℕ) (c : Closed) → root < length pairs → closed_of pairs root ≡ Ok c → EndsWith c.order root }
+{}
+
+/// The initialization order of a closure has each of its fragments once. If a library entry of a fragment has the
+/// option to initialize the library first, and the library isn't absent, the library comes before the fragment. Of
+/// the fragments that wait for no such library, the first in closure order always comes next.
+pub fn init_orders()
+    ensures { (pairs : List Pair) (root : ℕ) (c : Closed) → closed_of pairs root ≡ Ok c → IsInitOrder pairs c.order c.init_order }
 {}
 
 /// Every import of a closure's fragments has a target, or none. None is refused.

@@ -1,5 +1,5 @@
 -- The next import of the way is one of the order.
-use Rattle.std.proofs.Common.{Some, Ok, ◌<◌, arith}
+use Rattle.std.proofs.Common.{Some, Ok, arith}
 use Rattle.cfm_closure.specs.Kept.Found.{meant}
 use Rattle.cfm_closure.proofs.KnownLemmas.{are_known-more, keeps-more, keeps-none, on_way-still}
 use Rattle.cfm_closure.proofs.resolve.note_way.Goals as goal
