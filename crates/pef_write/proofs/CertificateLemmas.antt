@@ -85,21 +85,20 @@ certified_after k (t ∷ sections) (d ∷ certificates) s c are is =
     (are.0, certified_after (k + 1) sections certificates s c are.1 (subst (λ n. IsCertified n s.fixups c) at is))
 
 -- certificates so far, and one more
-pub certified_more : (sections : List DescribedSection) (k : ℕ) (s d : DescribedSection) (done now : List Certified) (c : Certified) → k < length sections → s ≡ get_or sections k d → IsCertified k s.fixups c → now ≡ done ++ c ∷ []
-    → AreCertified 0 (take k sections) done → AreCertified 0 (take (k + 1) sections) now
-certified_more sections k s d done now c under found is pushed are =
+certified_more : (sections : List DescribedSection) (k : ℕ) (s d : DescribedSection) (done : List Certified) (c : Certified) → k < length sections → s ≡ get_or sections k d → IsCertified k s.fixups c
+    → AreCertified 0 (take k sections) done → AreCertified 0 (take (k + 1) sections) (done ++ c ∷ [])
+certified_more sections k s d done c under found is are =
     let taken : take (k + 1) sections ≡ take k sections ++ s ∷ [] = take_more sections k d under ∙ ap (λ x. take k sections ++ x ∷ []) (sym found) in
     let at : k ≡ 0 + length (take k sections) = omega (arith, length-take-le k sections (omega (arith, under))) in
     let own : IsCertified (0 + length (take k sections)) s.fixups c = subst (λ n. IsCertified n s.fixups c) at is in
-    subst (λ cs. AreCertified 0 (take (k + 1) sections) cs) (sym pushed)
-    (subst (λ ss. AreCertified 0 ss (done ++ c ∷ [])) (sym taken) (certified_after 0 (take k sections) done s c are own))
+    subst (λ ss. AreCertified 0 ss (done ++ c ∷ [])) (sym taken) (certified_after 0 (take k sections) done s c are own)
 
 -- .. with their programs, and one more
-pub encoded_more : (sections : List DescribedSection) (k : ℕ) (s d : DescribedSection) (done now : List (List ℕ)) (lengths after : List ℕ) (c : Certified) → k < length sections → s ≡ get_or sections k d → IsCertified k s.fixups c
-    → now ≡ done ++ spelled c.program ∷ [] → after ≡ lengths ++ program_length c.program ∷ [] → AreEncodedFor (take k sections) done lengths → AreEncodedFor (take (k + 1) sections) now after
-encoded_more sections k s d done now lengths after c under found is spelt counted e = record {
-  certificates = e.certificates ++ c ∷ [];
-  certified = certified_more sections k s d e.certificates (e.certificates ++ c ∷ []) c under found is refl e.certified;
-  programs_are = spelt ∙ ap (λ ps. ps ++ spelled c.program ∷ []) e.programs_are ∙ sym (map-append (λ (c : Certified). spelled c.program) e.certificates (c ∷ []));
-  lengths_are = counted ∙ ap (λ ns. ns ++ program_length c.program ∷ []) e.lengths_are ∙ sym (map-append (λ (c : Certified). program_length c.program) e.certificates (c ∷ []));
-}
+pub encoded_more : (sections : List DescribedSection) (k : ℕ) (s d : DescribedSection) (certificates with : List Certified) (done now : List (List ℕ)) (lengths after : List ℕ) (c : Certified) → k < length sections → s ≡ get_or sections k d → IsCertified k s.fixups c
+    → with ≡ certificates ++ c ∷ [] → now ≡ done ++ spelled c.program ∷ [] → after ≡ lengths ++ program_length c.program ∷ [] → AreEncodedFor (take k sections) certificates done lengths → AreEncodedFor (take (k + 1) sections) with now after
+encoded_more sections k s d certificates with done now lengths after c under found is pushed spelt counted e =
+    subst (λ cs. AreEncodedFor (take (k + 1) sections) cs now after) (sym pushed) (record {
+      certified = certified_more sections k s d certificates c under found is e.certified;
+      programs_are = spelt ∙ ap (λ ps. ps ++ spelled c.program ∷ []) e.programs_are ∙ sym (map-append (λ (c : Certified). spelled c.program) certificates (c ∷ []));
+      lengths_are = counted ∙ ap (λ ns. ns ++ program_length c.program ∷ []) e.lengths_are ∙ sym (map-append (λ (c : Certified). program_length c.program) certificates (c ∷ []));
+    })

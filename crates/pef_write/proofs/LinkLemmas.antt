@@ -1,27 +1,27 @@
 -- The bytes written for a script are those of its linked container.
-use Rattle.std.proofs.Common.{◌≡◌, ◌∙◌, ℕ, ◌<◌, ◌^◌, List, length, map, refl, sym, ap, arith}
+use Rattle.std.proofs.Common.{◌≡◌, ◌∙◌, ℕ, ◌<◌, ◌^◌, List, IfOk, Result, Ok, Err, length, map, refl, sym, ap, arith}
 use Rattle.std.proofs.lemmas.List.{length-map}
 use Rattle.pef_cert.specs.Certified.{Certified}
 use Rattle.pef_reloc.specs.declared.instr.Instr.{Instr}
 use Rattle.pef_reloc.specs.Instrs.{program_length, spelled}
 use Rattle.pef_script.specs.Script.{DescribedScript}
-use Rattle.pef_write.specs.Linked.{AreProgramsFor, IsLinked, LinkedContainer, linked_bytes, linked_loader, linked_tables, script_tables}
+use Rattle.pef_write.specs.Linked.{AreProgramsFor, IsCertifiedLink, IsLinkedContainer, LinkedContainer, linked_bytes, linked_loader, linked_tables, script_tables}
 use Rattle.pef_write.specs.Kept.Encoded.{AreEncoded, HasRoom, container_with, nonempty_from}
 use Rattle.pef_write.proofs.CertificateLemmas.{certified_programs}
 use Rattle.pef_write.proofs.Fitting.{sections_fit, sizes_of}
 use Rattle.pef_write.proofs.Listing.{map-twice}
 use Rattle.pef_write.proofs.Programs.{length-programs, own_programs-are}
 
-module _ (s : DescribedScript) (programs : List (List ℕ)) (lengths : List ℕ) (e : AreEncoded s programs lengths) where
-  -- the programs of its certificates
+module _ (s : DescribedScript) (certificates : List Certified) (programs : List (List ℕ)) (lengths : List ℕ) (e : AreEncoded s certificates programs lengths) where
+  -- the programs of the certificates
   abbrev pub planned : List (List Instr)
-  planned = map (λ c. c.program) e.each.certificates
+  planned = map (λ c. c.program) certificates
 
   pub programs_for : AreProgramsFor (length s.sections) s.sections planned
-  programs_for = certified_programs (length s.sections) (length s.imports) 0 s.sections e.each.certificates e.holds.sections.each e.each.certified
+  programs_for = certified_programs (length s.sections) (length s.imports) 0 s.sections certificates e.holds.sections.each e.each.certified
 
   bytes_as : programs ≡ map spelled planned
-  bytes_as = e.each.programs_are ∙ map-twice spelled (λ (c : Certified). c.program) e.each.certificates
+  bytes_as = e.each.programs_are ∙ map-twice spelled (λ (c : Certified). c.program) certificates
 
   -- the programs that have bytes are those of the sections that have fixups
   tables_as : script_tables s (nonempty_from 0 programs) ≡ linked_tables s planned
@@ -46,15 +46,22 @@ module _ (s : DescribedScript) (programs : List (List ℕ)) (lengths : List ℕ)
     container = omega (arith, ap length container_is, container_fits);
   }
 
-  -- what is written is a linked container
-  pub is_linked : (l : LinkedContainer) → l.bytes ≡ container_with s programs → l.lengths ≡ lengths → IsLinked s l
-  is_linked l bytes are = record {
-    holds = e.holds;
-    programs = planned;
-    are = programs_for;
-    bytes = bytes ∙ container_is;
-    lengths = are ∙ e.each.lengths_are ∙ map-twice program_length (λ (c : Certified). c.program) e.each.certificates;
-    certificates = e.each.certificates;
-    certified = e.each.certified;
-    programs_are = refl;
+  -- what is written is a linked container, with these certificates
+  pub is_certified_link : (l : LinkedContainer) → l.bytes ≡ container_with s programs → l.lengths ≡ lengths → IsCertifiedLink s (record { container = l; certificates = certificates })
+  is_certified_link l bytes are = record {
+    linked = record {
+      holds = e.holds;
+      programs = planned;
+      are = programs_for;
+      bytes = bytes ∙ container_is;
+      lengths = are ∙ e.each.lengths_are ∙ map-twice program_length (λ (c : Certified). c.program) certificates;
+      certificates = certificates;
+      certified = e.each.certified;
+      programs_are = refl;
+    };
+    certificates = refl;
   }
+
+  pub is_linked_container : {E : Type 0} (result : Result LinkedContainer E) → IfOk result (λ l. l.bytes ≡ container_with s programs) → IfOk result (λ l. l.lengths ≡ lengths) → IfOk result (λ l. IsLinkedContainer s l)
+  is_linked_container (Ok l) bytes are = record { certificates = certificates; certified = is_certified_link l bytes are }
+  is_linked_container (Err why) bytes are = tt

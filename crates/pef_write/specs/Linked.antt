@@ -47,11 +47,6 @@ AreCertified k [] (c ∷ certificates) = ⊥
 AreCertified k (s ∷ sections) [] = ⊥
 AreCertified k (s ∷ sections) (c ∷ certificates) = IsCertified k s.fixups c × AreCertified (k + 1) sections certificates
 
--- certificates for the sections of a script that keeps the limits
-pub record HasCertificates (s : DescribedScript) (certificates : List Certified) : Type 0 where
-  pub holds : ScriptHolds s
-  pub certified : AreCertified 0 s.sections certificates
-
 -- library k with its imports: how many it has, and how many the libraries before it have
 abbrev pub linked_library : List Import → ℕ → DescribedLibrary → Library
 linked_library imports k l = record {
@@ -130,3 +125,18 @@ pub record IsLinked (script : DescribedScript) (l : LinkedContainer) : Type 0 wh
   pub certificates : List Certified
   pub certified : AreCertified 0 script.sections certificates
   pub programs_are : programs ≡ map (λ c. c.program) certificates
+
+-- a linked container with certificates
+pub record CertifiedContainer : Type 0 where
+  pub container : LinkedContainer
+  pub certificates : List Certified
+
+-- what `link` gives for a script: a linked container, and the certificates that have its programs
+pub record IsCertifiedLink (script : DescribedScript) (l : CertifiedContainer) : Type 0 where
+  pub linked : IsLinked script l.container
+  pub certificates : l.certificates ≡ linked.certificates
+
+-- a container that `link` may give, with these certificates
+pub record IsLinkedContainer (script : DescribedScript) (l : LinkedContainer) : Type 0 where
+  pub certificates : List Certified
+  pub certified : IsCertifiedLink script (record { container = l; certificates = certificates })

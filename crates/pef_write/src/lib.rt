@@ -2,9 +2,10 @@
 //!
 //! The format is that of Mac OS Runtime Architectures, "PEF Structure", and of PEFBinaryFormat.h.
 //! [`link`] takes a script and returns its container, with a shortest relocation program for each
-//! section that has fixups. [`certificates`] returns a certificate for each section. The container is read
-//! back as the script: see [`linked_containers`], [`linked_programs`] and [`linked_programs_are_least`]. For
-//! every script there is one: see [`every_script_links`].
+//! section that has fixups, and a certificate for each section. [`link_container`] returns the container
+//! alone, and takes far less memory. The container is read back as the script: see [`linked_containers`],
+//! [`linked_programs`] and [`linked_programs_are_least`]. For every script there is one: see
+//! [`every_script_links`].
 #![tactic(auto)]
 
 mod container;
@@ -20,8 +21,7 @@ mod sections;
 mod theorems;
 
 pub use fault::LinkFault;
-pub use linking::{Linked, link};
-pub use program::certificates;
+pub use linking::{Linked, LinkedContainer, link, link_container};
 pub use theorems::{
     every_script_links, linked_containers, linked_programs, linked_programs_are_least,
 };

@@ -1,7 +1,7 @@
 //! The relocation programs of a script's sections, and the certificates that none is shorter.
-ghost use Rattle.std.specs.Prelude.{◌≡◌, IfOk, map, true};
-ghost use Rattle.pef_reloc.specs.Instrs.{instrs_fit, spelled};
-ghost use Rattle.pef_write.specs.Linked.{HasCertificates};
+ghost use Rattle.std.specs.Prelude.{◌≡◌, ◌<◌, ◌^◌, ◌++◌, ◌∷◌, [], IfOk, List, OnOk, map, true};
+ghost use Rattle.pef_cert.specs.Certified.{Certified};
+ghost use Rattle.pef_reloc.specs.Instrs.{instrs_fit, program_length, spelled};
 ghost use Rattle.pef_write.specs.Kept.Encoded.{AreEncoded};
 
 use crate::fault::LinkFault;
@@ -11,23 +11,6 @@ use pef_reloc::{Instr, encode};
 use pef_script::Script;
 use std::alloc::{AllocError, Global};
 
-/// Returns the certificate of each section of a script, in order. It has a program for the section's
-/// fixups, and proves that no program without repeats is shorter.
-///
-/// # Errors
-///
-/// Only `OutOfMemory`.
-pub fn certificates(alloc: Global, script: &Script<'_>) -> Result<Vec<Certificate>, LinkFault>
-    ensures { IfOk result (λ certificates. HasCertificates script.now certificates.items) }
-{
-    let sections = &script.parts().sections;
-    let mut certificates = Vec::with_capacity(alloc, sections.len())?;
-    for (k, section) in sections.iter().enumerate() {
-        certificates.push(plan(alloc, k as u32, &section.fixups)?)?;
-    }
-    Ok(certificates)
-}
-
 /// The bytes of the program of each section, and its number of halfwords. A section without fixups has
 /// none.
 #[derive(Drop)]
@@ -36,21 +19,61 @@ pub(crate) struct EncodedPrograms {
     pub(crate) lengths: Vec<u32>,
 }
 
+impl EncodedPrograms {
+    /// Returns no programs, with room for those of this many sections.
+    fn with_capacity(alloc: Global, sections: usize) -> Result<EncodedPrograms, AllocError>
+        ensures programs { IfOk result (λ encoded. encoded.programs.items ≡ []) }
+        ensures lengths { IfOk result (λ encoded. encoded.lengths.items ≡ []) }
+    {
+        let programs = Vec::with_capacity(alloc, sections)?;
+        let lengths = Vec::with_capacity(alloc, sections)?;
+        Ok(EncodedPrograms { programs, lengths })
+    }
+
+    /// Appends the program of the next section's certificate.
+    fn push(&mut self, alloc: Global, certificate: &Certificate) -> Result<(), AllocError>
+        requires fit { instrs_fit certificate.now.program ≡ true }
+        requires short { program_length certificate.now.program < 2 ^ 32 }
+        ensures programs { OnOk result (map (λ p. p.items) self.new.programs.items ≡ map (λ p. p.items) self.old.programs.items ++ spelled certificate.now.program ∷ []) }
+        ensures lengths { OnOk result (self.new.lengths.items ≡ self.old.lengths.items ++ program_length certificate.now.program ∷ []) }
+    {
+        self.programs
+            .push(program_bytes(alloc, &certificate.program)?)?;
+        self.lengths.push(certificate.program_length() as u32)?;
+        Ok(())
+    }
+}
+
+/// Returns the certificate of each section of a script, and its program.
+pub(crate) fn certified_programs(
+    alloc: Global,
+    script: &Script<'_>,
+) -> Result<(Vec<Certificate>, EncodedPrograms), LinkFault>
+    ensures { IfOk result (λ certified. AreEncoded script.now certified.0.items (map (λ p. p.items) certified.1.programs.items) certified.1.lengths.items) }
+{
+    let sections = &script.parts().sections;
+    let mut certificates = Vec::with_capacity(alloc, sections.len())?;
+    let mut encoded = EncodedPrograms::with_capacity(alloc, sections.len())?;
+    for (k, section) in sections.iter().enumerate() {
+        let certificate = plan(alloc, k as u32, &section.fixups)?;
+        encoded.push(alloc, &certificate)?;
+        certificates.push(certificate)?;
+    }
+    Ok((certificates, encoded))
+}
+
 /// Returns the program of each section of a script.
 ///
 /// It keeps one certificate at a time, since the labels of all sections would take much memory.
 pub(crate) fn programs(alloc: Global, script: &Script<'_>) -> Result<EncodedPrograms, LinkFault>
-    ensures { IfOk result (λ encoded. AreEncoded script.now (map (λ p. p.items) encoded.programs.items) encoded.lengths.items) }
+    ensures { IfOk result (λ encoded. (certificates : List Certified) × AreEncoded script.now certificates (map (λ p. p.items) encoded.programs.items) encoded.lengths.items) }
 {
     let sections = &script.parts().sections;
-    let mut programs = Vec::with_capacity(alloc, sections.len())?;
-    let mut lengths = Vec::with_capacity(alloc, sections.len())?;
+    let mut encoded = EncodedPrograms::with_capacity(alloc, sections.len())?;
     for (k, section) in sections.iter().enumerate() {
-        let certificate = plan(alloc, k as u32, &section.fixups)?;
-        programs.push(program_bytes(alloc, &certificate.program)?)?;
-        lengths.push(certificate.program_length() as u32)?;
+        encoded.push(alloc, &plan(alloc, k as u32, &section.fixups)?)?;
     }
-    Ok(EncodedPrograms { programs, lengths })
+    Ok(encoded)
 }
 
 /// Returns the bytes of a program.

@@ -18,17 +18,16 @@ abbrev pub nonempty_from : ℕ → List (List ℕ) → List ProgramEntry
 nonempty_from k [] = []
 nonempty_from k (bytes ∷ programs) = nonempty k bytes ++ nonempty_from (k + 1) programs
 
--- programs as bytes, and their numbers of halfwords. They are those of certificates for some sections
-pub record AreEncodedFor (sections : List DescribedSection) (programs : List (List ℕ)) (lengths : List ℕ) : Type 0 where
-  pub certificates : List Certified
+-- programs as bytes, and their numbers of halfwords: those of certificates for some sections
+pub record AreEncodedFor (sections : List DescribedSection) (certificates : List Certified) (programs : List (List ℕ)) (lengths : List ℕ) : Type 0 where
   pub certified : AreCertified 0 sections certificates
   pub programs_are : programs ≡ map (λ c. spelled c.program) certificates
   pub lengths_are : lengths ≡ map (λ c. program_length c.program) certificates
 
 -- .. for those of a script that was read
-pub record AreEncoded (s : DescribedScript) (programs : List (List ℕ)) (lengths : List ℕ) : Type 0 where
+pub record AreEncoded (s : DescribedScript) (certificates : List Certified) (programs : List (List ℕ)) (lengths : List ℕ) : Type 0 where
   pub holds : ScriptHolds s
-  pub each : AreEncodedFor s.sections programs lengths
+  pub each : AreEncodedFor s.sections certificates programs lengths
 
 -- the loader section of a script with the programs of its sections as bytes, and the container
 

@@ -1,7 +1,0 @@
--- The first sections are certified.
-use Rattle.std.proofs.Common.{take}
-use Rattle.pef_write.specs.Linked.{AreCertified}
-use Rattle.pef_write.proofs.program.certificates.Given as goal
-
-abbrev pub invariant-loop-k : goal.invariant-loop-k
-invariant-loop-k l = AreCertified 0 (take l.k l.section-items) l.certificates.items
