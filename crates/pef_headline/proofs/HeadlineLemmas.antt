@@ -12,7 +12,9 @@ use Rattle.cfm_prepare.specs.Steps.{HasClosure, Prepares}
 use Rattle.cfm_prepare.specs.declared.fault.PrepareFault.{PrepareFault}
 use Rattle.pef_script.specs.Script.{DescribedScript}
 use Rattle.pef_headline.specs.Headline.{HasDescribedMemory, HasLeastPrograms, HasLinked, IsReached, LibrariesResolve, MayAnswer, OthersAreSound, PreparesAsDescribed, SectionsFindRoom}
+use Rattle.pef_headline.specs.Imports.{HasImports}
 use Rattle.pef_headline.specs.Now.{IsDescribedNow}
+use Rattle.pef_headline.proofs.ImportLemmas.{imports-described}
 use Rattle.pef_headline.proofs.LeastLemmas.{linked_least}
 use Rattle.pef_headline.proofs.NowLemmas.{closure-described, linked-filled, linked-read, linked-relocated, present-described}
 use Rattle.pef_headline.proofs.RefusedLemmas.{refused-bound, same-closed}
@@ -35,7 +37,11 @@ headline-present script s p reached linked is =
     let same = reached-pairs s reached in
     let here : HasLinked reached.pairs p script = subst (λ pairs. HasLinked pairs p script) same linked in
     let now = present-described script here.container reached.pairs reached.limit reached.steps s p here.linked here.bytes reached.run is in
-    record { present = is; memory = subst (λ pairs. IsDescribedNow pairs s script p) (sym same) now }
+    record {
+      present = is;
+      imports = imports-described script linked.container linked.linked s.pairs p linked.bytes;
+      memory = subst (λ pairs. IsDescribedNow pairs s script p) (sym same) now;
+    }
 
 -- and so has the closure's fragment after a preparation
 prepared-present : (script : DescribedScript) (s t : ContextState) (name : List ℕ) (number p : ℕ) → IsReached s → HasLinked s.pairs p script → (step : Prepares s name number t) → Contains step.closure.closed.order p → HasDescribedMemory t p script
@@ -43,7 +49,11 @@ prepared-present script s t name number p reached linked step there =
     let same = reached-pairs s reached in
     let here : HasLinked reached.pairs p script = subst (λ pairs. HasLinked pairs p script) same linked in
     let now = closure-described script here.container reached.pairs reached.limit reached.steps s t name number p here.linked here.bytes reached.run step there in
-    record { present = now.0; memory = subst (λ pairs. IsDescribedNow pairs t script p) (sym (step.pairs ∙ same)) now.1 }
+    record {
+      present = now.0;
+      imports = subst (λ pairs. HasImports pairs p script) (sym step.pairs) (imports-described script linked.container linked.linked s.pairs p linked.bytes);
+      memory = subst (λ pairs. IsDescribedNow pairs t script p) (sym (step.pairs ∙ same)) now.1;
+    }
 
 pub headline-prepares : (script : DescribedScript) (s t : ContextState) (name : List ℕ) (p : ℕ) (answer : Result ℕ PrepareFault) → IsReached s → HasLinked s.pairs p script → (resolve : LibrariesResolve s name) → Contains resolve.closed.order p
     → SectionsFindRoom s resolve.closed → OthersAreSound s resolve.closed → MayAnswer s name answer t → PreparesAsDescribed s answer t p script

@@ -2,6 +2,7 @@ pub mod Laws
 mod ConditionLemmas
 mod DescribedLemmas
 mod HeadlineLemmas
+mod ImportLemmas
 mod LeastLemmas
 mod LinkedLemmas
 mod NowLemmas

@@ -14,6 +14,7 @@ use Rattle.cfm_prepare.specs.Runs.{Runs, Step}
 use Rattle.cfm_prepare.specs.Steps.{MayNotPrepare, Prepares, new_of}
 use Rattle.cfm_prepare.specs.declared.fault.PrepareFault.{PrepareFault}
 use Rattle.pef_script.specs.Script.{DescribedScript, DescribedSection}
+use Rattle.pef_headline.specs.Imports.{HasImports}
 use Rattle.pef_headline.specs.Least.{HasLeast}
 use Rattle.pef_headline.specs.Now.{IsDescribedNow}
 use Rattle.pef_write.specs.Linked.{IsLinked, LinkedContainer}
@@ -59,9 +60,11 @@ abbrev pub MayAnswer : ContextState → List ℕ → Result ℕ PrepareFault →
 MayAnswer s name (Ok number) t = Prepares s name number t
 MayAnswer s name (Err fault) t = MayNotPrepare s name fault × (t ≡ s)
 
--- "exactly the memory that its script describes": the fragment in place p is present, with this memory
+-- "exactly the memory that its script describes": the fragment in place p is present, with this memory. Its imports
+-- are those of the script by their names, so the addresses of their targets are those that the script means
 pub record HasDescribedMemory (s : ContextState) (p : ℕ) (script : DescribedScript) : Type 0 where
   pub present : is_present s.present p ≡ true
+  pub imports : HasImports s.pairs p script
   pub memory : IsDescribedNow s.pairs s script p
 
 -- "prepares": the result is the next connection, and the fragment in place p has the described memory afterwards; or it

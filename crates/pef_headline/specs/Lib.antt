@@ -1,4 +1,5 @@
 pub mod Headline
+pub mod Imports
 pub mod Least
 pub mod Now
 pub mod Others
