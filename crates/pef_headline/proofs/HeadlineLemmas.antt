@@ -6,54 +6,52 @@ use Rattle.cfm_memory.specs.Instances.{Layout}
 use Rattle.cfm_prepare.specs.Addresses.{addresses_of}
 use Rattle.cfm_prepare.specs.Fragments.{Present, extents_in, image_refusal_in, is_present, reloc_refusal_in}
 use Rattle.cfm_closure.specs.Stores.{Pair}
-use Rattle.cfm_prepare.specs.Contexts.{ContextState}
-use Rattle.cfm_prepare.specs.Runs.{Runs, Step, Takes, closed, prepared}
+use Rattle.cfm_prepare.specs.Contexts.{ContextState, fresh_state}
 use Rattle.cfm_prepare.specs.Steps.{HasClosure, Prepares}
 use Rattle.cfm_prepare.specs.declared.fault.PrepareFault.{PrepareFault}
 use Rattle.pef_script.specs.Script.{DescribedScript}
-use Rattle.pef_headline.specs.Headline.{HasDescribedMemory, HasLeastPrograms, HasLinked, IsReached, LibrariesResolve, MayAnswer, OthersAreSound, PreparesAsDescribed, SectionsFindRoom}
+use Rattle.pef_headline.specs.Headline.{HasDescribedMemory, HasLeastPrograms, HasLinked, IsReached, LibrariesResolve, MayAnswer, OthersAreSound, PreparesAsDescribed, SectionsFindRoom, StaysAsDescribed}
 use Rattle.pef_headline.specs.Imports.{HasImports}
 use Rattle.pef_headline.specs.Now.{IsDescribedNow}
+use Rattle.pef_headline.specs.Placed.{IsPlacedOrKept, WasPlaced}
 use Rattle.pef_headline.proofs.ImportLemmas.{imports-described}
 use Rattle.pef_headline.proofs.LeastLemmas.{linked_least}
 use Rattle.pef_headline.proofs.NowLemmas.{closure-described, linked-filled, linked-read, linked-relocated, present-described}
+use Rattle.pef_headline.proofs.PlacedLemmas.{run-pairs}
 use Rattle.pef_headline.proofs.RefusedLemmas.{refused-bound, same-closed}
-
--- a context keeps its store
-step-pairs : (step : Step) (s t : ContextState) → Takes s step t → t.pairs ≡ s.pairs
-step-pairs (prepared name number) s t takes = takes.pairs
-step-pairs (closed number) s t takes = takes.pairs
-
-run-pairs : (steps : List Step) (s t : ContextState) → Runs s steps t → t.pairs ≡ s.pairs
-run-pairs [] s t run = ap (λ (u : ContextState). u.pairs) run
-run-pairs (step ∷ steps) s t run = run-pairs steps run.0 t run.2 ∙ step-pairs step s run.0 run.1
 
 reached-pairs : (s : ContextState) (reached : IsReached s) → s.pairs ≡ reached.pairs
 reached-pairs s reached = run-pairs reached.steps _ s reached.run
 
 -- a present fragment has the described memory
-pub headline-present : (script : DescribedScript) (s : ContextState) (p : ℕ) → IsReached s → HasLinked s.pairs p script → is_present s.present p ≡ true → HasDescribedMemory s p script
+pub headline-present : (script : DescribedScript) (s : ContextState) (p : ℕ) (reached : IsReached s) → HasLinked s.pairs p script → is_present s.present p ≡ true → StaysAsDescribed s reached p script
 headline-present script s p reached linked is =
     let same = reached-pairs s reached in
     let here : HasLinked reached.pairs p script = subst (λ pairs. HasLinked pairs p script) same linked in
-    let now = present-described script here.container reached.pairs reached.limit reached.steps s p here.linked here.bytes reached.run is in
+    let start = fresh_state reached.pairs reached.limit in
+    let P : List Pair → Type 0 = λ pairs. (d : IsDescribedNow pairs s script p) × WasPlaced reached.steps start s reached.run p d.before in
+    let now : P s.pairs = subst P (sym same) (present-described script here.container reached.pairs reached.limit reached.steps s p here.linked here.bytes reached.run is) in
     record {
-      present = is;
-      imports = imports-described script linked.container linked.linked s.pairs p linked.bytes;
-      memory = subst (λ pairs. IsDescribedNow pairs s script p) (sym same) now;
+      described = record { present = is; imports = imports-described script linked.container linked.linked s.pairs p linked.bytes; memory = now.0 };
+      placed = now.1;
     }
 
 -- and so has the closure's fragment after a preparation
-prepared-present : (script : DescribedScript) (s t : ContextState) (name : List ℕ) (number p : ℕ) → IsReached s → HasLinked s.pairs p script → (step : Prepares s name number t) → Contains step.closure.closed.order p → HasDescribedMemory t p script
+prepared-present : (script : DescribedScript) (s t : ContextState) (name : List ℕ) (number p : ℕ) → IsReached s → HasLinked s.pairs p script → (step : Prepares s name number t) → Contains step.closure.closed.order p
+    → (has : HasDescribedMemory t p script) × IsPlacedOrKept s t p has.memory.before
 prepared-present script s t name number p reached linked step there =
     let same = reached-pairs s reached in
     let here : HasLinked reached.pairs p script = subst (λ pairs. HasLinked pairs p script) same linked in
     let now = closure-described script here.container reached.pairs reached.limit reached.steps s t name number p here.linked here.bytes reached.run step there in
-    record {
-      present = now.0;
-      imports = subst (λ pairs. HasImports pairs p script) (sym step.pairs) (imports-described script linked.container linked.linked s.pairs p linked.bytes);
-      memory = subst (λ pairs. IsDescribedNow pairs t script p) (sym (step.pairs ∙ same)) now.1;
-    }
+    let P : List Pair → Type 0 = λ pairs. (d : IsDescribedNow pairs t script p) × IsPlacedOrKept s t p d.before in
+    let described : P t.pairs = subst P (sym (step.pairs ∙ same)) (now.1, now.2) in (
+      record {
+        present = now.0;
+        imports = subst (λ pairs. HasImports pairs p script) (sym step.pairs) (imports-described script linked.container linked.linked s.pairs p linked.bytes);
+        memory = described.0;
+      },
+      described.1,
+    )
 
 pub headline-prepares : (script : DescribedScript) (s t : ContextState) (name : List ℕ) (p : ℕ) (answer : Result ℕ PrepareFault) → IsReached s → HasLinked s.pairs p script → (resolve : LibrariesResolve s name) → Contains resolve.closed.order p
     → SectionsFindRoom s resolve.closed → OthersAreSound s resolve.closed → MayAnswer s name answer t → PreparesAsDescribed s answer t p script
@@ -65,7 +63,7 @@ headline-prepares script s t name p answer reached linked resolve there rooms so
     by : (answer : Result ℕ PrepareFault) → MayAnswer s name answer t → PreparesAsDescribed s answer t p script
     by (Ok number) step =
         let same : resolve.closed ≡ step.closure.closed = same-closed s name closure step.closure in
-        (step.number, prepared-present script s t name number p reached linked step (subst (λ (c : Closed). Contains c.order p) same there))
+        let has = prepared-present script s t name number p reached linked step (subst (λ (c : Closed). Contains c.order p) same there) in (step.number, has.0, has.1)
     by (Err fault) why = (refused-bound s name closure fault rooms.room sound why.0, why.1)
 
 pub headline-least : (script : DescribedScript) (pairs : List Pair) (p : ℕ) (linked : HasLinked pairs p script) → HasLeastPrograms pairs p script linked

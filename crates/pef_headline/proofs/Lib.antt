@@ -6,5 +6,6 @@ mod ImportLemmas
 mod LeastLemmas
 mod LinkedLemmas
 mod NowLemmas
+mod PlacedLemmas
 mod ProgramLemmas
 mod RefusedLemmas

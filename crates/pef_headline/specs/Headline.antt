@@ -17,6 +17,7 @@ use Rattle.pef_script.specs.Script.{DescribedScript, DescribedSection}
 use Rattle.pef_headline.specs.Imports.{HasImports}
 use Rattle.pef_headline.specs.Least.{HasLeast}
 use Rattle.pef_headline.specs.Now.{IsDescribedNow}
+use Rattle.pef_headline.specs.Placed.{IsPlacedOrKept, WasPlaced}
 use Rattle.pef_write.specs.Linked.{IsLinked, LinkedContainer}
 
 -- "container that the linker writes": place p of a store has the bytes that are linked from the script
@@ -67,11 +68,18 @@ pub record HasDescribedMemory (s : ContextState) (p : ℕ) (script : DescribedSc
   pub imports : HasImports s.pairs p script
   pub memory : IsDescribedNow s.pairs s script p
 
--- "prepares": the result is the next connection, and the fragment in place p has the described memory afterwards; or it
--- is 99, the refusal for a failed allocation, and the context is unchanged
+-- "prepares": the result is the next connection, and the fragment in place p has the described memory afterwards. Its
+-- sections were placed in the memory that this preparation has for it, or keep their places. Or the result is 99, the
+-- refusal for a failed allocation, and the context is unchanged
 abbrev pub PreparesAsDescribed : ContextState → Result ℕ PrepareFault → ContextState → ℕ → DescribedScript → Type 0
-PreparesAsDescribed s (Ok number) t p script = (number ≡ s.given) × HasDescribedMemory t p script
+PreparesAsDescribed s (Ok number) t p script = (number ≡ s.given) × (has : HasDescribedMemory t p script) × IsPlacedOrKept s t p has.memory.before
 PreparesAsDescribed s (Err fault) t p script = (fault_number fault ≡ 99) × (t ≡ s)
+
+-- as long as the fragment in place p is present, it has the described memory. Its sections were placed by the last step
+-- before which it wasn't present
+pub record StaysAsDescribed (s : ContextState) (reached : IsReached s) (p : ℕ) (script : DescribedScript) : Type 0 where
+  pub described : HasDescribedMemory s p script
+  pub placed : WasPlaced reached.steps (fresh_state reached.pairs reached.limit) s reached.run p described.memory.before
 
 -- "for each section its relocation program ..": the bytes in place p are read as a container with a loader section, and
 -- that has a least program for each section of the script

@@ -3,3 +3,4 @@ pub mod Imports
 pub mod Least
 pub mod Now
 pub mod Others
+pub mod Placed

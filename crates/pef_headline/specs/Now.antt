@@ -21,9 +21,9 @@ abbrev pub described_extents : DescribedScript → List Extent
 described_extents script = map described_extent script.sections
 
 -- each section of the script has a place of the section's length and alignment. Each in turn was the lowest with room
--- in some memory; `Prepares` says in which one. In the memory of now each place holds exactly the bytes that the script
--- describes, under the addresses that the fragment's sections and its imports' targets have now (0 for an import that
--- has no target)
+-- in the memory `before`, with those before it; the headline says which memory that is. In the memory of now each place
+-- holds exactly the bytes that the script describes, under the addresses that the fragment's sections and its imports'
+-- targets have now (0 for an import that has no target)
 pub record IsDescribedNow (pairs : List Pair) (s : ContextState) (script : DescribedScript) (p : ℕ) : Type 0 where
   pub before : Layout
   pub empty : Layout

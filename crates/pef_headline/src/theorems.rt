@@ -16,7 +16,7 @@ ghost use Rattle.pef_loader.specs.declared.fault.LoaderFault.{LoaderFault};
 ghost use Rattle.pef_pidata.specs.declared.fault.PackFault.{PackFault};
 ghost use Rattle.pef_reloc.specs.declared.fault.RelocFault.{RelocFault};
 ghost use Rattle.pef_script.specs.Script.{DescribedScript};
-ghost use Rattle.pef_headline.specs.Headline.{HasDescribedMemory, HasLeastPrograms, HasLinked, IsReached, LibrariesResolve, MayAnswer, OthersAreSound, PreparesAsDescribed, SectionsFindRoom};
+ghost use Rattle.pef_headline.specs.Headline.{HasLeastPrograms, HasLinked, IsReached, LibrariesResolve, MayAnswer, OthersAreSound, PreparesAsDescribed, SectionsFindRoom, StaysAsDescribed};
 ghost use Rattle.pef_headline.specs.Others.{HasForeign, NamesForeign};
 ghost use Rattle.pef_views.specs.declared.fault.ViewFault.{ViewFault};
 
@@ -32,14 +32,15 @@ ghost use Rattle.pef_views.specs.declared.fault.ViewFault.{ViewFault};
 /// room. None of these that wasn't linked has an image or a relocation header that is refused.
 ///
 /// `present`: whenever the fragment in `p` is present, it has the described memory, under the addresses that its
-/// sections and its imports' targets have now. So what `prepares` gives is kept as long as the fragment is present.
+/// sections and its imports' targets have now. Its sections are where the last preparation before which it wasn't
+/// present placed them. So what `prepares` gives is kept as long as the fragment is present.
 ///
 /// `least`, the second half: the linked bytes are read as a container with a loader section, which has a least
 /// relocation program for each section of the script.
 pub fn headline()
     ensures prepares { (script : DescribedScript) (s t : ContextState) (name : List ℕ) (p : ℕ) (answer : Result ℕ PrepareFault) → IsReached s → HasLinked s.pairs p script → (resolve : LibrariesResolve s name) → Contains resolve.closed.order p
         → SectionsFindRoom s resolve.closed → OthersAreSound s resolve.closed → MayAnswer s name answer t → PreparesAsDescribed s answer t p script }
-    ensures present { (script : DescribedScript) (s : ContextState) (p : ℕ) → IsReached s → HasLinked s.pairs p script → is_present s.present p ≡ true → HasDescribedMemory s p script }
+    ensures present { (script : DescribedScript) (s : ContextState) (p : ℕ) (reached : IsReached s) → HasLinked s.pairs p script → is_present s.present p ≡ true → StaysAsDescribed s reached p script }
     ensures least { (script : DescribedScript) (pairs : List Pair) (p : ℕ) (linked : HasLinked pairs p script) → HasLeastPrograms pairs p script linked }
 {}
 

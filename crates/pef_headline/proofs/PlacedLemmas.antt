@@ -1,0 +1,128 @@
+-- In which memory a fragment was placed: by a preparation, and by the last one of a run before which it wasn't present.
+use Rattle.std.proofs.Common.{◌≡◌, ◌⊎◌, ℕ, Bool, true, false, List, [], ◌∷◌, ◌++◌, cond, inl, inr, refl, sym, ap, subst, ◌∙◌}
+use Rattle.std.proofs.lemmas.Bool.Decides.{eqb_tells}
+use Rattle.cfm_closure.specs.Stores.{Pair}
+use Rattle.cfm_memory.specs.Extents.{ArePlaced, Extent}
+use Rattle.cfm_memory.specs.Instances.{Layout}
+use Rattle.cfm_memory.specs.Placement.{with_new}
+use Rattle.cfm_memory.specs.declared.place.Place.{Place}
+use Rattle.cfm_prepare.specs.Contexts.{ContextState, fresh_state, is_needed}
+use Rattle.cfm_prepare.specs.Fragments.{Present, extents_in, is_present, places_of}
+use Rattle.cfm_prepare.specs.Placing.{AllPlaced}
+use Rattle.cfm_prepare.specs.Runs.{Runs, Step, Takes, closed, prepared}
+use Rattle.cfm_prepare.specs.Steps.{Prepares}
+use Rattle.cfm_prepare.proofs.Laws.{places-append, present-append, present-needed, run-keeps}
+use Rattle.pef_headline.specs.Placed.{IsPlacedAnew, IsPlacedOrKept, IsPresentAt, StaysAt, WasPlaced, memory_for, with_places}
+
+-- extents that were placed leave a memory with instances at their places
+placed-after : (m : Layout) (es : List Extent) (places : List Place) (after : Layout) → ArePlaced m es places after → after ≡ with_places m places
+placed-after m [] [] after placed = placed
+placed-after m [] (place ∷ places) after placed = absurd placed
+placed-after m (e ∷ es) [] after placed = absurd placed
+placed-after m (e ∷ es) (place ∷ places) after placed = placed-after (with_new m place) es places after placed.1
+
+-- the sections of a fragment were placed in a memory
+abbrev pub FoundPlaces : List Pair → Layout → ℕ → List Place → Type 0
+FoundPlaces pairs before p places = (after : Layout) × ArePlaced before (extents_in pairs p) places after
+
+-- one of new fragments was placed in its memory
+found-places : (pairs : List Pair) (m : Layout) (fs : List Present) (after : Layout) (p : ℕ) → AllPlaced pairs m fs after → is_present fs p ≡ true → FoundPlaces pairs (memory_for m fs p) p (places_of fs p)
+found-places pairs m [] after p placed is = absurd (cc)
+found-places pairs m (f ∷ fs) after p placed is = elim (eqb_tells f.position p) [
+  | inl same ↦ rw same.0 (subst (λ (n : ℕ). FoundPlaces pairs m n f.places) same.1 (placed.0, placed.1))
+  | inr other ↦ (let left : is_present fs p ≡ true = rw other.0 at is in
+      let mid : placed.0 ≡ with_places m f.places = placed-after m (extents_in pairs f.position) f.places placed.0 placed.1 in
+      rw other.0 (subst (λ (k : Layout). FoundPlaces pairs (memory_for k fs p) p (places_of fs p)) mid (found-places pairs placed.0 fs after p placed.2 left)))
+]
+
+-- a fragment that a step placed
+pub record HasBegun (s t : ContextState) (p : ℕ) : Type 0 where
+  pub before : Layout
+  pub anew : IsPlacedAnew s t p before
+  pub found : FoundPlaces s.pairs before p (places_of t.present p)
+
+-- a preparation placed each fragment that wasn't present before, and is now
+pub begun : (s t : ContextState) (name : List ℕ) (number p : ℕ) → Prepares s name number t → is_present s.present p ≡ false → is_present t.present p ≡ true → HasBegun s t p
+begun s t name number p step absent is =
+    let split : is_present t.present p ≡ cond (is_present s.present p) true (is_present step.fresh p) = ap (λ fs. is_present fs p) step.present ∙ present-append s.present step.fresh p in
+    let mine : is_present step.fresh p ≡ true = sym (split ∙ ap (λ (b : Bool). cond b true (is_present step.fresh p)) absent) ∙ is in
+    let places : places_of t.present p ≡ places_of step.fresh p =
+    ap (λ fs. places_of fs p) step.present ∙ places-append s.present step.fresh p ∙ ap (λ (b : Bool). cond b (places_of s.present p) (places_of step.fresh p)) absent in
+    let are = step.prepared.are in
+    record {
+      before = memory_for s.memory step.fresh p;
+      anew = record { absent = absent; fresh = step.fresh; present = step.present; is = refl };
+      found = subst (FoundPlaces s.pairs (memory_for s.memory step.fresh p) p) (sym places) (found-places s.pairs s.memory step.fresh are.empty p are.placed mine);
+    }
+
+never : (b : Bool) → cond b false false ≡ false
+never true = refl
+never false = refl
+
+-- and no closing does
+step-begun : (step : Step) (s t : ContextState) (p : ℕ) → Takes s step t → is_present s.present p ≡ false → is_present t.present p ≡ true → HasBegun s t p
+step-begun (prepared name number) s t p takes absent is = begun s t name number p takes absent is
+step-begun (closed number) s t p takes absent is =
+    let gone : is_present t.present p ≡ false =
+    ap (λ fs. is_present fs p) takes.present ∙ present-needed t.connections s.present p ∙ ap (λ (b : Bool). cond (is_needed t.connections p) b false) absent ∙ never (is_needed t.connections p) in
+    absurd (cc)
+
+-- a preparation keeps the places of the others
+pub still : (s t : ContextState) (name : List ℕ) (number p : ℕ) → Prepares s name number t → is_present s.present p ≡ true → IsPresentAt s p (places_of t.present p)
+still s t name number p step is = record {
+  present = is;
+  are = sym (ap (λ fs. places_of fs p) step.present ∙ places-append s.present step.fresh p ∙ ap (λ (b : Bool). cond b (places_of s.present p) (places_of step.fresh p)) is);
+}
+
+-- one step more
+run-push : (done : List Step) (s a b : ContextState) (step : Step) → Runs s done a → Takes a step b → Runs s (done ++ step ∷ []) b
+run-push [] s a b step run takes = (b, subst (λ (u : ContextState). Takes u step b) run takes, refl)
+run-push (first ∷ done) s a b step run takes = (run.0, run.1, run-push done run.0 a b step run.2 takes)
+
+-- a context keeps its store
+step-pairs : (step : Step) (s t : ContextState) → Takes s step t → t.pairs ≡ s.pairs
+step-pairs (prepared name number) s t takes = takes.pairs
+step-pairs (closed number) s t takes = takes.pairs
+
+pub run-pairs : (steps : List Step) (s t : ContextState) → Runs s steps t → t.pairs ≡ s.pairs
+run-pairs [] s t run = ap (λ (u : ContextState). u.pairs) run
+run-pairs (step ∷ steps) s t run = run-pairs steps run.0 t run.2 ∙ step-pairs step s run.0 run.1
+
+-- a fragment that a run placed
+pub record WasFound (pairs : List Pair) (steps : List Step) (s t : ContextState) (run : Runs s steps t) (p : ℕ) : Type 0 where
+  pub before : Layout
+  pub was : WasPlaced steps s t run p before
+  pub found : FoundPlaces pairs before p (places_of t.present p)
+
+module _ (pairs : List Pair) (limit : ℕ) (p : ℕ) where
+  stays-first : (steps : List Step) (s t : ContextState) (run : Runs s steps t) (places : List Place) → StaysAt steps s t run p places → IsPresentAt s p places
+  stays-first [] s t run places stays = stays
+  stays-first (step ∷ steps) s t run places stays = stays.0
+
+  -- the rest of a run placed it, or it is present all along
+  rest-placed : (steps done : List Step) (s t : ContextState) → Runs (fresh_state pairs limit) done s → (run : Runs s steps t) → is_present t.present p ≡ true → WasFound pairs steps s t run p ⊎ StaysAt steps s t run p (places_of t.present p)
+  rest-placed [] done s t earlier run is = inr (record { present = subst (λ (u : ContextState). is_present u.present p ≡ true) run is; are = ap (λ (u : ContextState). places_of u.present p) (sym run) })
+  rest-placed (step ∷ steps) done s t earlier run is = by (rest-placed steps (done ++ step ∷ []) run.0 t (run-push done (fresh_state pairs limit) s run.0 step earlier run.1) run.2 is)
+    where
+      onward : (b : Bool) → is_present s.present p ≡ b → StaysAt steps run.0 t run.2 p (places_of t.present p) → WasFound pairs (step ∷ steps) s t run p ⊎ StaysAt (step ∷ steps) s t run p (places_of t.present p)
+      onward true was stays =
+          let next = stays-first steps run.0 t run.2 (places_of t.present p) stays in
+          let kept = run-keeps pairs limit done s run.0 step p earlier run.1 was next.present in
+          inr (record { present = was; are = sym kept.0 ∙ next.are }, stays)
+      onward false absent stays =
+          let next = stays-first steps run.0 t run.2 (places_of t.present p) stays in
+          let new = step-begun step s run.0 p run.1 absent next.present in
+          let found : FoundPlaces pairs new.before p (places_of run.0.present p) = subst (λ ps. FoundPlaces ps new.before p (places_of run.0.present p)) (run-pairs done (fresh_state pairs limit) s earlier) new.found in
+          inl (record { before = new.before; was = inl (new.anew, stays); found = subst (FoundPlaces pairs new.before p) next.are found })
+
+      by : WasFound pairs steps run.0 t run.2 p ⊎ StaysAt steps run.0 t run.2 p (places_of t.present p) → WasFound pairs (step ∷ steps) s t run p ⊎ StaysAt (step ∷ steps) s t run p (places_of t.present p)
+      by (inl was) = inl (record { before = was.before; was = inr was.was; found = was.found })
+      by (inr stays) = onward (is_present s.present p) refl stays
+
+  -- a run from a new context placed each fragment that is present after it
+  pub was-found : (steps : List Step) (t : ContextState) (run : Runs (fresh_state pairs limit) steps t) → is_present t.present p ≡ true → WasFound pairs steps (fresh_state pairs limit) t run p
+  was-found steps t run is = by (rest-placed steps [] (fresh_state pairs limit) t refl run is)
+    where
+      by : WasFound pairs steps (fresh_state pairs limit) t run p ⊎ StaysAt steps (fresh_state pairs limit) t run p (places_of t.present p) → WasFound pairs steps (fresh_state pairs limit) t run p
+      by (inl was) = was
+      by (inr stays) = let first = (stays-first steps (fresh_state pairs limit) t run (places_of t.present p) stays).present in absurd (cc)

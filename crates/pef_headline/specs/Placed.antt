@@ -1,0 +1,49 @@
+-- In which memory the sections of a fragment were placed. That new fragments are placed one after another, in the order
+-- of their closure, is this project's own rule.
+use Rattle.std.specs.Prelude.{◌≡◌, ◌⊎◌, ◌==◌, ℕ, Bool, true, false, List, [], ◌∷◌, ◌++◌, if◌then◌else◌}
+use Rattle.cfm_memory.specs.Instances.{Layout}
+use Rattle.cfm_memory.specs.Placement.{with_new}
+use Rattle.cfm_memory.specs.declared.place.Place.{Place}
+use Rattle.cfm_prepare.specs.Contexts.{ContextState}
+use Rattle.cfm_prepare.specs.Fragments.{Present, is_present, places_of}
+use Rattle.cfm_prepare.specs.Runs.{Runs, Step}
+
+-- a memory with new instances at some places
+abbrev pub with_places : Layout → List Place → Layout
+with_places m [] = m
+with_places m (place ∷ places) = with_places (with_new m place) places
+
+-- new fragments were placed in a memory, one after another. This is the memory in which the one in place p of the store
+-- was placed: it has the sections of those before it
+abbrev pub memory_for : Layout → List Present → ℕ → Layout
+memory_for m [] p = m
+memory_for m (f ∷ fresh) p = if f.position == p then m else memory_for (with_places m f.places) fresh p
+
+-- the fragment in place p wasn't present in s. It is one of the new fragments of t, and was placed in this memory
+pub record IsPlacedAnew (s t : ContextState) (p : ℕ) (before : Layout) : Type 0 where
+  pub absent : is_present s.present p ≡ false
+  pub fresh : List Present
+  pub present : t.present ≡ s.present ++ fresh
+  pub is : before ≡ memory_for s.memory fresh p
+
+-- the fragment in place p is present, with these places
+pub record IsPresentAt (s : ContextState) (p : ℕ) (places : List Place) : Type 0 where
+  pub present : is_present s.present p ≡ true
+  pub are : places_of s.present p ≡ places
+
+-- in each state of a run
+abbrev pub StaysAt : (steps : List Step) (s t : ContextState) → Runs s steps t → ℕ → List Place → Type 0
+StaysAt [] s t run p places = IsPresentAt s p places
+StaysAt (step ∷ steps) s t run p places = IsPresentAt s p places × StaysAt steps run.0 t run.2 p places
+
+-- a step of a run placed the fragment in place p in this memory. In each state since then the fragment has been present
+-- with the places that it has at the end
+abbrev pub WasPlaced : (steps : List Step) (s t : ContextState) → Runs s steps t → ℕ → Layout → Type 0
+WasPlaced [] s t run p before = ⊥
+WasPlaced (step ∷ steps) s t run p before =
+    (IsPlacedAnew s run.0 p before × StaysAt steps run.0 t run.2 p (places_of t.present p))
+    ⊎ WasPlaced steps run.0 t run.2 p before
+
+-- after a step from s to t: the fragment in place p was placed in this memory, or it was present and keeps its places
+abbrev pub IsPlacedOrKept : ContextState → ContextState → ℕ → Layout → Type 0
+IsPlacedOrKept s t p before = IsPlacedAnew s t p before ⊎ IsPresentAt s p (places_of t.present p)
