@@ -1,5 +1,5 @@
 -- The headline, phrase by phrase, from the facts of memory, refusals and least programs.
-use Rattle.std.proofs.Common.{◌≡◌, ℕ, true, List, [], ◌∷◌, None, Result, Ok, Err, Contains, sym, ap, subst, ◌∙◌}
+use Rattle.std.proofs.Common.{◌≡◌, ℕ, true, List, None, Result, Ok, Err, Contains, sym, subst, ◌∙◌}
 use Rattle.cfm_closure.specs.Closures.{Closed}
 use Rattle.cfm_memory.specs.Extents.{ArePlaced}
 use Rattle.cfm_memory.specs.Instances.{Layout}

@@ -12,7 +12,7 @@ use Rattle.cfm_prepare.specs.Placing.{AllPlaced}
 use Rattle.cfm_prepare.specs.Runs.{Runs, Step, Takes, closed, prepared}
 use Rattle.cfm_prepare.specs.Steps.{Prepares}
 use Rattle.cfm_prepare.proofs.Laws.{places-append, present-append, present-needed, run-keeps}
-use Rattle.pef_headline.specs.Placed.{IsPlacedAnew, IsPlacedOrKept, IsPresentAt, StaysAt, WasPlaced, memory_for, with_places}
+use Rattle.pef_headline.specs.Placed.{IsPlacedAnew, IsPresentAt, StaysAt, WasPlaced, memory_for, with_places}
 
 -- extents that were placed leave a memory with instances at their places
 placed-after : (m : Layout) (es : List Extent) (places : List Place) (after : Layout) → ArePlaced m es places after → after ≡ with_places m places

@@ -1,6 +1,6 @@
 -- In which memory the sections of a fragment were placed. That new fragments are placed one after another, in the order
 -- of their closure, is this project's own rule.
-use Rattle.std.specs.Prelude.{◌≡◌, ◌⊎◌, ◌==◌, ℕ, Bool, true, false, List, [], ◌∷◌, ◌++◌, if◌then◌else◌}
+use Rattle.std.specs.Prelude.{◌≡◌, ◌⊎◌, ◌==◌, ℕ, true, false, List, [], ◌∷◌, ◌++◌, if◌then◌else◌}
 use Rattle.cfm_memory.specs.Instances.{Layout}
 use Rattle.cfm_memory.specs.Placement.{with_new}
 use Rattle.cfm_memory.specs.declared.place.Place.{Place}

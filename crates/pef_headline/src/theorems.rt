@@ -26,8 +26,10 @@ ghost use Rattle.pef_views.specs.declared.fault.ViewFault.{ViewFault};
 ///
 /// `prepares`, the first half: a store has the linked bytes in place `p`. After any list of preparations and closings a
 /// root is prepared by its name, and its closure has `p`: it is the root itself, or the root needs it. The call gives
-/// the next connection, and the fragment in `p` is present with the described memory. The only refusal is 99, for a
-/// failed allocation, and then the context is unchanged. The conditions: the root is in the store, and its closure
+/// the next connection, and the fragment in `p` is present with the described memory. Its imports are those of the
+/// script, by their names and those of their libraries. If it wasn't present, its sections were placed after those of
+/// the new fragments that come before it in the closure. If it was, they keep their places. The only refusal is 99, for
+/// a failed allocation, and then the context is unchanged. The conditions: the root is in the store, and its closure
 /// isn't refused. Fewer than 65,536 connections were given. The fragments of the closure that aren't present yet find
 /// room. None of these that wasn't linked has an image or a relocation header that is refused.
 ///
