@@ -10,8 +10,8 @@ use Rattle.pef_reloc.specs.Instrs.{program_length}
 use Rattle.pef_script.specs.Text.Grammar as grammar
 use Rattle.pef_script.specs.Text.Grammar.{script_of}
 use Rattle.pef_script.specs.Script.{DescribedScript, DescribedSection}
-use Rattle.pef_script.specs.WellFormed.{SectionHolds}
-use Rattle.pef_write.specs.Linked.{AreCertified, HasCertificates, IsLinked, LinkedContainer}
+use Rattle.pef_script.specs.WellFormed.{ScriptHolds, SectionHolds}
+use Rattle.pef_write.specs.Linked.{AreCertified, CertifiedContainer, IsCertifiedLink, IsLinked, LinkedContainer}
 use Rattle.pef_tool.specs.Check.{AreVerdicts, Judges, Texts, are_numbered, match_sections}
 use Rattle.std.proofs.lemmas.Bool.{and_from}
 use Rattle.pef_tool.specs.Distances.{CertifiesFile, IsYesToAll}
@@ -30,10 +30,14 @@ certified_print sections imports k (s ∷ each) (c ∷ certificates) hold are fe
     let own = are.0.section in
     (valid_prints s.fixups c hold.0.fixups are.0.valid (omega (arith, own, few)), certified_print sections imports (k + 1) each certificates hold.1 are.1 (omega (arith, few)))
 
-pub certificates_print : (script : DescribedScript) (certificates given : List Certified) → HasCertificates script certificates → given ≡ certificates → AllByRecursion Printable given
-certificates_print script certificates given has is =
-    let few = has.holds.sections.count in
-    subst (AllByRecursion Printable) (sym is) (certified_print (length script.sections) (length script.imports) 0 script.sections certificates has.holds.sections.each has.certified (omega (arith, few)))
+script_print : (script : DescribedScript) (certificates : List Certified) → ScriptHolds script → AreCertified 0 script.sections certificates → AllByRecursion Printable certificates
+script_print script certificates holds are =
+    let few = holds.sections.count in
+    certified_print (length script.sections) (length script.imports) 0 script.sections certificates holds.sections.each are (omega (arith, few))
+
+-- .. also those of a link
+pub certificates_print : (script : DescribedScript) (l : CertifiedContainer) (given : List Certified) → IsCertifiedLink script l → given ≡ l.certificates → AllByRecursion Printable given
+certificates_print script l given is same = subst (AllByRecursion Printable) (sym (same ∙ is.certificates)) (script_print script is.linked.certificates is.linked.holds is.linked.certified)
 
 -- a file whose script was linked
 pub files_linked : {F : Type 0} {port : FilesPort F} {before after : F} {path text : List ℕ} {l : LinkedContainer} (given : List ℕ) (script : DescribedScript)
@@ -46,15 +50,16 @@ files_linked {F} {port} {before} {after} {path} {text} {l} given script read sam
   linked = linked;
 }
 
--- .. and one that has certificates
-pub file_certified : {F : Type 0} {port : FilesPort F} {before after : F} {path text : List ℕ} {certificates : List Certified} (given : List ℕ) (script : DescribedScript)
-    → Reads port before after path (Ok text) → given ≡ text → script_of given ≡ Ok script → HasCertificates script certificates → CertifiesFile port before after path certificates
-file_certified {F} {port} {before} {after} {path} {text} {certificates} given script read same reads has = record {
+-- .. with certificates
+pub file_certified : {F : Type 0} {port : FilesPort F} {before after : F} {path text : List ℕ} {l : CertifiedContainer} (given : List ℕ) (script : DescribedScript)
+    → Reads port before after path (Ok text) → given ≡ text → script_of given ≡ Ok script → IsCertifiedLink script l → CertifiesFile port before after path l.certificates
+file_certified {F} {port} {before} {after} {path} {text} {l} given script read same reads linked = record {
   text = text;
   read = read;
   script = script;
   is_script = ap script_of (sym same) ∙ reads;
-  has = has;
+  container = l.container;
+  linked = linked;
 }
 
 -- certificates of the sections of a script are numbered as these, and there are as many
@@ -70,11 +75,11 @@ certified_count k [] (c ∷ certificates) are = absurd are
 certified_count k (s ∷ sections) [] are = absurd are
 certified_count k (s ∷ sections) (c ∷ certificates) are = ap suc (certified_count (k + 1) sections certificates are.1)
 
-certificates_match : (script : DescribedScript) (certificates : List Certified) → HasCertificates script certificates → match_sections script certificates ≡ true
-certificates_match script certificates has =
+certificates_match : (script : DescribedScript) (certificates : List Certified) → AreCertified 0 script.sections certificates → match_sections script certificates ≡ true
+certificates_match script certificates are =
     and_from (length certificates == length script.sections) (are_numbered 0 certificates)
-    (eq-eqb (length certificates) (length script.sections) (certified_count 0 script.sections certificates has.certified))
-    (certified_numbered 0 script.sections certificates has.certified)
+    (eq-eqb (length certificates) (length script.sections) (certified_count 0 script.sections certificates are))
+    (certified_numbered 0 script.sections certificates are)
 
 -- each verdict on them is a yes
 all_yes : (k : ℕ) (sections : List DescribedSection) (certificates : List Certified) (verdicts : List Verdict) → AreCertified k sections certificates → AreVerdicts sections certificates verdicts → verdicts ≡ map (λ c. Yes (program_length c.program)) certificates
@@ -94,27 +99,34 @@ same_certificates : (r : Result (List Certified) ℕ) (cs ds : List Certified) �
 same_certificates r cs ds one two = let both = sym one ∙ two in cc
 
 -- the result for two texts: the first is a script, and the second is the text of its certificates
-pub accepted : (texts : Texts) (script : DescribedScript) (certificates : List Certified) (judged : Result (List Verdict) Refusal)
-    → script_of texts.script ≡ Ok script → HasCertificates script certificates → texts.certificates ≡ certificates_text certificates → Judges texts judged → IsYesToAll certificates judged
-accepted texts script certificates judged is has printed judges = by judged judges
+all_accepted : (texts : Texts) (script : DescribedScript) (certificates : List Certified) (judged : Result (List Verdict) Refusal)
+    → script_of texts.script ≡ Ok script → ScriptHolds script → AreCertified 0 script.sections certificates → texts.certificates ≡ certificates_text certificates → Judges texts judged → IsYesToAll certificates judged
+all_accepted texts script certificates judged is holds are printed judges = by judged judges
   where
     reads : certificates_of texts.certificates ≡ Ok certificates
-    reads = ap certificates_of printed ∙ reads_back certificates (certificates_print script certificates certificates has refl)
+    reads = ap certificates_of printed ∙ reads_back certificates (script_print script certificates holds are)
 
     by : (judged : Result (List Verdict) Refusal) → Judges texts judged → IsYesToAll certificates judged
     by (Ok verdicts) judged =
         let one = same_script (script_of texts.script) judged.checked.script script judged.has.script is in
         let two = same_certificates (certificates_of texts.certificates) judged.checked.certificates certificates judged.has.certificates reads in
         let first = subst (λ (s : DescribedScript). AreVerdicts s.sections judged.checked.certificates verdicts) one judged.verdicts_are in
-        all_yes 0 script.sections certificates verdicts has.certified (subst (λ (cs : List Certified). AreVerdicts script.sections cs verdicts) two first)
+        all_yes 0 script.sections certificates verdicts are (subst (λ (cs : List Certified). AreVerdicts script.sections cs verdicts) two first)
     by (Err (Script fault line)) refused = let wrong = sym is ∙ refused in absurd (cc)
     by (Err (BadCertificate line)) refuses = let wrong = sym reads ∙ refuses.refused in absurd (cc)
     by (Err SectionsDiffer) judged =
         let one = same_script (script_of texts.script) judged.checked.script script judged.has.script is in
         let two = same_certificates (certificates_of texts.certificates) judged.checked.certificates certificates judged.has.certificates reads in
-        let wrong : true ≡ false = sym (certificates_match script certificates has) ∙ (ap₂ match_sections (sym one) (sym two) ∙ judged.differ) in
+        let wrong : true ≡ false = sym (certificates_match script certificates are) ∙ (ap₂ match_sections (sym one) (sym two) ∙ judged.differ) in
         absurd (cc)
     by (Err OutOfMemory) any = refl
     by (Err (Listing fault)) never = absurd never
     by (Err InputUnreadable) never = absurd never
     by (Err InputTooLong) never = absurd never
+
+-- .. which `link` gave
+pub accepted : (texts : Texts) (script : DescribedScript) (l : CertifiedContainer) (judged : Result (List Verdict) Refusal)
+    → script_of texts.script ≡ Ok script → IsCertifiedLink script l → texts.certificates ≡ certificates_text l.certificates → Judges texts judged → IsYesToAll l.certificates judged
+accepted texts script l judged is linked printed judges =
+    let are = subst (AreCertified 0 script.sections) (sym linked.certificates) linked.linked.certified in
+    all_accepted texts script l.certificates judged is linked.linked.holds are printed judges

@@ -1,4 +1,4 @@
--- The answer of `distances SCRIPT` (README). It reads SCRIPT, and prints certificates of its sections. It makes no other
+-- The answer of `distances SCRIPT` (README). It reads SCRIPT, links it, and prints the certificates. It makes no other
 -- call on files.
 use Rattle.std.specs.Prelude.{◌≡◌, ℕ, List, Result, Ok, Err, map}
 use Rattle.pef_cert.specs.Certified.{Certified}
@@ -15,17 +15,19 @@ use Rattle.pef_tool.specs.declared.check.Verdict.{Verdict}
 use Rattle.pef_tool.specs.declared.check.Verdict.TheVariants.{Yes}
 use Rattle.pef_tool.specs.declared.answers.refusal.Refusal.{Refusal}
 use Rattle.pef_tool.specs.declared.answers.refusal.Refusal.TheVariants.{OutOfMemory}
-use Rattle.pef_write.specs.Linked.{HasCertificates}
+use Rattle.pef_write.specs.Linked.{IsCertifiedLink, LinkedContainer}
 
--- SCRIPT was read, and its script has these certificates: one for each section, in order, which is valid
+-- SCRIPT was read, and its script was linked with these certificates. The program of certificate k is the one that the
+-- container has for section k.
 pub record CertifiesFile {F : Type 0} (port : FilesPort F) (before after : F) (path : List ℕ) (certificates : List Certified) : Type 0 where
   pub text : List ℕ
   pub read : Reads port before after path (Ok text)
   pub script : DescribedScript
   pub is_script : script_of text ≡ Ok script
-  pub has : HasCertificates script certificates
+  pub container : LinkedContainer
+  pub linked : IsCertifiedLink script (record { container = container; certificates = certificates })
 
--- how `distances` ends: it prints the certificates of the script, it can't read SCRIPT, or it is refused
+-- how `distances` ends: it prints the certificates of a link, it can't read SCRIPT, or it is refused
 pub data DistancesOutcome : Type 0 where
   certifies : List Certified → DistancesOutcome
   unreadable : DistancesOutcome

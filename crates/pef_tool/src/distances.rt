@@ -1,4 +1,3 @@
-ghost use Rattle.pef_words.specs.Refusals.{result_map};
 ghost use Rattle.pef_tool.specs.Answers.Answers.{Answer, IsDelivered, answer_done, status_of};
 ghost use Rattle.pef_tool.specs.Distances.{DistancesAnswers};
 ghost use Rattle.pef_tool.specs.Kept.Linking.{CertifiesFrom, CertifiesText};
@@ -8,11 +7,11 @@ use crate::linking::{ScriptRefusal, Unlinked, read_script};
 use crate::reading::read_file;
 use pef_cert::Certificate;
 use pef_ports::{Files, Page, Sink, StreamFault, send};
-use pef_write::certificates;
+use pef_write::{Linked, link};
 use std::alloc::Global;
 
-/// Prints the certificates of the script at a path. The certificate of a section states that no program is shorter than
-/// the one that `link` writes.
+/// Links the script at a path, and prints the certificates. The certificate of a section states that no program is
+/// shorter than the one that was linked.
 ///
 /// The whole text is made before the first line is printed.
 pub fn print_distances<F: Files, W: Sink>(
@@ -25,44 +24,44 @@ pub fn print_distances<F: Files, W: Sink>(
         × DistancesAnswers (record { state = F.state; was_read = F.was_read; was_written = F.was_written }) files.old files.new script.now answer
         × IsDelivered (W.stream out.old) (W.stream out.new) answer (status_of result) }
 {
-    let certificates = match certify_file(alloc, files, script) {
-        Ok(certificates) => certificates,
+    let linked = match certify_file(alloc, files, script) {
+        Ok(linked) => linked,
         Err(unlinked) => return deliver(out, &unlinked),
     };
-    match Certificate::print(alloc, &certificates) {
+    match Certificate::print(alloc, linked.certificates()) {
         Ok(text) => deliver(out, &Distances { text }),
         Err(_) => deliver(out, &Refusal::OutOfMemory),
     }
 }
 
-/// Reads the script at a path, and returns the certificates of its sections.
+/// Reads and links the script at a path, with certificates.
 fn certify_file<'a, F: Files>(
     alloc: Global,
     files: &mut F,
     path: &'a [u8],
-) -> Result<Vec<Certificate>, Unlinked<'a>>
-    ensures { CertifiesFrom (record { state = F.state; was_read = F.was_read; was_written = F.was_written }) files.old files.new path.now (result_map (λ certificates. certificates.items) result) }
+) -> Result<Linked, Unlinked<'a>>
+    ensures { CertifiesFrom (record { state = F.state; was_read = F.was_read; was_written = F.was_written }) files.old files.new path.now result }
 {
     let text = match read_file(alloc, files, path) {
         Ok(text) => text,
         Err(fault) => return Err(Unlinked::Unread(fault)),
     };
     match certify_text(alloc, text.as_slice()) {
-        Ok(certificates) => Ok(certificates),
+        Ok(linked) => Ok(linked),
         Err(refused) => Err(Unlinked::Refused(refused)),
     }
 }
 
-/// Parses the script in a text, and returns the certificates of its sections.
-fn certify_text(alloc: Global, text: &[u8]) -> Result<Vec<Certificate>, ScriptRefusal>
-    ensures { CertifiesText text.now (result_map (λ certificates. certificates.items) result) }
+/// Parses and links the script in a text, with certificates.
+fn certify_text(alloc: Global, text: &[u8]) -> Result<Linked, ScriptRefusal>
+    ensures { CertifiesText text.now result }
 {
     let script = match read_script(alloc, text) {
         Ok(script) => script,
         Err(refused) => return Err(refused),
     };
-    match certificates(alloc, &script) {
-        Ok(certificates) => Ok(certificates),
+    match link(alloc, &script) {
+        Ok(linked) => Ok(linked),
         Err(_) => Err(ScriptRefusal::OUT_OF_MEMORY),
     }
 }

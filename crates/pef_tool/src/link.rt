@@ -6,7 +6,7 @@ ghost use Rattle.pef_tool.specs.Link.{LinkAnswers, length_text, lengths_text, li
 use crate::answers::{FileRefusal, Outcome, Refusal, Reply, deliver};
 use crate::linking::link_file;
 use pef_ports::{FileFault, Files, Page, Piece, Sink, StreamFault, print_pieces};
-use pef_write::Linked;
+use pef_write::LinkedContainer;
 use std::alloc::Global;
 
 /// Links the script at a path and writes the container to the path `target`.
@@ -37,7 +37,7 @@ pub fn link_files<F: Files, W: Sink>(
 /// Returns the answer of `link` for a container that it wrote.
 #[derive(Clone, Copy)]
 struct LinkedReply<'a> {
-    linked: &'a Linked,
+    linked: &'a LinkedContainer,
 }
 
 impl<'a> Reply for LinkedReply<'a> {
@@ -53,7 +53,7 @@ impl<'a> Reply for LinkedReply<'a> {
 }
 
 /// Prints the number of bytes that were linked, and the number of halfwords of each section's program.
-fn print_linked<W: Sink>(out: &mut W, page: &mut Page, linked: &Linked) -> Result<(), StreamFault>
+fn print_linked<W: Sink>(out: &mut W, page: &mut Page, linked: &LinkedContainer) -> Result<(), StreamFault>
     ensures { Sends result (W.stream out.old) (W.stream out.new) page.old.items page.new.items (linked_text linked.now) }
 {
     print_size(out, page, linked.bytes().len())?;
@@ -61,7 +61,7 @@ fn print_linked<W: Sink>(out: &mut W, page: &mut Page, linked: &Linked) -> Resul
 }
 
 /// Prints the lengths of the sections' programs, numbered from 0.
-fn print_lengths<W: Sink>(out: &mut W, page: &mut Page, linked: &Linked) -> Result<(), StreamFault>
+fn print_lengths<W: Sink>(out: &mut W, page: &mut Page, linked: &LinkedContainer) -> Result<(), StreamFault>
     ensures { Sends result (W.stream out.old) (W.stream out.new) page.old.items page.new.items (lengths_text 0 linked.now.lengths) }
 {
     for k in 0..linked.sections() {

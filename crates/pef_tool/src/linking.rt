@@ -7,7 +7,7 @@ use crate::reading::{ReadingFault, read_file};
 use pef_details::{Detail, script_detail};
 use pef_ports::{Files, Page, Sink, StreamFault};
 use pef_script::Script;
-use pef_write::{Linked, link};
+use pef_write::{LinkedContainer, link_container};
 use std::alloc::Global;
 
 /// The refusal of a script's text, with the detail that is known.
@@ -69,7 +69,7 @@ pub fn link_file<'a, F: Files>(
     alloc: Global,
     files: &mut F,
     path: &'a [u8],
-) -> Result<Linked, Unlinked<'a>>
+) -> Result<LinkedContainer, Unlinked<'a>>
     ensures { LinksFrom (record { state = F.state; was_read = F.was_read; was_written = F.was_written }) files.old files.new path.now result }
 {
     let text = match read_file(alloc, files, path) {
@@ -83,14 +83,14 @@ pub fn link_file<'a, F: Files>(
 }
 
 /// Parses and links the script in a text.
-pub fn link_text(alloc: Global, text: &[u8]) -> Result<Linked, ScriptRefusal>
+pub fn link_text(alloc: Global, text: &[u8]) -> Result<LinkedContainer, ScriptRefusal>
     ensures { LinksText text.now result }
 {
     let script = match read_script(alloc, text) {
         Ok(script) => script,
         Err(refused) => return Err(refused),
     };
-    match link(alloc, &script) {
+    match link_container(alloc, &script) {
         Ok(linked) => Ok(linked),
         Err(_) => Err(ScriptRefusal::OUT_OF_MEMORY),
     }

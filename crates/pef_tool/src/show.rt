@@ -11,7 +11,7 @@ use crate::loaded::deliver_root;
 use cfm_closure::{Store, StoreFault};
 use pef_details::Shelf;
 use pef_ports::{Sink, Source, read_input};
-use pef_write::Linked;
+use pef_write::LinkedContainer;
 use std::alloc::Global;
 
 /// The most bytes of an input that are read.
@@ -36,7 +36,7 @@ pub fn show_input<R: Source, W: Sink>(alloc: Global, input: &mut R, out: &mut W)
 /// Prepares a linked container alone under the name `it`, and shows it. The fragment may have no closure, and there may
 /// be no room for its sections. The only other fault of preparation is a failed allocation, since packed images expand
 /// and the relocation programs are sound.
-fn show_linked<W: Sink>(alloc: Global, linked: &Linked, out: &mut W) -> Outcome
+fn show_linked<W: Sink>(alloc: Global, linked: &LinkedContainer, out: &mut W) -> Outcome
     ensures { (script : DescribedScript) → IsLinked script linked.now → (outcome : ShowOutcome)
         × ScriptEnds script outcome
         × IsDelivered (W.stream out.old) (W.stream out.new) (show_answer outcome) (status_of result) }

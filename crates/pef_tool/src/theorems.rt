@@ -4,7 +4,6 @@ ghost use Rattle.cfm_memory.specs.Extents.{LackRoom, no_instances};
 ghost use Rattle.pef_headline.specs.Now.{described_extents};
 ghost use Rattle.pef_script.specs.WellFormed.{ScriptHolds};
 ghost use Rattle.pef_tool.specs.Limits.{memory_limit};
-ghost use Rattle.pef_cert.specs.Certified.{Certified};
 ghost use Rattle.pef_cert.specs.Text.Printed.{certificates_text};
 ghost use Rattle.pef_script.specs.Text.Grammar.{script_of};
 ghost use Rattle.pef_script.specs.Script.{DescribedScript};
@@ -12,13 +11,13 @@ ghost use Rattle.pef_tool.specs.Check.{Judges, Texts};
 ghost use Rattle.pef_tool.specs.Distances.{IsYesToAll};
 ghost use Rattle.pef_tool.specs.declared.check.Verdict.{Verdict};
 ghost use Rattle.pef_tool.specs.declared.answers.refusal.Refusal.{Refusal};
-ghost use Rattle.pef_write.specs.Linked.{HasCertificates};
+ghost use Rattle.pef_write.specs.Linked.{CertifiedContainer, IsCertifiedLink};
 
 /// `check` accepts the certificates that `distances` prints of a script. It answers yes for the certificate of each
 /// section, with the number of halfwords of the section's program, or reports that an allocation failed.
 pub fn distances_are_accepted()
-    ensures { (texts : Texts) (script : DescribedScript) (certificates : List Certified) (judged : Result (List Verdict) Refusal) → script_of texts.script ≡ Ok script → HasCertificates script certificates → texts.certificates ≡ certificates_text certificates
-        → Judges texts judged → IsYesToAll certificates judged }
+    ensures { (texts : Texts) (script : DescribedScript) (l : CertifiedContainer) (judged : Result (List Verdict) Refusal) → script_of texts.script ≡ Ok script → IsCertifiedLink script l → texts.certificates ≡ certificates_text l.certificates
+        → Judges texts judged → IsYesToAll l.certificates judged }
 {}
 
 /// There is always room in the memory of `show` for up to fifteen sections of a script, whatever their lengths and

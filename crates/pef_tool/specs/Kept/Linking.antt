@@ -1,6 +1,5 @@
--- How the script in a text or a file is linked or certified, for the commands that do so.
+-- How the script in a text or a file is linked, for the commands that do so.
 use Rattle.std.specs.Prelude.{◌≡◌, ℕ, List, Result, Ok, Err}
-use Rattle.pef_cert.specs.Certified.{Certified}
 use Rattle.pef_ports.specs.Ports.{FilesPort}
 use Rattle.pef_script.specs.Text.Grammar.{script_of}
 use Rattle.pef_script.specs.Script.{DescribedScript}
@@ -14,7 +13,7 @@ use Rattle.pef_tool.specs.declared.answers.refusal.Refusal.TheVariants.{Script, 
 use Rattle.pef_tool.specs.declared.linking.ScriptRefusal.{ScriptRefusal}
 use Rattle.pef_tool.specs.declared.linking.Unlinked.{Unlinked}
 use Rattle.pef_tool.specs.declared.linking.Unlinked.TheVariants.{Unread, Refused}
-use Rattle.pef_write.specs.Linked.{HasCertificates, IsLinked, LinkedContainer}
+use Rattle.pef_write.specs.Linked.{CertifiedContainer, IsCertifiedLink, IsLinked, LinkedContainer}
 
 -- why the script in a text isn't linked: its first refusal, or a failed allocation
 abbrev pub RefusesText : List ℕ → Refusal → Type 0
@@ -32,9 +31,9 @@ abbrev pub LinksText : List ℕ → Result LinkedContainer ScriptRefusal → Typ
 LinksText text (Ok l) = (script : DescribedScript) × (script_of text ≡ Ok script) × IsLinked script l
 LinksText text (Err refused) = RefusesText text refused.refusal
 
--- the certificates of its script, or a refusal
-abbrev pub CertifiesText : List ℕ → Result (List Certified) ScriptRefusal → Type 0
-CertifiesText text (Ok certificates) = (script : DescribedScript) × (script_of text ≡ Ok script) × HasCertificates script certificates
+-- .. with certificates
+abbrev pub CertifiesText : List ℕ → Result CertifiedContainer ScriptRefusal → Type 0
+CertifiesText text (Ok l) = (script : DescribedScript) × (script_of text ≡ Ok script) × IsCertifiedLink script l
 CertifiesText text (Err refused) = RefusesText text refused.refusal
 
 -- when the script in the file at a path isn't linked, for this reason
@@ -47,9 +46,9 @@ abbrev pub LinksFrom : {F : Type 0} → FilesPort F → F → F → List ℕ →
 LinksFrom port before after path (Ok l) = LinksFile port before after path l
 LinksFrom port before after path (Err why) = StopsLinking port before after path why
 
--- the certificates of its script
-abbrev pub CertifiesFrom : {F : Type 0} → FilesPort F → F → F → List ℕ → Result (List Certified) Unlinked → Type 0
-CertifiesFrom port before after path (Ok certificates) = CertifiesFile port before after path certificates
+-- .. with certificates
+abbrev pub CertifiesFrom : {F : Type 0} → FilesPort F → F → F → List ℕ → Result CertifiedContainer Unlinked → Type 0
+CertifiesFrom port before after path (Ok l) = CertifiesFile port before after path l.certificates
 CertifiesFrom port before after path (Err why) = StopsLinking port before after path why
 
 -- the answer of a command that stops there

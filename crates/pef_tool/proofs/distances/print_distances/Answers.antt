@@ -15,11 +15,11 @@ returns-in-Err g c = (unlinked_answer c.in-Err.unlinked, distances_end _ c.args.
 
 pub returns-in-Ok-print : goal.returns-in-Ok-print
 returns-in-Ok-print g c =
-    let text = c.in-Ok-print.ensures.text ∙ ap certificates_text c.deref.ensures.value in
-    (answer_done c.in-Ok-print.text.items, (certifies c.in-Ok.certificates.items, c.in-Ok.ensures, ap answer_done text), c.deliver-in-Ok-print.ensures)
+    let text = c.in-Ok-print.ensures.text ∙ ap certificates_text c.certificates.ensures in
+    (answer_done c.in-Ok-print.text.items, (certifies c.in-Ok.linked.certificates, c.in-Ok.ensures, ap answer_done text), c.deliver-in-Ok-print.ensures)
 
 pub returns : goal.returns
 returns g c = (answer_refused (refusal_text OutOfMemory), (refuses OutOfMemory, inr (inr (c.in-Ok.ensures.text, c.in-Ok.ensures.read)), refl), c.deliver-in-Err-print.ensures)
 
 pub print-requires : goal.print-requires
-print-requires g c = certificates_print c.in-Ok.ensures.script c.in-Ok.certificates.items c.deref.result.now c.in-Ok.ensures.has c.deref.ensures.value
+print-requires g c = certificates_print c.in-Ok.ensures.script c.in-Ok.linked c.certificates.result.now c.in-Ok.ensures.linked c.certificates.ensures
