@@ -2,7 +2,7 @@ ghost use Rattle.pef_c.specs.Link.{LinkAnswers};
 
 use crate::answers::{OUT_OF_MEMORY, ROOM_TOO_SMALL, copy_out, line_number};
 use pef_script::{Script, ScriptFault};
-use pef_write::link;
+use pef_write::link_container;
 use std::alloc::Global;
 
 /// Links the script of a text, and copies its container to the front of `room`.
@@ -28,7 +28,7 @@ pub extern "C" fn pef_link(
         }
         Err(ScriptFault::OutOfMemory) => return OUT_OF_MEMORY,
     };
-    let Ok(linked) = link(alloc, &script) else {
+    let Ok(linked) = link_container(alloc, &script) else {
         return OUT_OF_MEMORY;
     };
     match copy_out(linked.bytes(), room, written) {
