@@ -2,7 +2,6 @@
 use pef_cert::Certificate;
 use pef_loader::Loader;
 use pef_reloc::{Base, Instr};
-use pef_script::Script;
 use pef_views::Container;
 use pef_write::Linked;
 use std::alloc::Global;
@@ -11,7 +10,7 @@ use std::process::Abort;
 use test_data::labels::{VECTORS_LABELS, labels};
 use test_data::limits::{self, MOST};
 use test_data::lists::{Listed, S0, S1, S2, spelled};
-use test_links::link_text;
+use test_links::{certify_text, link_text};
 
 /// Fixups of a section, the number of halfwords of their shortest program, and its bytes if only one program is
 /// shortest.
@@ -96,16 +95,11 @@ fn first_header<'a>(rt: &impl Abort, bytes: &'a [u8]) -> (usize, u32, &'a [u8]) 
     (loader.relocs(), section, program)
 }
 
-/// Tests that the certificate of a script's section has the program that is written.
-fn test_written(rt: &impl Abort, alloc: Global, text: &[u8], section: u32, written: &[u8]) {
-    let certificates = certificates_of(rt, alloc, text);
+/// Tests that a section's certificate has the program that is written.
+fn test_written(rt: &impl Abort, alloc: Global, linked: &Linked, section: u32, written: &[u8]) {
+    let certificate = certificate_of(rt, linked, section);
     assert!(rt; section == OWN as u32);
-    test_spelled(
-        rt,
-        alloc,
-        certificate_of(rt, &certificates, section),
-        written,
-    );
+    test_spelled(rt, alloc, certificate, written);
 }
 
 /// Tests that a certificate has the program that these bytes spell.
@@ -114,10 +108,10 @@ fn test_spelled(rt: &impl Abort, alloc: Global, certificate: &Certificate, writt
     assert!(rt; certificate.program == program);
 }
 
-/// Returns the certificates of a script.
-fn certificates_of(rt: &impl Abort, alloc: Global, text: &[u8]) -> Vec<Certificate> {
-    let script = Script::read(alloc, text).expect(rt, "a script");
-    pef_write::certificates(alloc, &script).expect(rt, "memory")
+/// Tests that a script's container without certificates is this one.
+fn test_alone(rt: &impl Abort, alloc: Global, text: &[u8], bytes: &[u8]) {
+    let alone = link_text(alloc, text).expect(rt, "a container");
+    assert!(rt; alone.bytes() == bytes);
 }
 
 /// Tests the length of the section's program, and its bytes if some are given.
@@ -128,7 +122,7 @@ fn test_bytes(rt: &impl Abort, linked: &Linked, written: &[u8], halfwords: u32, 
 }
 
 /// Tests the container of a script whose second section has this many fixups: the section's program, and that it is the
-/// one of the certificate.
+/// one of the certificate, and that the container without certificates is the same.
 fn test_linked(
     rt: &impl Abort,
     alloc: Global,
@@ -137,13 +131,14 @@ fn test_linked(
     halfwords: u32,
     bytes: &[u8],
 ) {
-    let linked = link_text(alloc, text).expect(rt, "a container");
+    let linked = certify_text(alloc, text).expect(rt, "a container");
     let (headers, section, written) = first_header(rt, linked.bytes());
     assert!(rt; headers == usize::from(fixups > 0));
     test_bytes(rt, &linked, written, halfwords, bytes);
     if headers > 0 {
-        test_written(rt, alloc, text, section, written);
+        test_written(rt, alloc, &linked, section, written);
     }
+    test_alone(rt, alloc, text, linked.bytes());
 }
 
 /// Tests the program of the section with these fixups: its length, that it is the one of the certificate, and its
@@ -297,35 +292,27 @@ fn test_labels(rt: &impl Abort, alloc: Global, certificate: &Certificate, wanted
 }
 
 /// Returns the certificate of a section.
-fn certificate_of<'a>(
-    rt: &impl Abort,
-    certificates: &'a [Certificate],
-    section: u32,
-) -> &'a Certificate {
-    let found = certificates.get(section as usize);
+fn certificate_of<'a>(rt: &impl Abort, linked: &'a Linked, section: u32) -> &'a Certificate {
+    let found = linked.certificate(section as usize);
     let certificate = found.expect(rt, "a certificate");
     assert!(rt; certificate.section == section);
     certificate
 }
 
 /// Tests the certificate of a section.
-fn test_certificate(
-    rt: &impl Abort,
-    alloc: Global,
-    certificates: &[Certificate],
-    certified: &Certified,
-) {
+fn test_certificate(rt: &impl Abort, alloc: Global, linked: &Linked, certified: &Certified) {
     let (section, program, registers, labels) = *certified;
-    let certificate = certificate_of(rt, certificates, section);
+    let certificate = certificate_of(rt, linked, section);
     test_program_and_registers(rt, certificate, program, registers);
     test_labels(rt, alloc, certificate, labels);
 }
 
 #[test]
 fn certificates(rt: HostRuntime) {
-    let certificates = certificates_of(&rt, rt.alloc(), VECTORS);
-    assert!(rt; certificates.len() == CERTIFIED.len());
+    let linked = certify_text(rt.alloc(), VECTORS).expect(&rt, "a container");
+    let count = CERTIFIED.len();
+    assert!(rt; linked.certificates().len() == count && linked.certificate(count).is_none());
     for certified in CERTIFIED {
-        test_certificate(&rt, rt.alloc(), &certificates, certified);
+        test_certificate(&rt, rt.alloc(), &linked, certified);
     }
 }

@@ -1,16 +1,20 @@
-//! `link` and `certificates` when an allocation fails. To test this, run them with one allocation failing after
+//! `link` and `link_container` when an allocation fails. To test this, run them with one allocation failing after
 //! another, as `tools/refuse-memory` does.
 
-use pef_cert::Certificate;
 use pef_reloc::Instr;
 use pef_script::Script;
-use pef_write::{LinkFault, Linked, certificates, link};
+use pef_write::{LinkFault, Linked, LinkedContainer, link, link_container};
 use std::alloc::Global;
 use std::process::Abort;
 use std::test::Fail;
 use test_data::containers::VECTORS_LEAST;
 use test_data::refusals::{say_answered, say_begins};
 use test_data::scripts::VECTORS;
+
+/// Tests the bytes of a container.
+fn test_bytes(rt: &impl Abort, bytes: &[u8], container: &[u8]) {
+    assert!(rt; bytes == container, "{} bytes", bytes.len());
+}
 
 /// Links a script, and once more if an allocation fails. Also returns whether one failed.
 fn link_refused(rt: &impl Abort, alloc: Global, script: &Script<'_>) -> (Linked, bool) {
@@ -20,63 +24,68 @@ fn link_refused(rt: &impl Abort, alloc: Global, script: &Script<'_>) -> (Linked,
     }
 }
 
-/// Tests that a script is linked to a container, also if an allocation fails at first.
+/// Tests that the certificates have these programs.
+fn test_programs(rt: &impl Abort, linked: &Linked, programs: &[&[Instr]]) {
+    assert!(rt; linked.certificates().len() == programs.len());
+    for (certificate, program) in linked.certificates().iter().zip(programs) {
+        assert!(rt; certificate.program.as_slice() == *program);
+    }
+}
+
+/// Tests that a script is linked to a container with certificates of these programs, also if an allocation fails at
+/// first.
 fn link_again(
+    rt: &(impl Abort + Print),
+    alloc: Global,
+    script: &Script<'_>,
+    container: &[u8],
+    programs: &[&[Instr]],
+) -> Result<(), Fail> {
+    say_begins(rt)?;
+    let (linked, refused) = link_refused(rt, alloc, script);
+    test_bytes(rt, linked.bytes(), container);
+    test_programs(rt, &linked, programs);
+    say_answered(rt, refused)
+}
+
+/// If an allocation fails in `link`, `link` reports it, and the next `link` gives the container and the certificates.
+#[test]
+fn linked_again(rt: HostRuntime) -> Result<(), Fail> {
+    let alloc = rt.alloc();
+    let script = Script::read(alloc, VECTORS).expect(&rt, "a script");
+    let programs: [&[Instr]; 2] = [&[], &[Instr::TVector8(2)]];
+    link_again(&rt, alloc, &script, VECTORS_LEAST, &programs)
+}
+
+/// Links the container of a script alone, and once more if an allocation fails. Also returns whether one failed.
+fn container_refused(
+    rt: &impl Abort,
+    alloc: Global,
+    script: &Script<'_>,
+) -> (LinkedContainer, bool) {
+    match link_container(alloc, script) {
+        Ok(linked) => (linked, false),
+        Err(LinkFault::OutOfMemory) => (link_container(alloc, script).expect(rt, "memory"), true),
+    }
+}
+
+/// Tests that a script is linked to a container, also if an allocation fails at first.
+fn container_again(
     rt: &(impl Abort + Print),
     alloc: Global,
     script: &Script<'_>,
     container: &[u8],
 ) -> Result<(), Fail> {
     say_begins(rt)?;
-    let (linked, refused) = link_refused(rt, alloc, script);
-    assert!(rt;
-        linked.bytes() == container,
-        "{} bytes",
-        linked.bytes().len()
-    );
+    let (linked, refused) = container_refused(rt, alloc, script);
+    test_bytes(rt, linked.bytes(), container);
     say_answered(rt, refused)
 }
 
-/// If an allocation fails in `link`, `link` reports it, and the next `link` gives the container.
+/// If an allocation fails in `link_container`, `link_container` reports it, and the next call gives the container.
 #[test]
-fn linked_again(rt: HostRuntime) -> Result<(), Fail> {
+fn container_linked_again(rt: HostRuntime) -> Result<(), Fail> {
     let alloc = rt.alloc();
     let script = Script::read(alloc, VECTORS).expect(&rt, "a script");
-    link_again(&rt, alloc, &script, VECTORS_LEAST)
-}
-
-/// Certifies a script, and once more if an allocation fails. Also returns whether one failed.
-fn certify_refused(
-    rt: &impl Abort,
-    alloc: Global,
-    script: &Script<'_>,
-) -> (Vec<Certificate>, bool) {
-    match certificates(alloc, script) {
-        Ok(found) => (found, false),
-        Err(LinkFault::OutOfMemory) => (certificates(alloc, script).expect(rt, "memory"), true),
-    }
-}
-
-/// Tests that the sections of a script have certificates with these programs, also if an allocation fails at first.
-fn certify_again(
-    rt: &(impl Abort + Print),
-    alloc: Global,
-    script: &Script<'_>,
-    programs: &[&[Instr]],
-) -> Result<(), Fail> {
-    say_begins(rt)?;
-    let (found, refused) = certify_refused(rt, alloc, script);
-    assert!(rt; found.len() == programs.len());
-    for (certificate, program) in found.iter().zip(programs) {
-        assert!(rt; certificate.program.as_slice() == *program);
-    }
-    say_answered(rt, refused)
-}
-
-/// If an allocation fails in `certificates`, `certificates` reports it, and the next call gives the certificates.
-#[test]
-fn certified_again(rt: HostRuntime) -> Result<(), Fail> {
-    let alloc = rt.alloc();
-    let script = Script::read(alloc, VECTORS).expect(&rt, "a script");
-    certify_again(&rt, alloc, &script, &[&[], &[Instr::TVector8(2)]])
+    container_again(&rt, alloc, &script, VECTORS_LEAST)
 }

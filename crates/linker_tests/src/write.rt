@@ -1,6 +1,6 @@
 use pef_loader::Loader;
 use pef_views::Container;
-use pef_write::{LinkFault, Linked};
+use pef_write::{LinkFault, Linked, LinkedContainer};
 use std::alloc::Global;
 use std::process::Abort;
 use test_data::changes::{At, Change, change};
@@ -9,7 +9,7 @@ use test_data::limits::{
     EXPORTS, IMPORTS, IMPORTS_EACH, LIBRARIES, MOST, SECTIONS, Spaced, push_fixups, push_sections,
 };
 use test_data::scripts::{EMPTY_CONTAINER, VECTORS};
-use test_links::link_text;
+use test_links::{certify_text, link_text};
 
 const ONE_SECTION_SCRIPT: &[u8] = b"section d data process 4 16
 bytes d 11223344000000080102
@@ -165,7 +165,7 @@ const LINKED: &[Row] = &[
 ];
 
 /// Tests a container, and how many halfwords the programs have.
-fn test_linked(rt: &impl Abort, linked: &Linked, bytes: &[u8], lengths: &[u32]) {
+fn test_linked(rt: &impl Abort, linked: &LinkedContainer, bytes: &[u8], lengths: &[u32]) {
     assert!(rt; linked.bytes() == bytes, "{} bytes", bytes.len());
     for (k, length) in lengths.iter().enumerate() {
         assert!(rt; linked.length(k) == Some(*length), "section {k}");
@@ -174,11 +174,23 @@ fn test_linked(rt: &impl Abort, linked: &Linked, bytes: &[u8], lengths: &[u32]) 
     assert!(rt; linked.sections() == sections && linked.length(sections).is_none());
 }
 
-/// Links a script, and tests the result.
+/// Tests that what was linked with certificates has the same container as without, and a certificate for each section.
+fn test_certified(rt: &impl Abort, certified: &Linked, alone: &LinkedContainer) {
+    let sections = alone.sections();
+    assert!(rt; certified.bytes() == alone.bytes());
+    assert!(rt; (certified.sections(), certified.certificates().len()) == (sections, sections));
+    for k in 0..=sections {
+        assert!(rt; certified.length(k) == alone.length(k), "section {k}");
+    }
+}
+
+/// Links a script, and tests the result, without certificates and with them.
 fn test_link(rt: &impl Abort, alloc: Global, row: &Row) {
     let (text, bytes, lengths) = *row;
     let linked = link_text(alloc, text).expect(rt, "a container");
     test_linked(rt, &linked, bytes, lengths);
+    let certified = certify_text(alloc, text).expect(rt, "a container");
+    test_certified(rt, &certified, &linked);
 }
 
 #[test]
@@ -360,7 +372,7 @@ fn test_greatest(rt: &impl Abort, bytes: &[u8]) {
 }
 
 /// Tests how many halfwords the programs of the greatest script have, and its container.
-fn test_greatest_linked(rt: &impl Abort, linked: &Linked) {
+fn test_greatest_linked(rt: &impl Abort, linked: &LinkedContainer) {
     for k in 0..MOST.sections {
         assert!(rt; linked.length(k) == Some(196_608), "section {k}");
     }

@@ -5,11 +5,17 @@ pub mod fragments;
 
 use cfm_closure::BindFault;
 use pef_script::Script;
-use pef_write::{Linked, link};
+use pef_write::{Linked, LinkedContainer, link, link_container};
 use std::alloc::{AllocError, Global};
 
 /// Links a script. `None` if it is refused, or an allocation fails.
-pub fn link_text(alloc: Global, text: &[u8]) -> Option<Linked> {
+pub fn link_text(alloc: Global, text: &[u8]) -> Option<LinkedContainer> {
+    let script = Script::read(alloc, text).ok()?;
+    link_container(alloc, &script).ok()
+}
+
+/// Links a script with certificates. `None` if it is refused, or an allocation fails.
+pub fn certify_text(alloc: Global, text: &[u8]) -> Option<Linked> {
     let script = Script::read(alloc, text).ok()?;
     link(alloc, &script).ok()
 }
