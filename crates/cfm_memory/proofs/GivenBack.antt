@@ -10,7 +10,7 @@ use Rattle.cfm_memory.proofs.Contents.{given_back_other}
 use Rattle.std.proofs.Common.{replicate}
 
 -- a new instance that is removed leaves the earlier instances
-without_new : (xs : List Instance) (y : Instance) → without (with_instance xs y) y.address ≡ xs
+pub without_new : (xs : List Instance) (y : Instance) → without (with_instance xs y) y.address ≡ xs
 without_new [] y = elim (eqb_tells y.address y.address) [ inl same ↦ rw same.0 refl | inr other ↦ absurd (other.1 refl) ]
 without_new (x ∷ xs) y =
     elim (leb_tells (suc x.address) y.address) [

@@ -23,3 +23,7 @@ pub use Rattle.cfm_memory.proofs.GivenBack.{given_back_without}
 pub use Rattle.cfm_memory.proofs.GivenBack.{new_given_back, placed_given_back, written_given_back}
 -- and all others keep their bytes and are held
 pub use Rattle.cfm_memory.proofs.GivenBack.{given_back_elsewhere, held_elsewhere, written_holds}
+-- some extents find places, or one lacks room
+pub use Rattle.cfm_memory.proofs.Found.{extents-found}
+-- new instances with bytes that are given: they have these, all others stay, and are left when the new ones are removed
+pub use Rattle.cfm_memory.proofs.Filled.{filled_elsewhere, filled_given_back, filled_stand, with_filled}

@@ -1,6 +1,8 @@
 mod Changes
 mod Contents
 mod Entries
+mod Filled
+mod Found
 mod Fronts
 mod GivenBack
 mod InTurn

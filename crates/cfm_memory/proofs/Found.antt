@@ -1,0 +1,91 @@
+-- Some extents find places or lack room. No more addresses have to be tried than are below the limit.
+use Rattle.std.proofs.Common.{◌≡◌, ◌⊎◌, ℕ, zero, suc, ◌+◌, ◌%◌, ◌<◌, ◌≤◌, List, [], ◌∷◌, refl, subst, inl, inr, arith}
+use Rattle.std.proofs.lemmas.Bool.{cases_lt}
+use Rattle.std.proofs.lemmas.Bool.Decides.{eqb_tells}
+use Rattle.cfm_memory.specs.Extents.{ArePlaced, Extent, HasNoRoomFor, IsPlaceFor, LackRoom}
+use Rattle.cfm_memory.specs.Instances.{Instance, Layout}
+use Rattle.cfm_memory.specs.Limits.{first_address}
+use Rattle.cfm_memory.specs.Placement.{IsFree, IsLowest, IsRoom, end_of, step_of, taken, with_new}
+use Rattle.cfm_memory.specs.declared.place.Place.{Place}
+
+-- it holds or it doesn't
+abbrev Decided : Type 0 → Type 0
+Decided P = P ⊎ (P → ⊥)
+
+both-decided : {P Q : Type 0} → Decided P → Decided Q → Decided (P × Q)
+both-decided (inl p) (inl q) = inl (p, q)
+both-decided (inl p) (inr none) = inr (λ both. none both.1)
+both-decided (inr none) q = inr (λ both. none both.0)
+
+either-decided : {P Q : Type 0} → Decided P → Decided Q → Decided (P ⊎ Q)
+either-decided (inl p) q = inl (inl p)
+either-decided (inr none) (inl q) = inl (inr q)
+either-decided (inr none) (inr neither) = inr (λ either. elim either as (λ _. ⊥) [ inl p ↦ none p | inr q ↦ neither q ])
+
+le-decided : (a b : ℕ) → Decided (a ≤ b)
+le-decided a b = elim (cases_lt b a) [ inl over ↦ inr (λ le. omega (arith, over, le)) | inr le ↦ inl le ]
+
+zero-decided : (a : ℕ) → Decided (a ≡ 0)
+zero-decided a = elim (eqb_tells a 0) [ inl same ↦ inl same.1 | inr other ↦ inr other.1 ]
+
+free-decided : (address end : ℕ) (xs : List Instance) → Decided (IsFree address end xs)
+free-decided address end [] = inl tt
+free-decided address end (x ∷ xs) = both-decided (either-decided (le-decided end x.address) (le-decided (end_of x) address)) (free-decided address end xs)
+
+-- an address has room or it hasn't
+room-decided : (m : Layout) (size alignment address : ℕ) → Decided (IsRoom m size alignment address)
+room-decided m size alignment address =
+    go (both-decided (le-decided first_address address)
+    (both-decided (zero-decided (address % step_of alignment))
+    (both-decided (le-decided (address + taken size) m.limit) (free-decided address (address + taken size) m.instances))))
+  where
+    go : Decided ((first_address ≤ address) × ((address % step_of alignment ≡ 0) × ((address + taken size ≤ m.limit) × IsFree address (address + taken size) m.instances))) → Decided (IsRoom m size alignment address)
+    go (inl (from, (aligned, (inside, free)))) = inl (record { from = from; aligned = aligned; inside = inside; free = free })
+    go (inr none) = inr (λ room. none (room.from, (room.aligned, (room.inside, room.free))))
+
+-- one of the n first addresses is the lowest with room, or none of them has room
+lowest-among : (m : Layout) (size alignment n : ℕ) → ((address : ℕ) × IsLowest m size alignment address) ⊎ ((address : ℕ) → address < n → IsRoom m size alignment address → ⊥)
+lowest-among m size alignment zero = inr (λ address under room. omega (arith, under))
+lowest-among m size alignment (suc n) = next (lowest-among m size alignment n)
+  where
+    last : ((address : ℕ) → address < n → IsRoom m size alignment address → ⊥) → Decided (IsRoom m size alignment n)
+        → ((address : ℕ) × IsLowest m size alignment address) ⊎ ((address : ℕ) → address < suc n → IsRoom m size alignment address → ⊥)
+    last none (inl room) = inl (
+      n,
+      record {
+        room = room;
+        lowest = λ other is. elim (cases_lt other n) as (λ _. n ≤ other) [ inl less ↦ absurd (none other less is) | inr le ↦ le ];
+      },
+    )
+    last none (inr lacks) = inr (λ address under room. elim (cases_lt address n) as (λ _. ⊥) [
+      | inl less ↦ none address less room
+      | inr le ↦ (let same : address ≡ n = omega (arith, under, le) in lacks (subst (IsRoom m size alignment) same room))
+    ])
+
+    next : ((address : ℕ) × IsLowest m size alignment address) ⊎ ((address : ℕ) → address < n → IsRoom m size alignment address → ⊥)
+        → ((address : ℕ) × IsLowest m size alignment address) ⊎ ((address : ℕ) → address < suc n → IsRoom m size alignment address → ⊥)
+    next (inl found) = inl found
+    next (inr none) = last none (room-decided m size alignment n)
+
+-- an extent has a place, or no address has room for it
+place-found : (m : Layout) (e : Extent) → ((p : Place) × IsPlaceFor m e p) ⊎ HasNoRoomFor m e
+place-found m e = by (lowest-among m e.size e.alignment (suc m.limit))
+  where
+    by : ((address : ℕ) × IsLowest m e.size e.alignment address) ⊎ ((address : ℕ) → address < suc m.limit → IsRoom m e.size e.alignment address → ⊥) → ((p : Place) × IsPlaceFor m e p) ⊎ HasNoRoomFor m e
+    by (inl found) = inl (record { address = found.0; size = e.size }, record { size = refl; lowest = found.1 })
+    by (inr none) = inr (λ address room. none address (let inside = room.inside in omega (arith, inside)) room)
+
+-- some extents have places in turn, or one lacks room after those before it
+pub extents-found : (m : Layout) (extents : List Extent) → ((places : List Place) × (after : Layout) × ArePlaced m extents places after) ⊎ LackRoom m extents
+extents-found m [] = inl ([], m, refl)
+extents-found m (e ∷ extents) = first (place-found m e) (λ p. extents-found (with_new m p) extents)
+  where
+    next : (p : Place) → IsPlaceFor m e p → ((places : List Place) × (after : Layout) × ArePlaced (with_new m p) extents places after) ⊎ LackRoom (with_new m p) extents
+        → ((places : List Place) × (after : Layout) × ArePlaced m (e ∷ extents) places after) ⊎ LackRoom m (e ∷ extents)
+    next p is (inl found) = inl (p ∷ found.0, found.1, (is, found.2))
+    next p is (inr lack) = inr (inr (p, is, lack))
+
+    first : ((p : Place) × IsPlaceFor m e p) ⊎ HasNoRoomFor m e → ((p : Place) → ((places : List Place) × (after : Layout) × ArePlaced (with_new m p) extents places after) ⊎ LackRoom (with_new m p) extents)
+        → ((places : List Place) × (after : Layout) × ArePlaced m (e ∷ extents) places after) ⊎ LackRoom m (e ∷ extents)
+    first (inl here) later = next here.0 here.1 (later here.0)
+    first (inr none) later = inr (inl none)
