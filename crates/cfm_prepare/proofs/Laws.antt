@@ -8,3 +8,5 @@ pub use Rattle.cfm_prepare.proofs.NowLemmas.{run-now, run-prepares}
 pub use Rattle.cfm_prepare.proofs.SlotLemmas.{places-append, present-append}
 pub use Rattle.cfm_prepare.proofs.RunLemmas.{present-needed}
 pub use Rattle.cfm_prepare.proofs.KeepLemmas.{run-keeps}
+-- there is a state that a preparation gives, if no new fragment lacks room or is refused
+pub use Rattle.cfm_prepare.proofs.EnoughLemmas.{prepares-to}

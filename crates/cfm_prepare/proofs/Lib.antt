@@ -1,6 +1,7 @@
 mod AddLemmas
 mod BegunLemmas
 mod ConnectionLemmas
+mod EnoughLemmas
 mod FoundLemmas
 mod FragmentLemmas
 mod GroupLemmas

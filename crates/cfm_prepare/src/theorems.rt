@@ -4,8 +4,12 @@ ghost use Rattle.cfm_closure.specs.Stores.{Pair};
 ghost use Rattle.cfm_prepare.specs.Fragments.{is_present, places_of};
 ghost use Rattle.cfm_prepare.specs.Contexts.{ContextState, added, fresh_state, is_needed};
 ghost use Rattle.cfm_prepare.specs.Now.{IsPreparedNow};
+ghost use Rattle.cfm_prepare.specs.Placing.{LacksRoom};
+ghost use Rattle.cfm_prepare.specs.Refusals.{HasBadImage, HasBadProgram};
 ghost use Rattle.cfm_prepare.specs.Runs.{AreClosed, Keeps, Runs, Step, Takes};
-ghost use Rattle.cfm_prepare.specs.Steps.{Prepares};
+ghost use Rattle.cfm_prepare.specs.Steps.{HasClosure, Prepares, new_of};
+ghost use Rattle.pef_pidata.specs.declared.fault.PackFault.{PackFault};
+ghost use Rattle.pef_reloc.specs.declared.fault.RelocFault.{RelocFault};
 
 /// After any list of preparations and closings, a fragment is present exactly if the closure of an open connection
 /// has it. These closures are those of the connections' roots.
@@ -34,4 +38,12 @@ pub fn prepared_fragments()
 pub fn added_fragments()
     ensures unused { (pairs : List Pair) (limit : ℕ) (steps : List Step) (t : ContextState) → Runs (fresh_state pairs limit) steps t → t.given ≡ 0 → t ≡ fresh_state pairs limit }
     ensures added { (pairs : List Pair) (limit : ℕ) (name bytes : List ℕ) → added (fresh_state pairs limit) name bytes ≡ fresh_state (pairs ++ (record { name = name; bytes = bytes }) ∷ []) limit }
+{}
+
+/// If a name has a closure, none of its fragments that aren't present lacks room, and none is refused for an image or
+/// a relocation header, there is a state that the preparation gives.
+pub fn possible_preparations()
+    ensures { (s : ContextState) (name : List ℕ) (closure : HasClosure s name) → ((other : List ℕ) → LacksRoom s.pairs s.memory (new_of s closure.closed) other → ⊥)
+        → ((other : List ℕ) (k : PackFault) → HasBadImage s.pairs s.memory (new_of s closure.closed) other k → ⊥)
+        → ((other : List ℕ) (k : RelocFault) → HasBadProgram s.pairs s.present s.memory (new_of s closure.closed) other k → ⊥) → (t : ContextState) × Prepares s name s.given t }
 {}
