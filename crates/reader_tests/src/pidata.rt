@@ -208,6 +208,23 @@ const COUNTS: &[(usize, &[u8], &[u8])] = &[
     (128, &[0x00, 0x81, 0x00], &[0x20, 0x81, 0x00]),
     (16_383, &[0x00, 0xFF, 0x7F], &[0x20, 0xFF, 0x7F]),
     (16_384, &[0x00, 0x81, 0x80, 0x00], &[0x20, 0x81, 0x80, 0x00]),
+    (65_536, &[0x00, 0x84, 0x80, 0x00], &[0x20, 0x84, 0x80, 0x00]),
+    (
+        2_097_151,
+        &[0x00, 0xFF, 0xFF, 0x7F],
+        &[0x20, 0xFF, 0xFF, 0x7F],
+    ),
+    (
+        2_097_152,
+        &[0x00, 0x81, 0x80, 0x80, 0x00],
+        &[0x20, 0x81, 0x80, 0x80, 0x00],
+    ),
+    // Between others, these are the longest image.
+    (
+        16_777_210,
+        &[0x00, 0x87, 0xFF, 0xFF, 0x7A],
+        &[0x20, 0x87, 0xFF, 0xFF, 0x7A],
+    ),
 ];
 
 fn joined(alloc: Global, front: &[u8], part: &[u8], back: &[u8]) -> Result<Vec<u8>, AllocError> {
@@ -236,6 +253,23 @@ fn pack_limits_of_counts(rt: HostRuntime) {
         let packed = joined(alloc, block, &bytes, &[]).expect(&rt, "memory");
         test_between(&rt, alloc, &bytes, &packed, (&[0, 0, 0], &[0x03]));
     }
+}
+
+/// Returns some bytes, this many times.
+fn times(rt: &impl Abort, alloc: Global, bytes: &[u8], count: u32) -> Vec<u8> {
+    let mut all = Vec::new(alloc);
+    for _ in 0..count {
+        all.extend_from_slice(bytes).expect(rt, "memory");
+    }
+    all
+}
+
+/// The longest image, of a byte and three zeros again and again: an instruction for each byte, and one for each run.
+#[test]
+fn pack_longest_image(rt: HostRuntime) {
+    let image = times(&rt, rt.alloc(), &[7, 0, 0, 0], 4_194_304);
+    let want = times(&rt, rt.alloc(), &[0x21, 7, 0x03], 4_194_304);
+    test_packed(&rt, rt.alloc(), &image, &want);
 }
 
 /// How many images of 0 to 9 bytes there are with three values.
