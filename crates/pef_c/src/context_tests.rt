@@ -9,22 +9,22 @@ use std::alloc::Global;
 use std::process::Abort;
 
 /// A library with a word, and a fragment that imports its address and is initialized after it.
-const LIBRARY: &[u8] =
+pub(crate) const LIBRARY: &[u8] =
     b"versions 1 0 0\nsection l data process 4 4\nbytes l 0000002A\nexport v data l 0\n";
 
 const USER: &[u8] =
     b"library L 1 0 before\nimport v data strong\nsection a data global 4 8\nfix a 0 import v\nexport own data a 4\nmain a 4\n";
 
-const LIMIT: u32 = 0x1000_0000;
+pub(crate) const LIMIT: u32 = 0x1000_0000;
 
-const NO_NAMES: PefNames = PefNames {
+pub(crate) const NO_NAMES: PefNames = PefNames {
     fragment: b"",
     library: b"",
     symbol: b"",
 };
 
 /// Returns the container of a script. It stays until the program ends.
-fn linked(rt: &impl Abort, alloc: Global, script: &[u8]) -> &'static [u8] {
+pub(crate) fn linked(rt: &impl Abort, alloc: Global, script: &[u8]) -> &'static [u8] {
     let mut room = [0; 512];
     let mut written = 0;
     let mut line = 0;

@@ -12,6 +12,8 @@ mod context_tests;
 mod expand;
 mod fragments;
 mod handle;
+#[cfg(test)]
+mod large_tests;
 mod link;
 mod list;
 mod loader;
@@ -19,6 +21,8 @@ mod loose;
 mod names;
 mod refusal_names;
 mod rows;
+#[cfg(test)]
+mod struct_tests;
 mod structs;
 #[cfg(test)]
 mod tests;
