@@ -33,22 +33,26 @@ failed = 0
 # --- what has to be there ---
 
 
-def program(name: str, package: str) -> Optional[str]:
-    return None if shutil.which(name) else f"{name} is missing: on Debian, apt-get install {package}"
+def missing(what: str) -> str:
+    return f"{what} is missing: `sudo tools/needs` installs it"
 
 
-def module(name: str, package: str) -> Optional[str]:
+def program(name: str) -> Optional[str]:
+    return None if shutil.which(name) else missing(name)
+
+
+def module(name: str) -> Optional[str]:
     """A module of Debian's Python, which the example's programs run under."""
     there = os.access(DEBIAN_PYTHON, os.X_OK) and not subprocess.run([DEBIAN_PYTHON, "-c", f"import {name}"], capture_output=True).returncode
-    return None if there else f"{DEBIAN_PYTHON} has no {name}: on Debian, apt-get install {package}"
+    return None if there else missing(f"{name} of {DEBIAN_PYTHON}")
 
 
-def header(name: str, package: str) -> Optional[str]:
+def header(name: str) -> Optional[str]:
     compiler = os.environ.get("CC", "cc")
     if shutil.which(compiler) is None:
-        return f"{compiler} is missing: on Debian, apt-get install gcc"
+        return missing(compiler)
     found = subprocess.run([compiler, "-E", "-x", "c", "-"], input=f"#include <{name}>\n".encode(), capture_output=True)
-    return f"{name} is missing: on Debian, apt-get install {package}" if found.returncode else None
+    return missing(name) if found.returncode else None
 
 
 def built_program() -> Optional[str]:
@@ -60,9 +64,9 @@ def built_library(path: pathlib.Path = LIBRARY) -> Optional[str]:
     return None if path.is_file() else f"{path} isn't there: tools/build-library builds it, or PEF_LIBRARY names libpef.so"
 
 
-def needs(*missing: Optional[str]) -> None:
+def needs(*lacking: Optional[str]) -> None:
     """Ends with status 77 if something is missing, and a line that says what."""
-    found = [it for it in missing if it]
+    found = [it for it in lacking if it]
     if found:
         print("; ".join(found))
         raise SystemExit(77)
