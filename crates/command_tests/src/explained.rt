@@ -95,7 +95,7 @@ fn refusals(rt: HostRuntime) -> Result<(), Fail> {
         (
             Handed::input(&["show"], USER.as_bytes()),
             b"refused 61 LibraryMissing in it library L\n",
-            b"The fragment needs a library that wasn't handed in. ",
+            b"The fragment needs a library that wasn't given. ",
         ),
         (
             input_fails,

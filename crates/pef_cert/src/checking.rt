@@ -12,8 +12,9 @@ use crate::registers::registers_hold;
 use crate::{Certificate, LabelRows};
 use pef_reloc::{Fixup, Instr};
 
-/// Returns whether a certificate is valid for the fixups of its section. If it is, its program makes
-/// the fixups, and no other program that does has fewer halfwords, whoever made the certificate.
+/// Returns whether a certificate is valid for the fixups of its section, which have to fit. If it is, its
+/// program makes the fixups, and no other program without repeats that does has fewer halfwords, regardless
+/// of who made the certificate.
 ///
 /// It allocates nothing, and goes once from the last fixup to the first. Registers, shape and program
 /// are tested before that.

@@ -34,7 +34,7 @@ pub fn labels_are_near()
     ensures set_d { (l : Labels) (fixups made rest : List Fixup) (f : Fixup) (p c d d' : ℕ) → Trusted l fixups made (f ∷ rest) → c < classes l → d < classes l → d' < classes l → extension l (f ∷ rest) p c d ≤ 1 + extension l (f ∷ rest) p c d' }
 {}
 
-/// The program of a valid certificate is least, whoever made the certificate.
+/// If fixups fit, the program of a valid certificate for them is least, regardless of who made the certificate.
 pub fn valid_programs_are_least()
     ensures { (fixups : List Fixup) (c : Certified) → fixups_fit fixups ≡ true → Valid fixups c → Least fixups c.program }
 {}

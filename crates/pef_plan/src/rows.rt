@@ -243,7 +243,7 @@ fn close_cross(row: &mut [u32], classes: usize, class: usize)
     }
 }
 
-/// Does the same. It is inlined with a known number of classes.
+/// Closes a row around a class, as [`close_cross`] does. It is inlined with a known number of classes.
 #[inline(always)]
 fn close_around(row: &mut [u32], classes: usize, class: usize)
     requires few { classes ≤ most_sections + 1 }

@@ -33,7 +33,7 @@ pub(crate) fn fill_skips(
     }
 }
 
-/// Does the same for a fixup that has a section.
+/// Fills the least skips of a fixup that has a section.
 fn fill_section(
     known: SolvedSuffix<'_>,
     at: FixupState<'_>,

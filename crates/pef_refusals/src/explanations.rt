@@ -27,7 +27,7 @@ fn container_help(number: u32) -> Option<&'static str>
             "The file ends inside the headers of a container. It is truncated, or it isn't a PEF container.",
         ),
         2 => Some(
-            "The file doesn't begin with Joy!peff, so it isn't a PEF container. Hand in the data fork, and cut out what comes before the container.",
+            "The file doesn't begin with Joy!peff, so it isn't a PEF container. Pass the data fork, and cut out what comes before the container.",
         ),
         3 => Some("The container isn't for PowerPC. CFM-68K containers aren't read."),
         4 => Some(
@@ -193,25 +193,25 @@ fn closure_help(number: u32) -> Option<&'static str>
             "The certificates aren't one for each section of the script, in order. They may be those of another script.",
         ),
         60 => Some(
-            "No fragment of this name was handed in. Hand it in under exactly this name; upper and lower case differ.",
+            "No fragment of this name was given. Pass it under exactly this name; upper and lower case differ.",
         ),
         61 => Some(
-            "The fragment needs a library that wasn't handed in. Hand in its container, or a stub that exports what is used, under exactly this name; upper and lower case differ.",
+            "The fragment needs a library that wasn't given. Pass its container, or a stub that exports what is used, under exactly this name; upper and lower case differ.",
         ),
         62 => Some(
-            "The library doesn't export a symbol that the fragment needs. Hand in a library that exports it, or link the fragment with the import weak.",
+            "The library doesn't export a symbol that the fragment needs. Pass a library that exports it, or link the fragment with the import weak.",
         ),
         63 => Some(
-            "The library is older than the oldest that the fragment accepts. Hand in a newer library.",
+            "The library is older than the oldest that the fragment accepts. Pass a newer library.",
         ),
         64 => Some(
-            "The library no longer serves a fragment that was linked with so old a version. Hand in an older library, or link the fragment again with this one.",
+            "The library no longer serves a fragment that was linked with so old a version. Pass an older library, or link the fragment again with this one.",
         ),
         65 => Some(
-            "Libraries pass the symbol on in a circle, and none of them defines it. Hand in a library that defines it.",
+            "Libraries pass the symbol on in a cycle, and none of them defines it. Pass a library that defines it.",
         ),
         66 => Some(
-            "Fragments have to be initialized before each other in a circle, and this one is in it or waits for it. Take the option before from one library of the circle.",
+            "Fragments have to be initialized before each other in a cycle, and this one is in it or waits for it. Remove the option before from one library of the cycle.",
         ),
         67 => Some(
             "No address below the limit has room for the next section. Place less, or raise the limit; that of the commands is 0x10000000.",
@@ -234,7 +234,7 @@ fn port_help(number: u32) -> Option<&'static str>
             "The file couldn't be read, and nothing was written. Check that it exists and that you may read it.",
         ),
         72 => Some(
-            "The file couldn't be written, and may be missing or hold any bytes now. Check its folder, your permissions and the room on the disk, and run the command again.",
+            "The file couldn't be written, and may be missing or hold any bytes now. Check its folder, your permissions and the space on the disk, and run the command again.",
         ),
         73 => Some(
             "Reading the standard input failed. Check the program at the other end of the pipe, and run the command again.",
