@@ -120,7 +120,7 @@ struct pef_bytes {
 /* An allocation failed. */
 #define PEF_OUT_OF_MEMORY 99
 
-/* Only this library returns these: the caller's room is too small; there is no such thing; the context isn't open; a
+/* Only this library returns these: the caller's buffer is too small; there is no such thing; the context isn't open; a
  * fragment is added after a connection was given; the context has as many fragments as it may. */
 #define PEF_ROOM_TOO_SMALL 200
 #define PEF_NOT_THERE 201
@@ -143,7 +143,7 @@ struct pef_bytes {
 #define PEF_KIND_EXCEPTION 7
 #define PEF_KIND_TRACEBACK 8
 
-/* Who shares an instance of a section. */
+/* How instances of a section are shared. */
 #define PEF_SHARE_PROCESS 1
 #define PEF_SHARE_GLOBAL 4
 #define PEF_SHARE_PROTECTED 5
@@ -167,36 +167,36 @@ struct pef_bytes {
 #define PEF_LIBRARY_INIT_BEFORE 0x80
 
 /*
- * Links a script: writes its container to the front of `room`.
+ * Links a script: writes its container to the front of `buffer`.
  *
  * Returns PEF_OK, and stores the container's length in `*written`; or PEF_ROOM_TOO_SMALL, and stores the length that is
  * needed in `*written`; or the script's first refusal, 41 to 49, and stores the number of its line in `*line`, counted
- * from 1; or PEF_OUT_OF_MEMORY. `*line` is 0 in all other cases. Unless PEF_OK is returned, `room` is left unchanged;
+ * from 1; or PEF_OUT_OF_MEMORY. `*line` is 0 in all other cases. Unless PEF_OK is returned, `buffer` is left unchanged;
  * and after a refusal `*written` is too.
  *
  * The container has a shortest relocation program without repeats for each section, so linking is more work than reading.
- * To know the length first, a call with a small room does all of that work.
+ * To know the length first, a call with a small buffer does all of that work.
  */
-uint32_t pef_link(const uint8_t *script, size_t script_length, uint8_t *room, size_t room_length, size_t *written, size_t *line);
+uint32_t pef_link(const uint8_t *script, size_t script_length, uint8_t *buffer, size_t buffer_length, size_t *written, size_t *line);
 
 /*
- * Lists a container: writes the lines that `pef list` prints to the front of `room`, with no zero byte at their end.
+ * Lists a container: writes the lines that `pef list` prints to the front of `buffer`, with no zero byte at their end.
  *
  * Returns PEF_OK, and stores the length of the lines in `*written`; or PEF_ROOM_TOO_SMALL, and stores the length that is
  * needed in `*written`; or the first refusal, 1 to 20 or 31 to 36; or PEF_OUT_OF_MEMORY. Unless PEF_OK is returned,
- * `room` is left unchanged; and after a refusal `*written` is too.
+ * `buffer` is left unchanged; and after a refusal `*written` is too.
  */
-uint32_t pef_list(const uint8_t *container, size_t container_length, uint8_t *room, size_t room_length, size_t *written);
+uint32_t pef_list(const uint8_t *container, size_t container_length, uint8_t *buffer, size_t buffer_length, size_t *written);
 
 /*
- * Lists a container in parts: writes the lines that `pef list` prints, from byte `from` on, to the front of `room`, as many
- * bytes as it has room for.
+ * Lists a container in parts: writes the lines that `pef list` prints, from byte `from` on, to the front of `buffer`, as many
+ * bytes as fit.
  *
- * Returns PEF_OK, and stores the number of bytes in `*written`: it is less than `room_length` only at the end of the lines, and
- * 0 after it. Or returns the first refusal, 1 to 20 or 31 to 36; or PEF_OUT_OF_MEMORY. Then `room` and `*written` are left
- * unchanged. Each call makes all lines, so take a large room.
+ * Returns PEF_OK, and stores the number of bytes in `*written`: it is less than `buffer_length` only at the end of the lines, and
+ * 0 after it. Or returns the first refusal, 1 to 20 or 31 to 36; or PEF_OUT_OF_MEMORY. Then `buffer` and `*written` are left
+ * unchanged. Each call makes all lines, so take a large buffer.
  */
-uint32_t pef_list_part(const uint8_t *container, size_t container_length, size_t from, uint8_t *room, size_t room_length, size_t *written);
+uint32_t pef_list_part(const uint8_t *container, size_t container_length, size_t from, uint8_t *buffer, size_t buffer_length, size_t *written);
 
 /*
  * Gives the name of a number that a call returned, as "BadTag". PEF_OK has none.
@@ -363,7 +363,7 @@ struct pef_context {
  */
 uint32_t pef_open(struct pef_context *context, uint32_t limit);
 
-/* Frees a context with all that it took. It may be opened again. A context that isn't open stays as it is. */
+/* Frees a context and everything that it owns. It may be opened again. A context that isn't open stays as it is. */
 void pef_free(struct pef_context *context);
 
 /*
@@ -442,12 +442,12 @@ struct pef_fragment_section {
 uint32_t pef_fragment_section(struct pef_context *context, uint32_t connection, size_t fragment, size_t number, struct pef_fragment_section *section);
 
 /*
- * Copies a section's bytes to the front of `room`, as the memory of a machine.
+ * Copies a section's bytes to the front of `buffer`, as the memory of a machine.
  *
  * Returns PEF_OK; or PEF_ROOM_TOO_SMALL; and both times stores the section's size in `*written`. Or returns PEF_NOT_THERE,
  * if the fragment has no such section in memory.
  */
-uint32_t pef_fragment_bytes(struct pef_context *context, size_t fragment, size_t number, uint8_t *room, size_t room_length, size_t *written);
+uint32_t pef_fragment_bytes(struct pef_context *context, size_t fragment, size_t number, uint8_t *buffer, size_t buffer_length, size_t *written);
 
 /* The addresses at which a fragment is entered. The address of an entry that isn't there is 0. */
 struct pef_entries {

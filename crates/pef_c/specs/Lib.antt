@@ -1,4 +1,4 @@
-pub mod Rooms
+pub mod Buffers
 pub mod Link
 pub mod List
 pub mod Names

@@ -1,11 +1,11 @@
--- What `pef_link` returns and writes. 99 means that an allocation failed, and 200 that the room is too small.
+-- What `pef_link` returns and writes. 99 means that an allocation failed, and 200 that the buffer is too small.
 use Rattle.std.specs.Prelude.{◌≡◌, ◌⊎◌, ◌==◌, ℕ, List, Ok, Err, MatchBool}
 use Rattle.pef_script.specs.Script.{DescribedScript}
 use Rattle.pef_script.specs.Text.Faults.{fault_number}
 use Rattle.pef_script.specs.Text.Grammar.{script_of}
 use Rattle.pef_script.specs.declared.text.fault.LineFault.{LineFault}
 use Rattle.pef_write.specs.Linked.{IsLinked, LinkedContainer}
-use Rattle.pef_c.specs.Rooms.{Fills, IsTooLong}
+use Rattle.pef_c.specs.Buffers.{Fills, IsTooLong}
 
 -- the text is a script, and this is linked from it
 abbrev pub IsLinkedOf : List ℕ → LinkedContainer → Type 0
@@ -19,7 +19,7 @@ IsRefusal text line answer = (fault : LineFault) × (script_of text ≡ Err (rec
 abbrev pub LinkRefuses : List ℕ → ℕ → ℕ → Type 0
 LinkRefuses text line answer = ((answer ≡ 99) × (line ≡ 0)) ⊎ IsRefusal text line answer
 
--- 0, and the container is in the room; or 200, if it is longer; or a refusal, and the room and the length are unchanged
+-- 0, and the container is in the buffer; or 200, if it is longer; or a refusal, and the buffer and the length are unchanged
 abbrev pub LinkAnswers : List ℕ → List ℕ → List ℕ → ℕ → ℕ → ℕ → ℕ → Type 0
 LinkAnswers text old new before after line answer =
     MatchBool (answer == 0) ((l : LinkedContainer) × IsLinkedOf text l × Fills l.bytes old new after × (line ≡ 0))

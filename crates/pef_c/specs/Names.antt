@@ -16,7 +16,7 @@ library_name number =
 -- their help
 unfoldable pub library_help : ℕ → Option (List ℕ)
 library_help number =
-    if number == 200 then Some (codes "The room for the result is too small. Call again with a room of the length that was stored.")
+    if number == 200 then Some (codes "The buffer for the result is too small. Call again with a buffer of the length that was stored.")
     else if number == 201 then Some (codes "There is nothing under this number.")
     else if number == 202 then Some (codes "The context isn't open. Open it by pef_open first.")
     else if number == 203 then Some (codes "The context has already given a connection. Add all fragments before the first preparation.")

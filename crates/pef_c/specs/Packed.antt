@@ -4,7 +4,7 @@ use Rattle.pef_pidata.specs.Faults.{fault_number}
 use Rattle.pef_pidata.specs.Pattern.{pattern_text}
 use Rattle.pef_pidata.specs.declared.fault.PackFault.{PackFault}
 
--- 0, and the room has what the packed bytes expand to at its length; or the number of their first refusal
+-- 0, and the buffer has what the packed bytes expand to at its length; or the number of their first refusal
 abbrev pub ExpandAnswers : List ℕ → List ℕ → List ℕ → ℕ → Type 0
 ExpandAnswers packed old new answer =
     MatchBool (answer == 0) (pattern_text packed (length old) ≡ Ok new)

@@ -6,7 +6,7 @@ use Rattle.cfm_prepare.specs.Readers.{section_header_of}
 use Rattle.cfm_prepare.specs.Sections.{section_present}
 use Rattle.cfm_prepare.specs.declared.entries.Entries.{Entries}
 use Rattle.pef_views.specs.declared.section.SectionHeader.{SectionHeader}
-use Rattle.pef_c.specs.Rooms.{Fills, IsTooLong}
+use Rattle.pef_c.specs.Buffers.{Fills, IsTooLong}
 use Rattle.pef_c.specs.declared.structs.PefEntries.{PefEntries}
 use Rattle.pef_c.specs.declared.structs.PefFragmentSection.{PefFragmentSection}
 
@@ -15,7 +15,7 @@ abbrev pub ReadAnswers : {A : Type 0} → (ContextState → Option A) → Option
 ReadAnswers value None old new answer = (answer ≡ 202) × (new ≡ old)
 ReadAnswers value (Some s) old new answer = MatchBool (answer == 0) (value s ≡ Some new) ((answer ≡ 201) × (value s ≡ None) × (new ≡ old))
 
--- 0, and the items are in the room; or 200, if they are too many; or 201, if there are none to copy
+-- 0, and the items are in the buffer; or 200, if they are too many; or 201, if there are none to copy
 abbrev pub CopiesOut : {A : Type 0} → Option (List A) → List A → List A → ℕ → ℕ → ℕ → Type 0
 CopiesOut None old new before after answer = (answer ≡ 201) × (new ≡ old) × (after ≡ before)
 CopiesOut (Some items) old new before after answer = MatchBool (answer == 0) (Fills items old new after) ((answer ≡ 200) × IsTooLong items old new after)

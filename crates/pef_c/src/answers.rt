@@ -1,6 +1,6 @@
-//! The numbers that calls return, and copying into the caller's room.
+//! The numbers that calls return, and copying into the caller's buffer.
 ghost use Rattle.std.specs.Prelude.{◌≡◌, ◌==◌, drop, false, take};
-ghost use Rattle.pef_c.specs.Rooms.{FillsPart, IsCopied};
+ghost use Rattle.pef_c.specs.Buffers.{FillsPart, IsCopied};
 ghost use Rattle.pef_listing.specs.Faults as listing;
 ghost use Rattle.pef_loader.specs.Faults as loader;
 ghost use Rattle.pef_pidata.specs.Faults as pidata;
@@ -16,7 +16,7 @@ use pef_views::ViewFault;
 /// An allocation failed.
 pub(crate) const OUT_OF_MEMORY: u32 = 99;
 
-/// The caller's room is too small.
+/// The caller's buffer is too small.
 pub(crate) const ROOM_TOO_SMALL: u32 = 200;
 
 /// There is nothing under this number.
@@ -25,22 +25,22 @@ pub(crate) const NOT_THERE: u32 = 201;
 /// A context isn't open: it never was, or it was freed.
 pub(crate) const NOT_OPEN: u32 = 202;
 
-/// Copies items to the front of the caller's room, if they fit. Writes how many they are, also if they don't fit.
-pub(crate) fn copy_out<T: Copy>(items: &[T], room: &mut [T], written: &mut usize) -> Option<()>
-    ensures { IsCopied items.now room.old room.new written.new result }
+/// Copies items to the front of the caller's buffer, if they fit. Writes how many they are, also if they don't fit.
+pub(crate) fn copy_out<T: Copy>(items: &[T], buffer: &mut [T], written: &mut usize) -> Option<()>
+    ensures { IsCopied items.now buffer.old buffer.new written.new result }
 {
     *written = items.len();
-    let (front, _) = room.split_at_mut_checked(items.len())?;
+    let (front, _) = buffer.split_at_mut_checked(items.len())?;
     front.copy_from_slice(items);
     Some(())
 }
 
-/// Copies the items from a place on to the front of the caller's room, as many as fit. Writes how many they are.
-pub(crate) fn copy_part<T: Copy>(items: &[T], from: usize, room: &mut [T], written: &mut usize)
-    ensures { FillsPart items.now from room.old room.new written.new }
+/// Copies the items from a place on to the front of the caller's buffer, as many as fit. Writes how many they are.
+pub(crate) fn copy_part<T: Copy>(items: &[T], from: usize, buffer: &mut [T], written: &mut usize)
+    ensures { FillsPart items.now from buffer.old buffer.new written.new }
 {
-    let part = part_of(items, from, room.len());
-    let _ = copy_out(part, room, written);
+    let part = part_of(items, from, buffer.len());
+    let _ = copy_out(part, buffer, written);
 }
 
 /// Returns the items from a place on, and no more than `most` of them.
@@ -57,7 +57,7 @@ fn part_of<T>(items: &[T], from: usize, most: usize) -> &[T]
     }
 }
 
-/// Returns the number of a line's refusal. It is none of this crate's own.
+/// Returns the number of a line's refusal. It is never one of this crate's.
 pub(crate) fn line_number(fault: LineFault) -> u32
     ensures number { result ≡ script.fault_number fault }
     ensures refused { (result == 0) ≡ false }
@@ -66,7 +66,7 @@ pub(crate) fn line_number(fault: LineFault) -> u32
     fault.number()
 }
 
-/// Returns the number of a listing's refusal. It is none of this crate's own.
+/// Returns the number of a listing's refusal. It is never one of this crate's.
 pub(crate) fn list_number(fault: ListFault) -> u32
     ensures number { result ≡ listing.fault_number fault }
     ensures refused { (result == 0) ≡ false }

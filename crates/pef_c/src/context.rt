@@ -58,7 +58,7 @@ pub extern "C" fn pef_add(
     answer
 }
 
-/// Does the same in a context that is open.
+/// Adds a fragment to a context that is open. Returns 0, or the number of the error.
 fn add_in(context: &mut Context<'static>, name: &'static [u8], bytes: &'static [u8]) -> u32
     ensures { AddsIn name.entry.now bytes.entry.now context.old context.new result }
 {
@@ -90,7 +90,7 @@ pub extern "C" fn pef_prepare(
     answer
 }
 
-/// Does the same in a context that is open.
+/// Prepares a fragment in a context that is open. Returns 0, or the number of the error.
 fn prepare_in(
     context: &mut Context<'static>,
     name: &[u8],
@@ -127,7 +127,7 @@ pub extern "C" fn pef_close(alloc: Global, context: &mut PefContext, connection:
     answer
 }
 
-/// Does the same in a context that is open.
+/// Closes a connection of a context that is open. Returns 0, or the number of the error.
 fn close_in(context: &mut Context<'static>, connection: u32) -> u32
     ensures { ClosesIn connection context.old context.new result }
 {

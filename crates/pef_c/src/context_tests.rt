@@ -25,11 +25,11 @@ pub(crate) const NO_NAMES: PefNames = PefNames {
 
 /// Returns the container of a script. It stays until the program ends.
 pub(crate) fn linked(rt: &impl Abort, alloc: Global, script: &[u8]) -> &'static [u8] {
-    let mut room = [0; 512];
+    let mut buffer = [0; 512];
     let mut written = 0;
     let mut line = 0;
-    assert!(rt; pef_link(alloc, script, &mut room, &mut written, &mut line) == 0);
-    let Some((container, _)) = room.split_at_checked(written) else {
+    assert!(rt; pef_link(alloc, script, &mut buffer, &mut written, &mut line) == 0);
+    let Some((container, _)) = buffer.split_at_checked(written) else {
         panic!(rt; "no container");
     };
     Vec::from_slice(alloc, container)
@@ -81,9 +81,9 @@ fn test_memory(rt: &impl Abort, alloc: Global, context: &mut PefContext) {
     assert!(rt; section.address == 0x0001_0010 && section.size == 8);
     assert!(rt; section.kind == 1 && section.share == 4);
     assert!(rt; pef_fragment_section(alloc, context, 0, 0, 1, &mut section) == 201);
-    let mut room = [7; 9];
-    assert!(rt; pef_fragment_bytes(alloc, context, 0, 0, &mut room, &mut count) == 0);
-    assert!(rt; room == [0, 1, 0, 0, 0, 0, 0, 0, 7] && count == 8);
+    let mut buffer = [7; 9];
+    assert!(rt; pef_fragment_bytes(alloc, context, 0, 0, &mut buffer, &mut count) == 0);
+    assert!(rt; buffer == [0, 1, 0, 0, 0, 0, 0, 0, 7] && count == 8);
 }
 
 /// Tests the fragment's entry points and the exports.

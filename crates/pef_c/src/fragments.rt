@@ -15,29 +15,29 @@ use crate::structs::{PefEntries, PefFragmentSection};
 use cfm_prepare::{Connection, Context, Entries};
 use std::alloc::Global;
 
-/// Copies the fragments of a connection's closure to the front of `room`, in closure order.
+/// Copies the fragments of a connection's closure to the front of `buffer`, in closure order.
 ///
-/// Returns 0, or 200 if the room is too small, or 201 if the connection isn't open, or 202 if the context isn't.
+/// Returns 0, or 200 if the buffer is too small, or 201 if the connection isn't open, or 202 if the context isn't.
 #[unsafe(no_mangle)]
 pub extern "C" fn pef_fragments(
     alloc: Global,
     context: &mut PefContext,
     connection: u32,
-    room: &mut [usize],
+    buffer: &mut [usize],
     count: &mut usize,
 ) -> u32
     ensures same { held context.new ≡ held context.old }
-    ensures copied { CopyAnswers (λ s. option_map (λ o. o.closed.order) (open_of s.connections connection)) (held context.old) room.old room.new count.old count.new result }
+    ensures copied { CopyAnswers (λ s. option_map (λ o. o.closed.order) (open_of s.connections connection)) (held context.old) buffer.old buffer.new count.old count.new result }
 {
     let Some(boxed) = take(alloc, context) else {
         return NOT_OPEN;
     };
-    let answer = copy_answer(boxed.fragments(Connection(connection)), room, count);
+    let answer = copy_answer(boxed.fragments(Connection(connection)), buffer, count);
     put(context, boxed);
     answer
 }
 
-/// Copies the fragments of a connection's closure to the front of `room`, in the order of their initialization.
+/// Copies the fragments of a connection's closure to the front of `buffer`, in the order of their initialization.
 ///
 /// Returns the same numbers as `pef_fragments`.
 #[unsafe(no_mangle)]
@@ -45,16 +45,16 @@ pub extern "C" fn pef_init_order(
     alloc: Global,
     context: &mut PefContext,
     connection: u32,
-    room: &mut [usize],
+    buffer: &mut [usize],
     count: &mut usize,
 ) -> u32
     ensures same { held context.new ≡ held context.old }
-    ensures copied { CopyAnswers (λ s. option_map (λ o. o.closed.init_order) (open_of s.connections connection)) (held context.old) room.old room.new count.old count.new result }
+    ensures copied { CopyAnswers (λ s. option_map (λ o. o.closed.init_order) (open_of s.connections connection)) (held context.old) buffer.old buffer.new count.old count.new result }
 {
     let Some(boxed) = take(alloc, context) else {
         return NOT_OPEN;
     };
-    let answer = copy_answer(boxed.init_order(Connection(connection)), room, count);
+    let answer = copy_answer(boxed.init_order(Connection(connection)), buffer, count);
     put(context, boxed);
     answer
 }
@@ -136,7 +136,7 @@ pub extern "C" fn pef_fragment_section(
     answer
 }
 
-/// Does the same for a context that is open.
+/// Returns what a context that is open has of a section of a fragment: its place, its kind and its share.
 fn section_in(
     context: &Context<'_>,
     connection: Connection,
@@ -155,9 +155,9 @@ fn section_in(
     })
 }
 
-/// Copies the bytes of section `index` of a fragment that is present to the front of `room`.
+/// Copies the bytes of section `index` of a fragment that is present to the front of `buffer`.
 ///
-/// Returns 0, or 200 if the room is too small, or 201 if there is no such section, or 202 if the context isn't
+/// Returns 0, or 200 if the buffer is too small, or 201 if there is no such section, or 202 if the context isn't
 /// open.
 #[unsafe(no_mangle)]
 pub extern "C" fn pef_fragment_bytes(
@@ -165,16 +165,16 @@ pub extern "C" fn pef_fragment_bytes(
     context: &mut PefContext,
     fragment: usize,
     index: usize,
-    room: &mut [u8],
+    buffer: &mut [u8],
     written: &mut usize,
 ) -> u32
     ensures same { held context.new ≡ held context.old }
-    ensures copied { CopyAnswers (λ s. option_map (λ m. m.1) (section_present s.memory s.present fragment index)) (held context.old) room.old room.new written.old written.new result }
+    ensures copied { CopyAnswers (λ s. option_map (λ m. m.1) (section_present s.memory s.present fragment index)) (held context.old) buffer.old buffer.new written.old written.new result }
 {
     let Some(boxed) = take(alloc, context) else {
         return NOT_OPEN;
     };
-    let answer = copy_answer(bytes_in(&boxed, fragment, index), room, written);
+    let answer = copy_answer(bytes_in(&boxed, fragment, index), buffer, written);
     put(context, boxed);
     answer
 }
@@ -258,16 +258,16 @@ pub extern "C" fn pef_fragment_symbol(
     answer
 }
 
-/// Copies items to the front of the caller's room.
+/// Copies items to the front of the caller's buffer.
 ///
-/// Returns 0, or 200 if the room is too small, or 201 if there are no items to copy.
-fn copy_answer<T: Copy>(items: Option<&[T]>, room: &mut [T], count: &mut usize) -> u32
-    ensures { CopiesOut (option_copied items.entry) room.old room.new count.old count.new result }
+/// Returns 0, or 200 if the buffer is too small, or 201 if there are no items to copy.
+fn copy_answer<T: Copy>(items: Option<&[T]>, buffer: &mut [T], count: &mut usize) -> u32
+    ensures { CopiesOut (option_copied items.entry) buffer.old buffer.new count.old count.new result }
 {
     let Some(items) = items else {
         return NOT_THERE;
     };
-    match copy_out(items, room, count) {
+    match copy_out(items, buffer, count) {
         Some(()) => 0,
         None => ROOM_TOO_SMALL,
     }

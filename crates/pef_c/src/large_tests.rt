@@ -59,10 +59,10 @@ fn lines(rt: &impl Abort, alloc: Global) -> String {
 
 /// A listing of 4,002 lines, at once and in a part.
 fn test_list(rt: &impl Abort, alloc: Global, container: &[u8], lines: &[u8]) {
-    let mut room = vec![in alloc; 0; 200_000].expect(rt, "memory");
+    let mut buffer = vec![in alloc; 0; 200_000].expect(rt, "memory");
     let mut written = 0;
-    assert!(rt; pef_list(alloc, container, &mut room, &mut written) == 0);
-    assert!(rt; written == lines.len() && room.starts_with(lines));
+    assert!(rt; pef_list(alloc, container, &mut buffer, &mut written) == 0);
+    assert!(rt; written == lines.len() && buffer.starts_with(lines));
     let mut part = [0; 100];
     assert!(rt; pef_list_part(alloc, container, 100_000, &mut part, &mut written) == 0);
     assert!(rt; written == 100 && Some(part.as_slice()) == lines.get(100_000..100_100));

@@ -5,19 +5,19 @@ use pef_script::{Script, ScriptFault};
 use pef_write::link_container;
 use std::alloc::Global;
 
-/// Links the script of a text, and copies its container to the front of `room`.
+/// Links the script of a text, and copies its container to the front of `buffer`.
 ///
-/// Returns 0; or 200 if the room is too small, and writes the container's length to `written`; or the number of the
+/// Returns 0; or 200 if the buffer is too small, and writes the container's length to `written`; or the number of the
 /// script's first refusal, and writes its line to `line`; or 99. In all other cases `line` becomes 0.
 #[unsafe(no_mangle)]
 pub extern "C" fn pef_link(
     alloc: Global,
     script: &[u8],
-    room: &mut [u8],
+    buffer: &mut [u8],
     written: &mut usize,
     line: &mut usize,
 ) -> u32
-    ensures { LinkAnswers script.now room.old room.new written.old written.new line.new result }
+    ensures { LinkAnswers script.now buffer.old buffer.new written.old written.new line.new result }
 {
     *line = 0;
     let script = match Script::read(alloc, script) {
@@ -31,7 +31,7 @@ pub extern "C" fn pef_link(
     let Ok(linked) = link_container(alloc, &script) else {
         return OUT_OF_MEMORY;
     };
-    match copy_out(linked.bytes(), room, written) {
+    match copy_out(linked.bytes(), buffer, written) {
         Some(()) => 0,
         None => ROOM_TOO_SMALL,
     }

@@ -85,7 +85,7 @@ fn library_help(number: u32) -> Option<&'static str>
 {
     match number {
         200 => Some(
-            "The room for the result is too small. Call again with a room of the length that was stored.",
+            "The buffer for the result is too small. Call again with a buffer of the length that was stored.",
         ),
         201 => Some("There is nothing under this number."),
         202 => Some("The context isn't open. Open it by pef_open first."),

@@ -41,14 +41,14 @@ term a 16
 
 /// Returns the container of the script, with a date, and with a default address of section 1.
 fn container(rt: &impl Abort, alloc: Global) -> [u8; 556] {
-    let mut room = [0; 556];
+    let mut buffer = [0; 556];
     let mut written = 0;
     let mut line = 0;
-    let linked = pef_link(alloc, FIELDS, &mut room, &mut written, &mut line);
+    let linked = pef_link(alloc, FIELDS, &mut buffer, &mut written, &mut line);
     assert!(rt; linked == 0 && written == 556);
-    room[16..20].copy_from_slice(&[1, 2, 3, 4]);
-    room[72..76].copy_from_slice(&[5, 6, 7, 8]);
-    room
+    buffer[16..20].copy_from_slice(&[1, 2, 3, 4]);
+    buffer[72..76].copy_from_slice(&[5, 6, 7, 8]);
+    buffer
 }
 
 const HEADER: PefHeader = PefHeader {
@@ -87,7 +87,7 @@ const LOADER: PefLoader = PefLoader {
 
 #[test]
 fn headers(rt: HostRuntime) {
-    let room = container(&rt, rt.alloc());
+    let buffer = container(&rt, rt.alloc());
     let mut header = PefHeader {
         date_time_stamp: 7,
         old_def_version: 7,
@@ -96,7 +96,7 @@ fn headers(rt: HostRuntime) {
         section_count: 7,
         instantiated_section_count: 7,
     };
-    assert!(rt; pef_header(&room, &mut header) == 0 && header == HEADER);
+    assert!(rt; pef_header(&buffer, &mut header) == 0 && header == HEADER);
     let mut section = PefSection {
         default_address: 7,
         total_size: 7,
@@ -108,7 +108,7 @@ fn headers(rt: HostRuntime) {
         alignment: 7,
     };
     let mut raw: &[u8] = b"";
-    assert!(rt; pef_section(&room, 1, &mut section, &mut raw) == 0 && section == SECTION);
+    assert!(rt; pef_section(&buffer, 1, &mut section, &mut raw) == 0 && section == SECTION);
     assert!(rt; raw == b"\x10\x24\x05\x06\x07\x08".as_slice());
     let mut loader = PefLoader {
         main_section: 7,
@@ -122,13 +122,13 @@ fn headers(rt: HostRuntime) {
         relocation_count: 7,
         export_count: 7,
     };
-    assert!(rt; pef_loader(&room, &mut loader) == 0 && loader == LOADER);
+    assert!(rt; pef_loader(&buffer, &mut loader) == 0 && loader == LOADER);
 }
 
 /// The last library and an import of it. The next import is strong.
 #[test]
 fn imports(rt: HostRuntime) {
-    let room = container(&rt, rt.alloc());
+    let buffer = container(&rt, rt.alloc());
     let mut count = 7;
     let mut libraries = [PefLibrary {
         name: b"",
@@ -138,7 +138,7 @@ fn imports(rt: HostRuntime) {
         first_import: 7,
         options: 7,
     }];
-    assert!(rt; pef_libraries(&room, 2, &mut libraries, &mut count) == 0 && count == 1);
+    assert!(rt; pef_libraries(&buffer, 2, &mut libraries, &mut count) == 0 && count == 1);
     let library = libraries[0];
     assert!(rt; library.name == b"Other".as_slice() && library.options == 0x80);
     assert!(rt; library.current_version == 31 && library.old_imp_version == 32);
@@ -149,7 +149,7 @@ fn imports(rt: HostRuntime) {
         class: 7,
         weak: false,
     }; 2];
-    assert!(rt; pef_imports(&room, 3, &mut imports, &mut count) == 0 && count == 2);
+    assert!(rt; pef_imports(&buffer, 3, &mut imports, &mut count) == 0 && count == 2);
     assert!(rt; imports[0].name == b"two".as_slice() && imports[0].library == 2);
     assert!(rt; imports[0].class == 4 && imports[0].weak);
     assert!(rt; imports[1].name == b"three".as_slice() && !imports[1].weak);
@@ -158,13 +158,13 @@ fn imports(rt: HostRuntime) {
 /// The relocation header, and an export of each kind of section.
 #[test]
 fn exports(rt: HostRuntime) {
-    let room = container(&rt, rt.alloc());
+    let buffer = container(&rt, rt.alloc());
     let mut count = 7;
     let mut places = [PefRelocation {
         instructions: b"",
         section: 7,
     }];
-    assert!(rt; pef_relocations(&room, 0, &mut places, &mut count) == 0 && count == 1);
+    assert!(rt; pef_relocations(&buffer, 0, &mut places, &mut count) == 0 && count == 1);
     assert!(rt; places[0].section == 3 && places[0].instructions == b"\x00\x41".as_slice());
     let mut exports = [PefExport {
         name: b"",
@@ -172,7 +172,7 @@ fn exports(rt: HostRuntime) {
         value: 7,
         class: 7,
     }; 3];
-    assert!(rt; pef_exports(&room, 2, &mut exports, &mut count) == 0 && count == 3);
+    assert!(rt; pef_exports(&buffer, 2, &mut exports, &mut count) == 0 && count == 3);
     let [passed, within, number] = exports;
     assert!(rt; passed.name == b"three".as_slice() && passed.class == 4);
     assert!(rt; passed.section == -3 && passed.value == 3);

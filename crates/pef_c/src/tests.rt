@@ -38,23 +38,23 @@ const NO_EXPORT: PefExport<'static> = PefExport {
 
 /// Returns the container of the script.
 fn container(rt: &impl Abort, alloc: Global) -> [u8; 250] {
-    let mut room = [0; 250];
+    let mut buffer = [0; 250];
     let mut written = 0;
     let mut line = 0;
-    let linked = pef_link(alloc, SCRIPT, &mut room, &mut written, &mut line);
+    let linked = pef_link(alloc, SCRIPT, &mut buffer, &mut written, &mut line);
     assert!(rt; linked == 0 && written == 250);
-    room
+    buffer
 }
 
 /// A script is linked, and its container is listed.
 #[test]
 fn linked_and_listed(rt: HostRuntime) {
-    let mut room = [0; 512];
+    let mut buffer = [0; 512];
     let mut written = 0;
     let mut line = 7;
-    let linked = pef_link(rt.alloc(), SCRIPT, &mut room, &mut written, &mut line);
+    let linked = pef_link(rt.alloc(), SCRIPT, &mut buffer, &mut written, &mut line);
     assert!(rt; linked == 0 && line == 0 && written == 250);
-    let (container, _) = room.split_at(250);
+    let (container, _) = buffer.split_at(250);
     let mut text = [0; 1024];
     let listed = pef_list(rt.alloc(), container, &mut text, &mut written);
     assert!(rt; listed == 0 && written == LINES.len());
@@ -76,7 +76,7 @@ fn linked_and_listed(rt: HostRuntime) {
 /// A container is read part by part.
 #[test]
 fn parts(rt: HostRuntime) {
-    let room = container(&rt, rt.alloc());
+    let buffer = container(&rt, rt.alloc());
     let mut header = PefHeader {
         date_time_stamp: 7,
         old_def_version: 7,
@@ -85,7 +85,7 @@ fn parts(rt: HostRuntime) {
         section_count: 7,
         instantiated_section_count: 7,
     };
-    assert!(rt; pef_header(&room, &mut header) == 0);
+    assert!(rt; pef_header(&buffer, &mut header) == 0);
     assert!(rt; header.current_version == 1 && header.section_count == 3);
     assert!(rt; header.instantiated_section_count == 2 && header.date_time_stamp == 0);
 
@@ -100,85 +100,85 @@ fn parts(rt: HostRuntime) {
         alignment: 7,
     };
     let mut raw: &[u8] = b"";
-    assert!(rt; pef_section(&room, 0, &mut section, &mut raw) == 0);
+    assert!(rt; pef_section(&buffer, 0, &mut section, &mut raw) == 0);
     assert!(rt; section.kind == 0 && section.share == 4 && section.total_size == 8);
     assert!(rt; raw == b"\x00\x11\x22\x33\x44\x55\x66\x77".as_slice());
-    assert!(rt; pef_section(&room, 3, &mut section, &mut raw) == 201);
-    assert!(rt; pef_section_name(&room, 0, &mut raw) == 201);
+    assert!(rt; pef_section(&buffer, 3, &mut section, &mut raw) == 201);
+    assert!(rt; pef_section_name(&buffer, 0, &mut raw) == 201);
 }
 
 /// The tables of a loader section are read.
 #[test]
 fn tables(rt: HostRuntime) {
-    let room = container(&rt, rt.alloc());
+    let buffer = container(&rt, rt.alloc());
     let mut written = 7;
     let mut exports = [NO_EXPORT; 3];
-    assert!(rt; pef_exports(&room, 0, &mut exports, &mut written) == 0);
+    assert!(rt; pef_exports(&buffer, 0, &mut exports, &mut written) == 0);
     assert!(rt; written == 1 && exports[0].name == b"go".as_slice());
     assert!(rt; exports[0].section == 1 && exports[0].class == 2 && exports[1].class == 7);
-    assert!(rt; pef_imports(&room, 0, &mut [], &mut written) == 0 && written == 0);
-    assert!(rt; pef_libraries(&room, 5, &mut [], &mut written) == 0 && written == 0);
+    assert!(rt; pef_imports(&buffer, 0, &mut [], &mut written) == 0 && written == 0);
+    assert!(rt; pef_libraries(&buffer, 5, &mut [], &mut written) == 0 && written == 0);
 }
 
 /// A relocation header has the bytes of its instructions (FORMATS.md, section 7).
 #[test]
 fn relocations(rt: HostRuntime) {
-    let room = container(&rt, rt.alloc());
+    let buffer = container(&rt, rt.alloc());
     let none = PefRelocation {
         instructions: b"",
         section: 7,
     };
     let mut places = [none; 2];
     let mut count = 7;
-    assert!(rt; pef_relocations(&room, 0, &mut places, &mut count) == 0 && count == 1);
+    assert!(rt; pef_relocations(&buffer, 0, &mut places, &mut count) == 0 && count == 1);
     assert!(rt; places[0].section == 1 && places[0].instructions == b"\x46\x01".as_slice());
     assert!(rt; places[1].section == 7);
-    assert!(rt; pef_relocations(&room, 1, &mut places, &mut count) == 0 && count == 0);
+    assert!(rt; pef_relocations(&buffer, 1, &mut places, &mut count) == 0 && count == 0);
     assert!(rt; pef_relocations(b"", 0, &mut places, &mut count) == 1 && count == 0);
 }
 
 /// An export is found by its name (FORMATS.md, section 7).
 #[test]
 fn named_exports(rt: HostRuntime) {
-    let room = container(&rt, rt.alloc());
+    let buffer = container(&rt, rt.alloc());
     let mut export = NO_EXPORT;
     let mut number = 7;
-    assert!(rt; pef_export_named(&room, b"g", &mut number, &mut export) == 201);
+    assert!(rt; pef_export_named(&buffer, b"g", &mut number, &mut export) == 201);
     assert!(rt; pef_export_named(b"", b"go", &mut number, &mut export) == 1);
     assert!(rt; number == 7 && export.section == 7);
-    assert!(rt; pef_export_named(&room, b"go", &mut number, &mut export) == 0);
+    assert!(rt; pef_export_named(&buffer, b"go", &mut number, &mut export) == 0);
     assert!(rt; number == 0 && export.name == b"go".as_slice());
     assert!(rt; export.section == 1 && export.value == 0 && export.class == 2);
 }
 
-/// If a room is too small, the length that is needed is reported.
+/// If a buffer is too small, the length that is needed is reported.
 #[test]
 fn small_rooms(rt: HostRuntime) {
-    let mut room = [7; 249];
+    let mut buffer = [7; 249];
     let mut written = 0;
     let mut line = 7;
-    let linked = pef_link(rt.alloc(), SCRIPT, &mut room, &mut written, &mut line);
+    let linked = pef_link(rt.alloc(), SCRIPT, &mut buffer, &mut written, &mut line);
     assert!(rt; linked == 200 && line == 0 && written == 250);
-    assert!(rt; room == [7; 249]);
+    assert!(rt; buffer == [7; 249]);
 }
 
 /// A refusal is reported by its number, its line and its name.
 #[test]
 fn refusals(rt: HostRuntime) {
-    let mut room = [7; 8];
+    let mut buffer = [7; 8];
     let mut written = 3;
     let mut line = 0;
     let linked = pef_link(
         rt.alloc(),
         b"# a\nsection a\n",
-        &mut room,
+        &mut buffer,
         &mut written,
         &mut line,
     );
     assert!(rt; linked == 41 && line == 2 && written == 3);
-    let listed = pef_list(rt.alloc(), SCRIPT, &mut room, &mut written);
+    let listed = pef_list(rt.alloc(), SCRIPT, &mut buffer, &mut written);
     assert!(rt; listed == 2 && written == 3);
-    let listed_part = pef_list_part(rt.alloc(), SCRIPT, 0, &mut room, &mut written);
+    let listed_part = pef_list_part(rt.alloc(), SCRIPT, 0, &mut buffer, &mut written);
     assert!(rt; listed_part == 2 && written == 3);
     let mut name: &'static [u8] = b"";
     assert!(rt; pef_name(listed, &mut name) == 0);
