@@ -1,6 +1,7 @@
 pub mod Laws
 mod ConditionLemmas
 mod DescribedLemmas
+mod EnoughLemmas
 mod HeadlineLemmas
 mod ImportLemmas
 mod LeastLemmas

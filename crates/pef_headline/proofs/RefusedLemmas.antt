@@ -127,14 +127,14 @@ refused-program pairs there m new name k bad =
     subst (λ ps. HasForeign pairs ps name) bad.are.are (record { position = r.one.position; member = r.position; is = r.is; foreign = header-foreign pairs (there ++ bad.fresh) bad.fresh name r })
 
 -- so if the others are sound, none is refused
-no-image : (s : ContextState) (c : Closed) (name : List ℕ) (k : PackFault) → OthersAreSound s c → HasBadImage s.pairs s.memory (new_of s c) name k → ⊥
+pub no-image : (s : ContextState) (c : Closed) (name : List ℕ) (k : PackFault) → OthersAreSound s c → HasBadImage s.pairs s.memory (new_of s c) name k → ⊥
 no-image s c name k sound bad =
     let r = bad-image s.pairs bad.fresh name k bad.first in
     let none : image_refusal_in s.pairs r.position ≡ None = sound.images r.position (subst (λ ps. Contains ps r.position) bad.are.are r.member) (image-foreign s.pairs (positions bad.fresh) name r) in
     let some : image_refusal_in s.pairs r.position ≡ Some r.fault = r.refused in
     absurd (cc)
 
-no-header : (s : ContextState) (c : Closed) (name : List ℕ) (k : RelocFault) → OthersAreSound s c → HasBadProgram s.pairs s.present s.memory (new_of s c) name k → ⊥
+pub no-header : (s : ContextState) (c : Closed) (name : List ℕ) (k : RelocFault) → OthersAreSound s c → HasBadProgram s.pairs s.present s.memory (new_of s c) name k → ⊥
 no-header s c name k sound bad =
     let all = s.present ++ bad.fresh in
     let r = bad-program s.pairs all s.memory bad.are.empty bad.fresh name k bad.are.placed bad.first in

@@ -52,6 +52,12 @@ pub fn conditions_are_met()
     ensures { (s t : ContextState) (name : List ℕ) (number : ℕ) → Prepares s name number t → (resolve : LibrariesResolve s name) × SectionsFindRoom s resolve.closed × OthersAreSound s resolve.closed }
 {}
 
+/// The conditions are enough: where they are met, there is a state that the preparation gives, with the next connection.
+/// So, with `conditions_are_met`, a preparation can succeed exactly where they are met.
+pub fn enough_to_prepare()
+    ensures { (s : ContextState) (name : List ℕ) (resolve : LibrariesResolve s name) → SectionsFindRoom s resolve.closed → OthersAreSound s resolve.closed → (t : ContextState) × Prepares s name s.given t }
+{}
+
 /// No image of a linked container is refused. Nor is a relocation header, if its sections have places, whichever
 /// fragments are present.
 pub fn linked_is_sound()
