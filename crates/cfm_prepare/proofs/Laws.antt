@@ -10,3 +10,6 @@ pub use Rattle.cfm_prepare.proofs.RunLemmas.{present-needed}
 pub use Rattle.cfm_prepare.proofs.KeepLemmas.{run-keeps}
 -- there is a state that a preparation gives, if no new fragment lacks room or is refused
 pub use Rattle.cfm_prepare.proofs.EnoughLemmas.{prepares-to}
+-- a fragment that was placed has a place for each instantiated section of its container, as its loader section knows
+-- their number
+pub use Rattle.cfm_prepare.proofs.FragmentLemmas.{container-of, length-there}

@@ -20,7 +20,7 @@ use Rattle.pef_headline.proofs.NowLemmas.{closure-described, linked-filled, link
 use Rattle.pef_headline.proofs.PlacedLemmas.{run-pairs}
 use Rattle.pef_headline.proofs.RefusedLemmas.{refused-bound, same-closed}
 
-reached-pairs : (s : ContextState) (reached : IsReached s) → s.pairs ≡ reached.pairs
+pub reached-pairs : (s : ContextState) (reached : IsReached s) → s.pairs ≡ reached.pairs
 reached-pairs s reached = run-pairs reached.steps _ s reached.run
 
 -- a present fragment has the described memory
@@ -37,7 +37,7 @@ headline-present script s p reached linked is =
     }
 
 -- and so has the closure's fragment after a preparation
-prepared-present : (script : DescribedScript) (s t : ContextState) (name : List ℕ) (number p : ℕ) → IsReached s → HasLinked s.pairs p script → (step : Prepares s name number t) → Contains step.closure.closed.order p
+pub prepared-present : (script : DescribedScript) (s t : ContextState) (name : List ℕ) (number p : ℕ) → IsReached s → HasLinked s.pairs p script → (step : Prepares s name number t) → Contains step.closure.closed.order p
     → (has : HasDescribedMemory t p script) × IsPlacedOrKept s t p has.memory.before
 prepared-present script s t name number p reached linked step there =
     let same = reached-pairs s reached in

@@ -9,4 +9,5 @@ mod LinkedLemmas
 mod NowLemmas
 mod PlacedLemmas
 mod ProgramLemmas
+mod ReaderLemmas
 mod RefusedLemmas

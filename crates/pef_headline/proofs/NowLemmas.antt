@@ -49,7 +49,7 @@ module _ (script : DescribedScript) (k : LinkedContainer) (linked : IsLinked scr
   pub loader-is : loader_at pairs p ≡ Some linked_fragment.loader
   loader-is = ap (λ r. option_map (λ (f : Fragment). f.loader) (result_ok r)) read_as_linked.read
 
-  count-is : import_count pairs p ≡ length script.imports
+  pub count-is : import_count pairs p ≡ length script.imports
   count-is = ap (λ o. option_map_or (λ (l : Loaded). l.header.import_count) o 0) loader-is ∙ read_as_linked.of.tables.import_count
 
   pub extents-in : extents_in pairs p ≡ extents_of linked_fragment.container

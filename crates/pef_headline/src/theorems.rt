@@ -1,7 +1,7 @@
 //! The headline and two laws of refusals. They are laws of the definitions in which the crates below state their
 //! contracts. The functions do nothing.
-ghost use Rattle.std.specs.Prelude.{◌≡◌, ℕ, List, None, Err, Contains, Result, true};
-ghost use Rattle.cfm_closure.specs.Stores.{Pair};
+ghost use Rattle.std.specs.Prelude.{◌≡◌, ℕ, List, None, Some, Err, Contains, Result, true};
+ghost use Rattle.cfm_closure.specs.Stores.{Pair, place_of};
 ghost use Rattle.cfm_closure.specs.Faults.{no_container, no_loader};
 ghost use Rattle.cfm_closure.specs.Closures.{closed_of};
 ghost use Rattle.cfm_memory.specs.Extents.{ArePlaced};
@@ -17,6 +17,7 @@ ghost use Rattle.pef_pidata.specs.declared.fault.PackFault.{PackFault};
 ghost use Rattle.pef_reloc.specs.declared.fault.RelocFault.{RelocFault};
 ghost use Rattle.pef_script.specs.Script.{DescribedScript};
 ghost use Rattle.pef_headline.specs.Headline.{HasLeastPrograms, HasLinked, IsReached, LibrariesResolve, MayAnswer, OthersAreSound, PreparesAsDescribed, SectionsFindRoom, StaysAsDescribed};
+ghost use Rattle.pef_headline.specs.Memory.{HasLinkedText, ReadsDescribed, fragment_reader, root_reader};
 ghost use Rattle.pef_headline.specs.Others.{HasForeign, NamesForeign};
 ghost use Rattle.pef_views.specs.declared.fault.ViewFault.{ViewFault};
 
@@ -74,4 +75,18 @@ pub fn refusals_are_of_others()
     ensures program { (pairs : List Pair) (there : List Present) (m : Layout) (new : List ℕ) (name : List ℕ) (k : RelocFault) → HasBadProgram pairs there m new name k → HasForeign pairs new name }
     ensures container { (s : ContextState) (asked name : List ℕ) (k : ViewFault) (has : HasRoot s asked) → closed_of s.pairs has.root ≡ Err (no_container name k) → NamesForeign s.pairs name }
     ensures loader { (s : ContextState) (asked name : List ℕ) (k : LoaderFault) (has : HasRoot s asked) → closed_of s.pairs has.root ≡ Err (no_loader name k) → NamesForeign s.pairs name }
+{}
+
+/// From a text to memory. A text is a script, and a store has in place `p` the bytes that `link` gives for it. After any
+/// list of preparations and closings a root is prepared by its name, and that succeeds.
+///
+/// `fragment`: if the root's closure has `p`, `fragment_section` then returns for `p` the memory that the script
+/// describes, section by section. The addresses in it are those that the same call returns.
+///
+/// `root`: if the root itself is in `p`, `section` returns the same for the connection.
+pub fn script_to_memory()
+    ensures fragment { (text : List ℕ) (s t : ContextState) (name : List ℕ) (number p : ℕ) → IsReached s → (has : HasLinkedText s.pairs p text) → (step : Prepares s name number t) → Contains step.closure.closed.order p
+        → ReadsDescribed t p (fragment_reader t p) has.script }
+    ensures root { (text : List ℕ) (s t : ContextState) (name : List ℕ) (number p : ℕ) → IsReached s → (has : HasLinkedText s.pairs p text) → Prepares s name number t → place_of s.pairs name ≡ Some p
+        → ReadsDescribed t p (root_reader t number) has.script }
 {}
