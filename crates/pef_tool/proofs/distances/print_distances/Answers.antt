@@ -22,4 +22,4 @@ pub returns : goal.returns
 returns g c = (answer_refused (refusal_text OutOfMemory), (refuses OutOfMemory, inr (inr (c.in-Ok.ensures.text, c.in-Ok.ensures.read)), refl), c.deliver-in-Err-print.ensures)
 
 pub print-requires : goal.print-requires
-print-requires g c = certificates_print c.in-Ok.ensures.script c.in-Ok.linked c.certificates.result.now c.in-Ok.ensures.linked c.certificates.ensures
+print-requires g c = certificates_print c.in-Ok.ensures.script _ c.certificates.result.now c.in-Ok.ensures.linked c.certificates.ensures
