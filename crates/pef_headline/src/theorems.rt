@@ -53,8 +53,8 @@ pub fn conditions_are_met()
     ensures { (s t : ContextState) (name : List ℕ) (number : ℕ) → Prepares s name number t → (resolve : LibrariesResolve s name) × SectionsFindRoom s resolve.closed × OthersAreSound s resolve.closed }
 {}
 
-/// The conditions are enough: where they are met, there is a state that the preparation gives, with the next connection.
-/// So, with `conditions_are_met`, a preparation can succeed exactly where they are met.
+/// The conditions are enough: if they are met, there is a state that the preparation gives, with the next connection.
+/// So, with `conditions_are_met`, a preparation can succeed exactly if they are met.
 pub fn enough_to_prepare()
     ensures { (s : ContextState) (name : List ℕ) (resolve : LibrariesResolve s name) → SectionsFindRoom s resolve.closed → OthersAreSound s resolve.closed → (t : ContextState) × Prepares s name s.given t }
 {}
