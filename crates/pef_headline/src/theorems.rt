@@ -1,5 +1,5 @@
-//! The headline and two laws of refusals. They are laws of the definitions in which the crates below state their
-//! contracts. The functions do nothing.
+//! The headline, and the laws of its conditions, of refusals, and from a text to memory. They are laws of the
+//! definitions in which the crates below state their contracts. The functions do nothing.
 ghost use Rattle.std.specs.Prelude.{◌≡◌, ℕ, List, None, Some, Err, Contains, Result, true};
 ghost use Rattle.cfm_closure.specs.Stores.{Pair, place_of};
 ghost use Rattle.cfm_closure.specs.Faults.{no_container, no_loader};
