@@ -1,5 +1,6 @@
 //! Tests of the commands through `run`, and of the explanations of outcomes, over files, an input and an output in
-//! memory. The tests of `distances` and `check` are in a crate of their own, except those of failed allocations.
+//! memory. The tests of `distances` and `check` are in a crate of their own, except those of failed allocations and of
+//! the largest certificates.
 //!
 //! Expected values come from the documents and from worked examples, never from the program.
 #![tactic(auto)]
@@ -22,6 +23,8 @@ mod list;
 mod listings;
 #[cfg(test)]
 mod load;
+#[cfg(test)]
+mod most;
 #[cfg(test)]
 mod refused;
 #[cfg(test)]
