@@ -169,12 +169,16 @@ fn placed_again(rt: HostRuntime) -> Result<(), Fail> {
     Ok(())
 }
 
-/// Adds a fragment, and once more if an allocation fails, which adds nothing. Returns whether one failed.
+/// The names of the first fragments. A context has room for so many before its list grows.
+const FIRST_NAMES: [&[u8]; 4] = [b"A", b"C", b"D", b"E"];
+
+/// Adds a fragment after the first ones, and once more if an allocation fails, which adds nothing. Returns whether
+/// one failed.
 fn add_until_answered(rt: &impl Abort, context: &mut Context<'_>) -> bool {
     let mut answer = context.add(b"B", b"b");
     let refused = answer == Err(AddFault::OutOfMemory);
     if refused {
-        assert!(rt; context.name(0) == Some(b"A".as_slice()) && context.name(1).is_none());
+        assert!(rt; context.name(3) == Some(b"E".as_slice()) && context.name(4).is_none());
         answer = context.add(b"B", b"b");
     }
     assert!(rt; answer.is_ok());
@@ -185,10 +189,12 @@ fn add_until_answered(rt: &impl Abort, context: &mut Context<'_>) -> bool {
 #[test]
 fn added_again(rt: HostRuntime) -> Result<(), Fail> {
     let mut context = empty(rt.alloc());
-    assert!(rt; context.add(b"A", b"a").is_ok());
+    for name in FIRST_NAMES {
+        assert!(rt; context.add(name, b"a").is_ok());
+    }
     say_begins(&rt)?;
     let refused = add_until_answered(&rt, &mut context);
     say_answered(&rt, refused)?;
-    assert!(rt; context.name(1) == Some(b"B".as_slice()));
+    assert!(rt; context.name(4) == Some(b"B".as_slice()));
     Ok(())
 }
