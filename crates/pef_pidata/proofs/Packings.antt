@@ -85,27 +85,27 @@ unfolding parts_of
 some-parts image = some-without_short (runs image) (some-runs image)
 
 -- the first byte of an instruction with its count, and the bytes after them
-record IsHead (opcode count : ℕ) (rest all : List ℕ) : Type 0 where
+record IsHead (at opcode count : ℕ) (rest all : List ℕ) : Type 0 where
   first : ℕ
   behind : List ℕ
   all_is : all ≡ first ∷ behind
   opcode_is : first / 32 ≡ opcode
-  counted_is : counted (first % 32) behind ≡ Ok (count, rest)
+  counted_is : counted at (first % 32) behind ≡ Ok (count, rest)
 
-counted-low : (count : ℕ) (rest : List ℕ) → 0 < count → counted count rest ≡ Ok (count, rest)
+counted-low : (at count : ℕ) (rest : List ℕ) → 0 < count → counted at count rest ≡ Ok (count, rest)
 unfolding counted
-counted-low count rest some = elim (eqb_tells count 0) [
+counted-low at count rest some = elim (eqb_tells count 0) [
   | inl none ↦ absurd (omega (arith, some, none.1))
   | inr other ↦ rw other.0 refl
 ]
 
-counted-argument : (bytes : List ℕ) → counted 0 bytes ≡ argument bytes
+counted-argument : (at : ℕ) (bytes : List ℕ) → counted at 0 bytes ≡ argument at bytes
 unfolding counted
-counted-argument bytes = refl
+counted-argument at bytes = refl
 
-head : (opcode count : ℕ) (rest : List ℕ) → 0 < count → count < 2 ^ 32 → IsHead opcode count rest (counted_bytes opcode count ++ rest)
+head : (at opcode count : ℕ) (rest : List ℕ) → 0 < count → count < 2 ^ 32 → IsHead at opcode count rest (counted_bytes opcode count ++ rest)
 unfolding counted_bytes
-head opcode count rest some fits = elim (leb_tells (suc count) 32) [
+head at opcode count rest some fits = elim (leb_tells (suc count) 32) [
   | inl low ↦
       (let count_is : (opcode * 32 + count) % 32 ≡ count = omega (arith, low.1) in
       rw low.0 (record {
@@ -113,7 +113,7 @@ head opcode count rest some fits = elim (leb_tells (suc count) 32) [
         behind = rest;
         all_is = refl;
         opcode_is = omega (arith, low.1);
-        counted_is = rw count_is (counted-low count rest some);
+        counted_is = rw count_is (counted-low at count rest some);
       }))
   | inr high ↦
       (let count_is : opcode * 32 % 32 ≡ 0 = omega arith in
@@ -122,28 +122,28 @@ head opcode count rest some fits = elim (leb_tells (suc count) 32) [
         behind = argument_bytes count ++ rest;
         all_is = refl;
         opcode_is = omega arith;
-        counted_is = rw count_is (counted-argument (argument_bytes count ++ rest) ∙ argument-read count rest fits);
+        counted_is = rw count_is (counted-argument at (argument_bytes count ++ rest) ∙ argument-read at count rest fits);
       }))
 ]
 
-next-zeros : (count : ℕ) (rest all : List ℕ) → IsHead 0 count rest all → next_instruction all ≡ Ok (Zeros count, rest)
+next-zeros : (at count : ℕ) (rest all : List ℕ) → IsHead at 0 count rest all → next_instruction at all ≡ Ok (Zeros count, rest)
 unfolding next_instruction by_opcode
-next-zeros count rest all h = rw (h.all_is, h.opcode_is, h.counted_is) refl
+next-zeros at count rest all h = rw (h.all_is, h.opcode_is, h.counted_is) refl
 
-next-block : (count : ℕ) (rest all : List ℕ) → IsHead 1 count rest all → next_instruction all ≡ Ok (Block count, rest)
+next-block : (at count : ℕ) (rest all : List ℕ) → IsHead at 1 count rest all → next_instruction at all ≡ Ok (Block count, rest)
 unfolding next_instruction by_opcode
-next-block count rest all h = rw (h.all_is, h.opcode_is, h.counted_is) refl
+next-block at count rest all h = rw (h.all_is, h.opcode_is, h.counted_is) refl
 
-output_of-zeros : (room count : ℕ) (rest : List ℕ) → count ≤ room → output_of room (Zeros count, rest) ≡ Ok (replicate count 0, rest)
+output_of-zeros : (at room count : ℕ) (rest : List ℕ) → count ≤ room → output_of at room (Zeros count, rest) ≡ Ok (replicate count 0, rest)
 unfolding output_of
-output_of-zeros room count rest within = elim (leb_tells (suc room) count) [
+output_of-zeros at room count rest within = elim (leb_tells (suc room) count) [
   | inl above ↦ absurd (omega (arith, within, above.1))
   | inr not ↦ rw (not.0, leb-suc-zero (length rest)) refl
 ]
 
-output_of-block : (room : ℕ) (bytes rest : List ℕ) → length bytes ≤ room → output_of room (Block (length bytes), bytes ++ rest) ≡ Ok (bytes, rest)
+output_of-block : (at room : ℕ) (bytes rest : List ℕ) → length bytes ≤ room → output_of at room (Block (length bytes), bytes ++ rest) ≡ Ok (bytes, rest)
 unfolding output_of
-output_of-block room bytes rest within = elim (leb_tells (suc room) (length bytes)) [
+output_of-block at room bytes rest within = elim (leb_tells (suc room) (length bytes)) [
   | inl above ↦ absurd (omega (arith, within, above.1))
   | inr not ↦ (elim (leb_tells (suc (length (bytes ++ rest))) (length bytes)) [
     | inl few ↦ absurd (omega (arith, few.1, length-append bytes rest))
@@ -152,31 +152,31 @@ output_of-block room bytes rest within = elim (leb_tells (suc room) (length byte
 ]
 
 -- an instruction spells its part
-part-read : (part : Part) (room : ℕ) (rest : List ℕ) → 0 < part_len part → part_len part ≤ room → part_len part < 2 ^ 32 → next_output room (part_bytes part ++ rest) ≡ Ok (part_image part, rest)
+part-read : (at : ℕ) (part : Part) (room : ℕ) (rest : List ℕ) → 0 < part_len part → part_len part ≤ room → part_len part < 2 ^ 32 → next_output at room (part_bytes part ++ rest) ≡ Ok (part_image part, rest)
 unfolding next_output part_bytes
-part-read (zeros count) room rest some within fits =
-    let next = next-zeros count rest (counted_bytes 0 count ++ rest) (head 0 count rest some fits) in
-    rw next (output_of-zeros room count rest within)
-part-read (block bytes) room rest some within fits =
-    let next = next-block (length bytes) (bytes ++ rest) (counted_bytes 1 (length bytes) ++ (bytes ++ rest)) (head 1 (length bytes) (bytes ++ rest) some fits) in
-    rw (append_assoc (counted_bytes 1 (length bytes)) bytes rest, next) (output_of-block room bytes rest within)
+part-read at (zeros count) room rest some within fits =
+    let next = next-zeros at count rest (counted_bytes 0 count ++ rest) (head at 0 count rest some fits) in
+    rw next (output_of-zeros at room count rest within)
+part-read at (block bytes) room rest some within fits =
+    let next = next-block at (length bytes) (bytes ++ rest) (counted_bytes 1 (length bytes) ++ (bytes ++ rest)) (head at 1 (length bytes) (bytes ++ rest) some fits) in
+    rw (append_assoc (counted_bytes 1 (length bytes)) bytes rest, next) (output_of-block at room bytes rest within)
 
 length-part_image : (part : Part) → length (part_image part) ≡ part_len part
 length-part_image (zeros count) = length-replicate count 0
 length-part_image (block bytes) = refl
 
-parts-read : (n : ℕ) (parts : List Part) → length parts ≤ n → AreSome parts → length (image_of parts) < 2 ^ 32 → pattern n (spelling parts) (length (image_of parts)) ≡ Ok (image_of parts)
-parts-read zero [] enough all fits = refl
-parts-read (suc n) [] enough all fits = refl
-parts-read zero (part ∷ parts) enough all fits = absurd (omega arith)
-parts-read (suc n) (part ∷ parts) enough all fits =
-    let len = length-append (part_image part) (image_of parts) in
+parts-read : (len n : ℕ) (parts : List Part) → length parts ≤ n → AreSome parts → length (image_of parts) < 2 ^ 32 → pattern len n (spelling parts) (length (image_of parts)) ≡ Ok (image_of parts)
+parts-read len zero [] enough all fits = refl
+parts-read len (suc n) [] enough all fits = refl
+parts-read len zero (part ∷ parts) enough all fits = absurd (omega arith)
+parts-read len (suc n) (part ∷ parts) enough all fits =
+    let both = length-append (part_image part) (image_of parts) in
     let part_is = length-part_image part in
     let room : ℕ = length (part_image part ++ image_of parts) in
-    let left : room - length (part_image part) ≡ length (image_of parts) = omega (arith, len) in
-    let next = part-read part room (spelling parts) all.0 (omega (arith, len, part_is)) (omega (arith, len, part_is, fits)) in
-    let others = parts-read n parts (omega arith) all.1 (omega (arith, len, fits)) in
-    pattern_next n (part_bytes part ++ spelling parts) (spelling parts) (part_image part) room (omega (arith, len, part_is, all.0)) next ∙ rw (left, others) refl
+    let left : room - length (part_image part) ≡ length (image_of parts) = omega (arith, both) in
+    let next = part-read (len - length (part_bytes part ++ spelling parts)) part room (spelling parts) all.0 (omega (arith, both, part_is)) (omega (arith, both, part_is, fits)) in
+    let others = parts-read len n parts (omega arith) all.1 (omega (arith, both, fits)) in
+    pattern_next len n (part_bytes part ++ spelling parts) (spelling parts) (part_image part) room (omega (arith, both, part_is, all.0)) next ∙ rw (left, others) refl
 
 -- an instruction has at least one byte
 some_bytes : (opcode count : ℕ) → 0 < length (counted_bytes opcode count)
@@ -239,5 +239,5 @@ pub packed-expands : PackedExpands
 unfolding pattern_text packed_of
 packed-expands image fits =
     let same = image-parts image in
-    let read = parts-read (length (spelling (parts_of image))) (parts_of image) (length-spelling (parts_of image)) (some-parts image) (rw same fits) in
+    let read = parts-read (length (spelling (parts_of image))) (length (spelling (parts_of image))) (parts_of image) (length-spelling (parts_of image)) (some-parts image) (rw same fits) in
     rw same at read

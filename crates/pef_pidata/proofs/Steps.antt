@@ -13,7 +13,8 @@ use Rattle.pef_pidata.specs.Pattern.{pattern, pattern_text, next_output}
 pub record IsLeft (packed out rest : List ℕ) (at : ℕ) : Type 0 where
   pub most : ℕ
   pub bound : length rest ≤ most
-  pub same : result_map (λ more. take at out ++ more) (pattern most rest (length out - at)) ≡ pattern_text packed (length out)
+  pub within : length rest ≤ length packed
+  pub same : result_map (λ more. take at out ++ more) (pattern (length packed) most rest (length out - at)) ≡ pattern_text packed (length out)
 
 map_same : {A F : Type 0} (r : Result A F) → result_map (λ x. x) r ≡ r
 map_same (Ok x) = refl
@@ -30,49 +31,50 @@ pub left_begun : (packed out : List ℕ) → IsLeft packed out packed 0
 unfolding pattern_text
 left_begun packed out =
     let all : length out - 0 ≡ length out = omega arith in
-    record { most = length packed; bound = omega arith; same = rw all (map_same (pattern (length packed) packed (length out))) }
+    record { most = length packed; bound = omega arith; within = omega arith; same = rw all (map_same (pattern (length packed) (length packed) packed (length out))) }
 
 -- an instruction's output goes before what the others spell
-pub pattern_next : (n : ℕ) (rest after piece : List ℕ) (room : ℕ) → 0 < room → next_output room rest ≡ Ok (piece, after) → pattern (suc n) rest room ≡ result_map (λ more. piece ++ more) (pattern n after (room - length piece))
-pattern_next n rest after piece room some is =
+pub pattern_next : (len n : ℕ) (rest after piece : List ℕ) (room : ℕ) → 0 < room → next_output (len - length rest) room rest ≡ Ok (piece, after) → pattern len (suc n) rest room ≡ result_map (λ more. piece ++ more) (pattern len n after (room - length piece))
+pattern_next len n rest after piece room some is =
     elim (eqb_tells room 0) [
       | inl none ↦ absurd (omega (arith, none.1))
       | inr other ↦ rw (other.0, is) refl
     ]
 
-pub left_next : (packed out written rest after piece : List ℕ) (at len : ℕ) → IsLeft packed out rest at → at < length out → next_output (length out - at) rest ≡ Ok (piece, after) → length after < length rest
+pub left_next : (packed out written rest after piece : List ℕ) (at len : ℕ) → IsLeft packed out rest at → at < length out → next_output (length packed - length rest) (length out - at) rest ≡ Ok (piece, after) → length after < length rest
     → length written ≡ length out → len ≡ length piece → take (at + len) written ≡ take at out ++ piece → IsLeft packed written after (at + len)
 left_next packed out written rest after piece at len left under is shorter same_len len_is written_is = go left.most left.bound left.same
   where
-    go : (n : ℕ) → length rest ≤ n → result_map (λ more. take at out ++ more) (pattern n rest (length out - at)) ≡ pattern_text packed (length out) → IsLeft packed written after (at + len)
+    go : (n : ℕ) → length rest ≤ n → result_map (λ more. take at out ++ more) (pattern (length packed) n rest (length out - at)) ≡ pattern_text packed (length out) → IsLeft packed written after (at + len)
     go zero bound same = absurd (omega arith)
     go (suc n) bound same =
         let room : length written - (at + len) ≡ length out - at - length piece = omega arith in
-        let next = pattern_next n rest after piece (length out - at) (omega arith) is in
+        let next = pattern_next (length packed) n rest after piece (length out - at) (omega arith) is in
         record {
           most = n;
           bound = omega arith;
-          same = rw (room, written_is, same_len) (map_joined (take at out) piece (pattern n after (length out - at - length piece)) ∙ rw next at same);
+          within = omega (arith, left.within);
+          same = rw (room, written_is, same_len) (map_joined (take at out) piece (pattern (length packed) n after (length out - at - length piece)) ∙ rw next at same);
         }
 
 -- a refusal of the next instruction is that of all
-pattern_refused : (n : ℕ) (rest : List ℕ) (room : ℕ) (fault : PackFault) → 0 < room → length rest ≤ n → next_output room rest ≡ Err fault → pattern n rest room ≡ Err fault
+pattern_refused : (len n : ℕ) (rest : List ℕ) (room : ℕ) (fault : PackFault) → 0 < room → length rest ≤ n → next_output (len - length rest) room rest ≡ Err fault → pattern len n rest room ≡ Err fault
 unfolding next_output next_instruction
-pattern_refused zero [] room fault some bound is =
+pattern_refused len zero [] room fault some bound is =
     elim (eqb_tells room 0) [
       | inl none ↦ absurd (omega (arith, none.1))
-      | inr other ↦ (let same : TooShort ≡ fault = same_fault {A = List ℕ × List ℕ} TooShort fault is in rw (other.0, same) refl)
+      | inr other ↦ (let same : TooShort (len - 0) ≡ fault = same_fault {A = List ℕ × List ℕ} (TooShort (len - 0)) fault is in rw (other.0, same) refl)
     ]
-pattern_refused zero (b ∷ rest) room fault some bound is = absurd (omega arith)
-pattern_refused (suc n) rest room fault some bound is =
+pattern_refused len zero (b ∷ rest) room fault some bound is = absurd (omega arith)
+pattern_refused len (suc n) rest room fault some bound is =
     elim (eqb_tells room 0) [
       | inl none ↦ absurd (omega (arith, none.1))
       | inr other ↦ rw (other.0, is) refl
     ]
 
-pub left_refused : (packed out rest : List ℕ) (at : ℕ) (fault : PackFault) → IsLeft packed out rest at → at < length out → next_output (length out - at) rest ≡ Err fault → pattern_text packed (length out) ≡ Err fault
+pub left_refused : (packed out rest : List ℕ) (at : ℕ) (fault : PackFault) → IsLeft packed out rest at → at < length out → next_output (length packed - length rest) (length out - at) rest ≡ Err fault → pattern_text packed (length out) ≡ Err fault
 left_refused packed out rest at fault left under is =
-    let refused = pattern_refused left.most rest (length out - at) fault (omega arith) left.bound is in
+    let refused = pattern_refused (length packed) left.most rest (length out - at) fault (omega arith) left.bound is in
     sym left.same ∙ rw refused refl
 
 -- a part of a list has its length, and the list keeps its own when the part is written

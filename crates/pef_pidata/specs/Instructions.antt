@@ -18,56 +18,56 @@ Read A = Result (A × List ℕ) PackFault
 abbrev pub with_byte : ℕ → ℕ → ℕ
 with_byte value b = value * 128 + b % 128
 
--- an argument of which some bytes were read. The top bit is set in all bytes but the last, a fifth byte is the
+-- an argument of the instruction at a place, of which some bytes were read. The top bit is set in all bytes but the last, a fifth byte is the
 -- last, and the value is below 2 ^ 32
-abbrev pub argument_from : ℕ → ℕ → List ℕ → Read ℕ
-argument_from read value [] = Err Truncated
-argument_from read value (b ∷ rest) =
+abbrev pub argument_from : ℕ → ℕ → ℕ → List ℕ → Read ℕ
+argument_from at read value [] = Err (Truncated at)
+argument_from at read value (b ∷ rest) =
     if nat_lt b 128
-    then (if nat_lt (with_byte value b) (2 ^ 32) then Ok (with_byte value b, rest) else Err CountTooLarge)
-    else (if read == 4 then Err CountTooLarge else argument_from (read + 1) (with_byte value b) rest)
+    then (if nat_lt (with_byte value b) (2 ^ 32) then Ok (with_byte value b, rest) else Err (CountTooLarge at))
+    else (if read == 4 then Err (CountTooLarge at) else argument_from at (read + 1) (with_byte value b) rest)
 
 -- an argument, and the bytes after it
-unfoldable pub argument : List ℕ → Read ℕ
-argument bytes = argument_from 0 0 bytes
+unfoldable pub argument : ℕ → List ℕ → Read ℕ
+argument at bytes = argument_from at 0 0 bytes
 
 -- the count of an instruction: that in its first byte, or an argument if that is 0
-unfoldable pub counted : ℕ → List ℕ → Read ℕ
-counted count bytes = if count == 0 then argument bytes else Ok (count, bytes)
+unfoldable pub counted : ℕ → ℕ → List ℕ → Read ℕ
+counted at count bytes = if count == 0 then argument at bytes else Ok (count, bytes)
 
 -- the arguments of an instruction with parts: how many bytes the common part has, how many each custom part,
 -- and how many custom parts there are
-unfoldable pub woven_arguments : ℕ → List ℕ → Read Woven
-woven_arguments low bytes = do
-  common ← counted low bytes
-  custom ← argument common.1
-  parts ← argument custom.1
+unfoldable pub woven_arguments : ℕ → ℕ → List ℕ → Read Woven
+woven_arguments at low bytes = do
+  common ← counted at low bytes
+  custom ← argument at common.1
+  parts ← argument at custom.1
   Ok (record { common = common.0; custom = custom.0; parts = parts.0 }, parts.1)
 
 -- an instruction by its opcode, from its count on: zero, block copy, repeated block, and repeated block or
 -- zeros interleaved with custom parts (kPEFPkDataZero, kPEFPkDataBlock, kPEFPkDataRepeat,
 -- kPEFPkDataRepeatBlock, kPEFPkDataRepeatZero)
-unfoldable pub by_opcode : ℕ → ℕ → List ℕ → Read Instruction
-by_opcode opcode low bytes =
+unfoldable pub by_opcode : ℕ → ℕ → ℕ → List ℕ → Read Instruction
+by_opcode at opcode low bytes =
     if opcode == 0 then (do
-      count ← counted low bytes
+      count ← counted at low bytes
       Ok (Zeros count.0, count.1))
     else if opcode == 1 then (do
-      count ← counted low bytes
+      count ← counted at low bytes
       Ok (Block count.0, count.1))
     else if opcode == 2 then (do
-      count ← counted low bytes
-      repeats ← argument count.1
+      count ← counted at low bytes
+      repeats ← argument at count.1
       Ok (Repeat count.0 repeats.0, repeats.1))
     else if opcode == 3 then (do
-      arguments ← woven_arguments low bytes
+      arguments ← woven_arguments at low bytes
       Ok (Weave arguments.0, arguments.1))
     else if opcode == 4 then (do
-      arguments ← woven_arguments low bytes
+      arguments ← woven_arguments at low bytes
       Ok (WeaveZeros arguments.0, arguments.1))
-    else Err BadOpcode
+    else Err (BadOpcode at)
 
--- the next instruction
-unfoldable pub next_instruction : List ℕ → Read Instruction
-next_instruction [] = Err TooShort
-next_instruction (b ∷ rest) = by_opcode (b / 32) (b % 32) rest
+-- the instruction at a place, of the bytes from there on
+unfoldable pub next_instruction : ℕ → List ℕ → Read Instruction
+next_instruction at [] = Err (TooShort at)
+next_instruction at (b ∷ rest) = by_opcode at (b / 32) (b % 32) rest

@@ -49,25 +49,25 @@ output (Repeat count repeats) bytes = repeated (repeats + 1) bytes
 output (Weave w) bytes = woven w.parts w.custom (take w.common bytes) (drop w.common bytes)
 output (WeaveZeros w) bytes = woven w.parts w.custom (replicate w.common 0) bytes
 
--- an instruction that was read, if its output has room: its output, and the bytes after those that it copies
-unfoldable pub output_of : ℕ → Instruction × List ℕ → Read (List ℕ)
-output_of room (instruction, bytes) =
-    if nat_lt room (spelled_len instruction) then Err TooLong
-    else if nat_lt (length bytes) (copied_len instruction) then Err Truncated
+-- an instruction that was read at a place, if its output has room: its output, and the bytes after those that it copies
+unfoldable pub output_of : ℕ → ℕ → Instruction × List ℕ → Read (List ℕ)
+output_of at room (instruction, bytes) =
+    if nat_lt room (spelled_len instruction) then Err (TooLong at)
+    else if nat_lt (length bytes) (copied_len instruction) then Err (Truncated at)
     else Ok (output instruction (take (copied_len instruction) bytes), drop (copied_len instruction) bytes)
 
--- the output of the next instruction, and the bytes after it
-unfoldable pub next_output : ℕ → List ℕ → Read (List ℕ)
-next_output room packed = next_instruction packed >>= output_of room
+-- the output of the instruction at a place, and the bytes after it
+unfoldable pub next_output : ℕ → ℕ → List ℕ → Read (List ℕ)
+next_output at room packed = next_instruction at packed >>= output_of at room
 
--- the output of at most n instructions, until no room is left
-abbrev pub pattern : ℕ → List ℕ → ℕ → Result (List ℕ) PackFault
-pattern zero packed room = if room == 0 then Ok [] else Err TooShort
-pattern (suc n) packed room =
+-- the output of at most n instructions, until no room is left: those at the end of so many packed bytes
+abbrev pub pattern : ℕ → ℕ → List ℕ → ℕ → Result (List ℕ) PackFault
+pattern len zero packed room = if room == 0 then Ok [] else Err (TooShort (len - length packed))
+pattern len (suc n) packed room =
     if room == 0 then Ok []
-    else (next_output room packed >>= (λ next. result_map (λ more. next.0 ++ more) (pattern n next.1 (room - length next.0))))
+    else (next_output (len - length packed) room packed >>= (λ next. result_map (λ more. next.0 ++ more) (pattern len n next.1 (room - length next.0))))
 
 -- the bytes that packed bytes spell at a length, or the first refusal. No instruction is shorter than a byte, so
 -- there are no more instructions than bytes
 unfoldable pub pattern_text : List ℕ → ℕ → Result (List ℕ) PackFault
-pattern_text packed room = pattern (length packed) packed room
+pattern_text packed room = pattern (length packed) (length packed) packed room

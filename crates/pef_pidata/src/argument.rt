@@ -18,32 +18,32 @@ pub(crate) struct Argument<'a> {
     pub rest: &'a [u8],
 }
 
-/// Reads an argument: seven bits a byte, the highest first.
+/// Reads an argument of the instruction at `at`: seven bits a byte, the highest first.
 #[tactic(auto, unfolding(crate::specs::Instructions::argument))]
-pub(crate) fn read_argument(packed: &[u8]) -> Result<Argument<'_>, PackFault>
-    ensures read { result_map argument_seen result ≡ argument packed.now }
+pub(crate) fn read_argument(at: usize, packed: &[u8]) -> Result<Argument<'_>, PackFault>
+    ensures read { result_map argument_seen result ≡ argument at packed.now }
     ensures shorter { IfOk result (λ a. length a.rest.now < length packed.now) }
 {
     let mut value: u64 = 0;
     for (i, byte) in packed.iter().enumerate() {
         value = value * u64::from(MORE) + u64::from(byte % MORE);
         if *byte < MORE {
-            return ended(value, &packed[i + 1..]);
+            return ended(at, value, &packed[i + 1..]);
         }
         if i == LAST {
-            return Err(PackFault::CountTooLarge);
+            return Err(PackFault::CountTooLarge { at });
         }
     }
-    Err(PackFault::Truncated)
+    Err(PackFault::Truncated { at })
 }
 
 /// Returns an argument whose last byte was read, if its value fits 32 bits.
-fn ended(value: u64, rest: &[u8]) -> Result<Argument<'_>, PackFault>
-    ensures read { result_map argument_seen result ≡ (if nat_lt value (2 ^ 32) then Ok (value, rest.now) else Err PackFault.CountTooLarge) }
+fn ended(at: usize, value: u64, rest: &[u8]) -> Result<Argument<'_>, PackFault>
+    ensures read { result_map argument_seen result ≡ (if nat_lt value (2 ^ 32) then Ok (value, rest.now) else Err (PackFault.CountTooLarge at)) }
     ensures rest { IfOk result (λ a. a.rest.now ≡ rest.now) }
 {
     if value > u64::from(u32::MAX) {
-        return Err(PackFault::CountTooLarge);
+        return Err(PackFault::CountTooLarge { at });
     }
     Ok(Argument {
         value: value as u32,
@@ -51,14 +51,14 @@ fn ended(value: u64, rest: &[u8]) -> Result<Argument<'_>, PackFault>
     })
 }
 
-/// Reads an instruction's count: that in its first byte, or an argument if that is 0.
+/// Reads the count of the instruction at `at`: that in its first byte, or an argument if that is 0.
 #[tactic(auto, unfolding(crate::specs::Instructions::counted))]
-pub(crate) fn read_count(low: u8, packed: &[u8]) -> Result<Argument<'_>, PackFault>
-    ensures read { result_map argument_seen result ≡ counted low packed.now }
+pub(crate) fn read_count(at: usize, low: u8, packed: &[u8]) -> Result<Argument<'_>, PackFault>
+    ensures read { result_map argument_seen result ≡ counted at low packed.now }
     ensures shorter { IfOk result (λ a. length a.rest.now ≤ length packed.now) }
 {
     if low == 0 {
-        return read_argument(packed);
+        return read_argument(at, packed);
     }
     Ok(Argument {
         value: u32::from(low),

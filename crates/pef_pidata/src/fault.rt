@@ -1,23 +1,25 @@
 ghost use Rattle.std.specs.Prelude.{◌≡◌};
-ghost use Rattle.pef_pidata.specs.Faults.{fault_name, fault_number};
+ghost use Rattle.pef_pidata.specs.Faults.{fault_name, fault_number, fault_offset};
 
 use std::alloc::AllocError;
 use std::fmt;
 use thiserror::Error;
 
 /// Why packed bytes don't expand, or an image can't be packed. The text is the refusal's name.
+///
+/// `at` is the offset in the packed bytes of the first byte of the instruction that has the fault.
 #[derive(Clone, Copy, Debug, PartialEq, Eq, Error)]
 pub enum PackFault {
     /// The packed bytes end inside an instruction.
-    Truncated,
+    Truncated { at: usize },
     /// An instruction has an unknown opcode.
-    BadOpcode,
+    BadOpcode { at: usize },
     /// An argument has more than 32 bits, or more than five bytes.
-    CountTooLarge,
+    CountTooLarge { at: usize },
     /// An instruction spells more bytes than are left to write.
-    TooLong,
-    /// The packed bytes end before all bytes are written.
-    TooShort,
+    TooLong { at: usize },
+    /// The packed bytes end before all bytes are written; `at` is their length.
+    TooShort { at: usize },
     /// An allocation failed.
     OutOfMemory,
 }
@@ -28,11 +30,11 @@ impl PackFault {
         ensures { result ≡ fault_number self.now }
     {
         match self {
-            PackFault::Truncated => 21,
-            PackFault::BadOpcode => 22,
-            PackFault::CountTooLarge => 23,
-            PackFault::TooLong => 24,
-            PackFault::TooShort => 25,
+            PackFault::Truncated { .. } => 21,
+            PackFault::BadOpcode { .. } => 22,
+            PackFault::CountTooLarge { .. } => 23,
+            PackFault::TooLong { .. } => 24,
+            PackFault::TooShort { .. } => 25,
             PackFault::OutOfMemory => 99,
         }
     }
@@ -42,12 +44,26 @@ impl PackFault {
         ensures { result.now ≡ fault_name self.now }
     {
         match self {
-            PackFault::Truncated => "Truncated",
-            PackFault::BadOpcode => "BadOpcode",
-            PackFault::CountTooLarge => "CountTooLarge",
-            PackFault::TooLong => "TooLong",
-            PackFault::TooShort => "TooShort",
+            PackFault::Truncated { .. } => "Truncated",
+            PackFault::BadOpcode { .. } => "BadOpcode",
+            PackFault::CountTooLarge { .. } => "CountTooLarge",
+            PackFault::TooLong { .. } => "TooLong",
+            PackFault::TooShort { .. } => "TooShort",
             PackFault::OutOfMemory => "OutOfMemory",
+        }
+    }
+
+    /// Returns the offset in the packed bytes at which the fault is.
+    pub fn offset(&self) -> Option<usize>
+        ensures { result ≡ fault_offset self.now }
+    {
+        match *self {
+            PackFault::Truncated { at } => Some(at),
+            PackFault::BadOpcode { at } => Some(at),
+            PackFault::CountTooLarge { at } => Some(at),
+            PackFault::TooLong { at } => Some(at),
+            PackFault::TooShort { at } => Some(at),
+            PackFault::OutOfMemory => None,
         }
     }
 }

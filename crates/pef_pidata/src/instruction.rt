@@ -55,35 +55,35 @@ pub(crate) struct Decoded<'a> {
     pub rest: &'a [u8],
 }
 
-/// Reads the next instruction.
+/// Reads the instruction at `at`, of the packed bytes from there on.
 #[tactic(auto, unfolding(crate::specs::Instructions::next_instruction))]
-pub(crate) fn read_instruction(packed: &[u8]) -> Result<Decoded<'_>, PackFault>
-    ensures read { result_map instruction_seen result ≡ next_instruction packed.now }
+pub(crate) fn read_instruction(at: usize, packed: &[u8]) -> Result<Decoded<'_>, PackFault>
+    ensures read { result_map instruction_seen result ≡ next_instruction at packed.now }
     ensures shorter { IfOk result (λ d. length d.rest.now < length packed.now) }
 {
     match packed.split_first() {
-        Some((first, rest)) => read_arguments(*first / COUNTS, *first % COUNTS, rest),
-        None => Err(PackFault::TooShort),
+        Some((first, rest)) => read_arguments(at, *first / COUNTS, *first % COUNTS, rest),
+        None => Err(PackFault::TooShort { at }),
     }
 }
 
 #[tactic(auto, unfolding(crate::specs::Instructions::by_opcode))]
-fn read_arguments(opcode: u8, low: u8, packed: &[u8]) -> Result<Decoded<'_>, PackFault>
-    ensures read { result_map instruction_seen result ≡ by_opcode opcode low packed.now }
+fn read_arguments(at: usize, opcode: u8, low: u8, packed: &[u8]) -> Result<Decoded<'_>, PackFault>
+    ensures read { result_map instruction_seen result ≡ by_opcode at opcode low packed.now }
     ensures shorter { IfOk result (λ d. length d.rest.now ≤ length packed.now) }
 {
     match opcode {
         ZERO => {
-            let count = read_count(low, packed)?;
+            let count = read_count(at, low, packed)?;
             Ok(with_rest(Instruction::Zeros(count.value), count.rest))
         }
         BLOCK => {
-            let count = read_count(low, packed)?;
+            let count = read_count(at, low, packed)?;
             Ok(with_rest(Instruction::Block(count.value), count.rest))
         }
         REPEAT => {
-            let count = read_count(low, packed)?;
-            let repeats = read_argument(count.rest)?;
+            let count = read_count(at, low, packed)?;
+            let repeats = read_argument(at, count.rest)?;
             let instruction = Instruction::Repeat {
                 count: count.value,
                 repeats: repeats.value,
@@ -91,14 +91,14 @@ fn read_arguments(opcode: u8, low: u8, packed: &[u8]) -> Result<Decoded<'_>, Pac
             Ok(with_rest(instruction, repeats.rest))
         }
         REPEAT_BLOCK => {
-            let (woven, rest) = read_woven(low, packed)?;
+            let (woven, rest) = read_woven(at, low, packed)?;
             Ok(with_rest(Instruction::Weave(woven), rest))
         }
         REPEAT_ZERO => {
-            let (woven, rest) = read_woven(low, packed)?;
+            let (woven, rest) = read_woven(at, low, packed)?;
             Ok(with_rest(Instruction::WeaveZeros(woven), rest))
         }
-        _ => Err(PackFault::BadOpcode),
+        _ => Err(PackFault::BadOpcode { at }),
     }
 }
 
@@ -110,13 +110,13 @@ fn with_rest(instruction: Instruction, rest: &[u8]) -> Decoded<'_>
 
 /// Reads the arguments of an instruction with parts.
 #[tactic(auto, unfolding(crate::specs::Instructions::woven_arguments))]
-fn read_woven(low: u8, packed: &[u8]) -> Result<(Woven, &[u8]), PackFault>
-    ensures read { result_map (λ w. (w.0, w.1.now)) result ≡ woven_arguments low packed.now }
+fn read_woven(at: usize, low: u8, packed: &[u8]) -> Result<(Woven, &[u8]), PackFault>
+    ensures read { result_map (λ w. (w.0, w.1.now)) result ≡ woven_arguments at low packed.now }
     ensures shorter { IfOk result (λ w. length w.1.now ≤ length packed.now) }
 {
-    let common = read_count(low, packed)?;
-    let custom = read_argument(common.rest)?;
-    let parts = read_argument(custom.rest)?;
+    let common = read_count(at, low, packed)?;
+    let custom = read_argument(at, common.rest)?;
+    let parts = read_argument(at, custom.rest)?;
     let woven = Woven {
         common: common.value,
         custom: custom.value,

@@ -31,7 +31,7 @@ pub fn expand(packed: &[u8], out: &mut [u8]) -> Result<(), PackFault>
     let mut rest = packed;
     let mut at = 0;
     while at < out.len() {
-        let step = next_step(rest, out.len() - at)?;
+        let step = next_step(packed.len() - rest.len(), rest, out.len() - at)?;
         step.instruction
             .write(step.bytes, &mut out[at..at + step.len]);
         at += step.len;
@@ -40,21 +40,21 @@ pub fn expand(packed: &[u8], out: &mut [u8]) -> Result<(), PackFault>
     Ok(())
 }
 
-/// Reads the next instruction, to be written if `room` bytes are left.
+/// Reads the instruction at `at`, to be written if `room` bytes are left.
 #[tactic(auto, unfolding(crate::specs::Pattern::next_output))]
-fn next_step(packed: &[u8], room: usize) -> Result<Step<'_>, PackFault>
-    ensures step { result_map step_seen result ≡ next_output room packed.now }
+fn next_step(at: usize, packed: &[u8], room: usize) -> Result<Step<'_>, PackFault>
+    ensures step { result_map step_seen result ≡ next_output at room packed.now }
     ensures target { IfOk result (λ s. (s.len ≡ spelled_len s.instruction) × (s.len ≤ room)) }
     ensures bytes { IfOk result (λ s. length s.bytes.now ≡ copied_len s.instruction) }
     ensures shorter { IfOk result (λ s. length s.rest.now < length packed.now) }
 {
-    let decoded = read_instruction(packed)?;
-    step_of(decoded, room)
+    let decoded = read_instruction(at, packed)?;
+    step_of(at, decoded, room)
 }
 
 #[tactic(auto, unfolding(crate::specs::Pattern::output_of))]
-fn step_of(decoded: Decoded<'_>, room: usize) -> Result<Step<'_>, PackFault>
-    ensures step { result_map step_seen result ≡ output_of room (instruction_seen decoded.entry) }
+fn step_of(at: usize, decoded: Decoded<'_>, room: usize) -> Result<Step<'_>, PackFault>
+    ensures step { result_map step_seen result ≡ output_of at room (instruction_seen decoded.entry) }
     ensures target { IfOk result (λ s. (s.len ≡ spelled_len s.instruction) × (s.len ≤ room)) }
     ensures bytes { IfOk result (λ s. length s.bytes.now ≡ copied_len s.instruction) }
     ensures shorter { IfOk result (λ s. length s.rest.now ≤ length decoded.entry.rest.now) }
@@ -62,11 +62,11 @@ fn step_of(decoded: Decoded<'_>, room: usize) -> Result<Step<'_>, PackFault>
     let instruction = decoded.instruction;
     let spelled = instruction.spelled_len();
     if spelled > room as u128 {
-        return Err(PackFault::TooLong);
+        return Err(PackFault::TooLong { at });
     }
     let copied = instruction.copied_len();
     if copied > decoded.rest.len() as u64 {
-        return Err(PackFault::Truncated);
+        return Err(PackFault::Truncated { at });
     }
     let (bytes, rest) = decoded.rest.split_at(copied as usize);
     let len = spelled as usize;

@@ -7,5 +7,5 @@ abbrev pub invariant-loop-i : goal.invariant-loop-i
 invariant-loop-i l = record {
   few : l.i ≤ 4;
   bits : l.value < 2 ^ (7 * l.i);
-  rest : argument_from l.i l.value (drop l.i l.packed) ≡ argument_from 0 0 l.packed;
+  rest : argument_from l.at l.i l.value (drop l.i l.packed) ≡ argument_from l.at 0 0 l.packed;
 }
