@@ -9,7 +9,7 @@ use Rattle.pef_reloc.specs.declared.machine.Machine.{Machine}
 use Rattle.pef_reloc.specs.Decoding.{first_instr}
 use Rattle.pef_reloc.specs.Instrs.{instr_length}
 use Rattle.pef_reloc.specs.Steps.{State}
-use Rattle.pef_reloc.specs.Unrolled.{reached, repeated, block_of, block_fault, repeat_fault}
+use Rattle.pef_reloc.specs.Unrolled.{reached, repeated, block_of, block_fault, place_after, repeat_fault}
 use Rattle.pef_reloc.specs.Applied.{Addresses}
 use Rattle.pef_reloc.specs.Kept.Machines.{Holds, Moves, Runs}
 use Rattle.pef_reloc.specs.Kept.Places.{Before, Spans}
@@ -30,7 +30,7 @@ pub record BlockLeft (a : Addresses) (m : Machine) (memory bytes : List ℕ) (at
   pub leaves : (s : State) → Holds a m0 s → Leaves a m memory rest whole block s
 
 -- an instruction that ran
-more : (a : Addresses) (m m' : Machine) (memory memory' bytes : List ℕ) (at to : ℕ) (m0 : Machine) (whole : List ℕ) (block : List Instr) (x : Instr) (rest : List Instr) → Spans bytes at rest to → ((s : State) → Holds a m0 s → Leaves a m memory rest whole block s) → at < to → first_instr (drop at bytes) ≡ Ok x → Runs a m m' memory memory' (x ∷ []) None → BlockLeft a m' memory' bytes (at + 2 * instr_length x) to m0 whole block
+more : (a : Addresses) (m m' : Machine) (memory memory' bytes : List ℕ) (at to : ℕ) (m0 : Machine) (whole : List ℕ) (block : List Instr) (x : Instr) (rest : List Instr) → Spans bytes at rest to → ((s : State) → Holds a m0 s → Leaves a m memory rest whole block s) → at < to → first_instr at (drop at bytes) ≡ Ok x → Runs a m m' memory memory' (x ∷ []) None → BlockLeft a m' memory' bytes (at + 2 * instr_length x) to m0 whole block
 more a m m' memory memory' bytes at to m0 whole block x [] spans leaves under here ran = absurd (omega arith)
 more a m m' memory memory' bytes at to m0 whole block x (y ∷ ys) spans leaves under here ran =
     let same : y ≡ x = cc (spans.0, here) in
@@ -41,11 +41,11 @@ more a m m' memory memory' bytes at to m0 whole block x (y ∷ ys) spans leaves 
           leaves-more a m m' memory memory' (x ∷ []) ys whole block s (subst P same (leaves s h)) ran;
     }
 
-pub block-more : (a : Addresses) (m m' : Machine) (memory memory' bytes : List ℕ) (at to : ℕ) (m0 : Machine) (whole : List ℕ) (block : List Instr) (x : Instr) → BlockLeft a m memory bytes at to m0 whole block → at < to → first_instr (drop at bytes) ≡ Ok x → Runs a m m' memory memory' (x ∷ []) None → BlockLeft a m' memory' bytes (at + 2 * instr_length x) to m0 whole block
+pub block-more : (a : Addresses) (m m' : Machine) (memory memory' bytes : List ℕ) (at to : ℕ) (m0 : Machine) (whole : List ℕ) (block : List Instr) (x : Instr) → BlockLeft a m memory bytes at to m0 whole block → at < to → first_instr at (drop at bytes) ≡ Ok x → Runs a m m' memory memory' (x ∷ []) None → BlockLeft a m' memory' bytes (at + 2 * instr_length x) to m0 whole block
 block-more a m m' memory memory' bytes at to m0 whole block x left = more a m m' memory memory' bytes at to m0 whole block x left.rest left.spans left.leaves
 
 -- an instruction that was refused
-faulted : (a : Addresses) (m m' : Machine) (memory memory' bytes : List ℕ) (at to : ℕ) (m0 : Machine) (whole : List ℕ) (block : List Instr) (x : Instr) (f : RelocFault) (rest : List Instr) → Spans bytes at rest to → ((s : State) → Holds a m0 s → Leaves a m memory rest whole block s) → at < to → first_instr (drop at bytes) ≡ Ok x → Runs a m m' memory memory' (x ∷ []) (Some f) → Runs a m0 m' whole memory' block (Some f)
+faulted : (a : Addresses) (m m' : Machine) (memory memory' bytes : List ℕ) (at to : ℕ) (m0 : Machine) (whole : List ℕ) (block : List Instr) (x : Instr) (f : RelocFault) (rest : List Instr) → Spans bytes at rest to → ((s : State) → Holds a m0 s → Leaves a m memory rest whole block s) → at < to → first_instr at (drop at bytes) ≡ Ok x → Runs a m m' memory memory' (x ∷ []) (Some f) → Runs a m0 m' whole memory' block (Some f)
 faulted a m m' memory memory' bytes at to m0 whole block x f [] spans leaves under here ran = absurd (omega arith)
 faulted a m m' memory memory' bytes at to m0 whole block x f (y ∷ ys) spans leaves under here ran =
     let same : y ≡ x = cc (spans.0, here) in
@@ -55,15 +55,15 @@ faulted a m m' memory memory' bytes at to m0 whole block x f (y ∷ ys) spans le
       holds = λ s h none. absurd (cc none);
     }
 
-pub block-fault : (a : Addresses) (m m' : Machine) (memory memory' bytes : List ℕ) (at to : ℕ) (m0 : Machine) (whole : List ℕ) (block : List Instr) (x : Instr) (f : RelocFault) → BlockLeft a m memory bytes at to m0 whole block → at < to → first_instr (drop at bytes) ≡ Ok x → Runs a m m' memory memory' (x ∷ []) (Some f) → Runs a m0 m' whole memory' block (Some f)
+pub block-fault : (a : Addresses) (m m' : Machine) (memory memory' bytes : List ℕ) (at to : ℕ) (m0 : Machine) (whole : List ℕ) (block : List Instr) (x : Instr) (f : RelocFault) → BlockLeft a m memory bytes at to m0 whole block → at < to → first_instr at (drop at bytes) ≡ Ok x → Runs a m m' memory memory' (x ∷ []) (Some f) → Runs a m0 m' whole memory' block (Some f)
 block-fault a m m' memory memory' bytes at to m0 whole block x f left = faulted a m m' memory memory' bytes at to m0 whole block x f left.rest left.spans left.leaves
 
 -- an instruction begins at a place inside a block
-pub begins : (bytes : List ℕ) (at to : ℕ) (f : RelocFault) (rest : List Instr) → Spans bytes at rest to → at < to → first_instr (drop at bytes) ≡ Err f → ⊥
+pub begins : (bytes : List ℕ) (at to : ℕ) (f : RelocFault) (rest : List Instr) → Spans bytes at rest to → at < to → first_instr at (drop at bytes) ≡ Err f → ⊥
 begins bytes at to f [] spans under none = absurd (omega arith)
 begins bytes at to f (y ∷ ys) spans under none = let no : Ok y ≡ Err f = sym spans.0 ∙ none in cc no
 
-pub block-begins : (a : Addresses) (m : Machine) (memory bytes : List ℕ) (at to : ℕ) (m0 : Machine) (whole : List ℕ) (block : List Instr) (f : RelocFault) → BlockLeft a m memory bytes at to m0 whole block → at < to → first_instr (drop at bytes) ≡ Err f → ⊥
+pub block-begins : (a : Addresses) (m : Machine) (memory bytes : List ℕ) (at to : ℕ) (m0 : Machine) (whole : List ℕ) (block : List Instr) (f : RelocFault) → BlockLeft a m memory bytes at to m0 whole block → at < to → first_instr at (drop at bytes) ≡ Err f → ⊥
 block-begins a m memory bytes at to m0 whole block f left = begins bytes at to f left.rest left.spans
 
 -- a block that is run
@@ -92,7 +92,7 @@ pub record Reach (bytes : List ℕ) (at n : ℕ) (block : List Instr) (to : ℕ)
   pub room : 2 * n ≤ at
   pub spans : Spans bytes (at - 2 * n) block to
 
-chosen : (b : Bool) (r : Result (List Instr) RelocFault) (f : RelocFault) (block : List Instr) → cond b r (Err f) ≡ Ok block → (b ≡ true) × (r ≡ Ok block)
+chosen : (b : Bool) (r : Result (List Instr) (ℕ → RelocFault)) (f : ℕ → RelocFault) (block : List Instr) → cond b r (Err f) ≡ Ok block → (b ≡ true) × (r ≡ Ok block)
 chosen true r f block e = (refl, e)
 chosen false r f block e = absurd (cc e)
 
@@ -153,7 +153,7 @@ passes-end a m memory n i m0 whole block left past =
       holds = λ s h none. leaves-holds a m memory whole (repeated n block) s (subst (P s) (repeated-end n i block past) (left.leaves s h));
     }
 
-fine_block : (bytes : List ℕ) (before : List Instr) (r : Repeat) (at : ℕ) (found : Result (List Instr) RelocFault) → reached before r.blocks [] ≡ found → block_fault found ≡ None → Before bytes before at → Reach bytes at r.blocks (block_of before r) at
+fine_block : (bytes : List ℕ) (before : List Instr) (r : Repeat) (at : ℕ) (found : Result (List Instr) (ℕ → RelocFault)) → reached before r.blocks [] ≡ found → block_fault (place_after before) found ≡ None → Before bytes before at → Reach bytes at r.blocks (block_of before r) at
 unfolding block_of
 fine_block bytes before r at (Err f) e none stands = absurd (cc none)
 fine_block bytes before r at (Ok block) e none stands = rw e (reach bytes before r.blocks at [] block at stands refl e)

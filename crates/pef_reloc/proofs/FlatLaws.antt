@@ -10,14 +10,14 @@ use Rattle.pef_reloc.specs.declared.instr.Instr.{Instr}
 use Rattle.pef_reloc.specs.declared.instr.Instr.TheVariants.{BySectDWithSkip, BySectC, BySectD, TVector12, TVector8, VTable8, ImportRun, SmByImport, SmSetSectC, SmSetSectD, SmBySection, IncrPosition, SmRepeat, SetPosition, LgByImport, LgRepeat, LgBySection, LgSetSectC, LgSetSectD}
 use Rattle.pef_reloc.specs.declared.instr.Repeat.{Repeat}
 use Rattle.pef_reloc.specs.Instrs.{halfword_bytes, halfwords_of, instr_fits, instr_length, instrs_fit, program_length, repeat_free, repeat_of, spelled}
-use Rattle.pef_reloc.specs.Decoding.{Code, code_more, code_of}
+use Rattle.pef_reloc.specs.Decoding.{Code, code_more, code_at}
 use Rattle.pef_reloc.specs.Steps.{State, Act, add, need, acts_from, additions, all_below, is_flat, named_sections, names_below, next_state, start, trace}
 use Rattle.pef_reloc.specs.Limits.{step_limit}
 use Rattle.pef_reloc.specs.Unrolled.{first_fault, instrs_of, program_fault, unrolled, unrolled_after}
 use Rattle.pef_reloc.specs.Applied.{Addresses, Done, applied, relocated, then_done, unless_refused}
 use Rattle.pef_reloc.proofs.Acts.{need-there}
 use Rattle.pef_reloc.proofs.ActLists.{applied-append}
-use Rattle.pef_reloc.proofs.CodeLemmas.{code_of-begins, code_of-nothing, some_length}
+use Rattle.pef_reloc.proofs.CodeLemmas.{code_at-begins, code_at-nothing, some_length}
 use Rattle.pef_reloc.proofs.Decodes.{reads_back}
 use Rattle.pef_reloc.proofs.Spellings.{spelled-nothing, spelled-one}
 
@@ -57,18 +57,18 @@ behind x rest =
     ∙ drop-append_seam (halfword_bytes (halfwords_of x)) rest
 
 -- the bytes that spell instructions that fit are read as these instructions
-pub code_of-spelled : (xs : List Instr) → instrs_fit xs ≡ true → code_of (spelled xs) ≡ record { instrs = xs; fault = None }
-code_of-spelled [] fits = ap code_of spelled-nothing ∙ code_of-nothing
-code_of-spelled (x ∷ xs) fits =
+pub code_at-spelled : (at : ℕ) (xs : List Instr) → instrs_fit xs ≡ true → code_at at (spelled xs) ≡ record { instrs = xs; fault = None }
+code_at-spelled at [] fits = ap (code_at at) spelled-nothing ∙ code_at-nothing at
+code_at-spelled at (x ∷ xs) fits =
     let p = and_parts (instr_fits x) (instrs_fit xs) fits in
     let some : 0 < length (halfword_bytes (halfwords_of x) ++ spelled xs) = omega (arith, length-append (halfword_bytes (halfwords_of x)) (spelled xs), length_spelling x, some_length x) in
-    ap code_of (spelled-one x xs)
-    ∙ (code_of-begins (halfword_bytes (halfwords_of x) ++ spelled xs) some
-    ∙ rw (reads_back x (spelled xs) p.0) (ap (code_more x) (ap code_of (behind x (spelled xs)) ∙ code_of-spelled xs p.1)))
+    ap (code_at at) (spelled-one x xs)
+    ∙ (code_at-begins at (halfword_bytes (halfwords_of x) ++ spelled xs) some
+    ∙ rw (reads_back at x (spelled xs) p.0) (ap (code_more x) (ap (code_at (at + 2 * instr_length x)) (behind x (spelled xs)) ∙ code_at-spelled (at + 2 * instr_length x) xs p.1)))
 
 pub instrs_of-spelled : (xs : List Instr) → instrs_fit xs ≡ true → instrs_of (spelled xs) ≡ xs
 unfolding instrs_of
-instrs_of-spelled xs fits = ap (λ (code : Code). code.instrs) (code_of-spelled xs fits)
+instrs_of-spelled xs fits = ap (λ (code : Code). code.instrs) (code_at-spelled 0 xs fits)
 
 none_is : (r : Option Repeat) → is_none r ≡ true → r ≡ None
 none_is None e = refl
@@ -97,7 +97,7 @@ pub program_fault-spelled : (xs : List Instr) → is_flat xs ≡ true → length
 unfolding program_fault
 program_fault-spelled xs flat few =
     let p = and_parts (repeat_free xs) (instrs_fit xs) flat in
-    rw (code_of-spelled xs p.1, first_fault-flat [] 0 xs p.0 (omega arith)) refl
+    rw (code_at-spelled 0 xs p.1, first_fault-flat [] 0 xs p.0 (omega arith)) refl
 
 -- and have the effect of the list
 pub relocated-spelled : (xs : List Instr) (a : Addresses) (memory : List ℕ) → is_flat xs ≡ true → relocated (spelled xs) a memory ≡ applied a (acts_from xs start) memory

@@ -13,7 +13,7 @@ use Rattle.pef_reloc.specs.declared.fault.RelocFault.{RelocFault}
 use Rattle.pef_reloc.specs.declared.instr.Instr.{Instr}
 use Rattle.pef_reloc.specs.declared.instr.Instr.TheVariants.{BySectDWithSkip, BySectC, BySectD, TVector12, TVector8, VTable8, ImportRun, SmByImport, SmSetSectC, SmSetSectD, SmBySection, IncrPosition, SmRepeat, SetPosition, LgByImport, LgRepeat, LgBySection, LgSetSectC, LgSetSectD}
 use Rattle.pef_reloc.specs.Instrs.{halfword_bytes, halfwords_of, instr_fits, instr_length, instrs_fit, spelled}
-use Rattle.pef_reloc.specs.Decoding.{code_from, code_of, code_within, first_instr, instr_of, long_instr, opcode_instr, section_instr, short_instr, short_or_long}
+use Rattle.pef_reloc.specs.Decoding.{code_from, code_at, code_within, first_instr, instr_of, long_instr, opcode_instr, section_instr, short_instr, short_or_long}
 use Rattle.pef_reloc.specs.Unrolled.{first_fault, instrs_of, program_fault}
 use Rattle.pef_reloc.proofs.FlatLaws.{behind}
 use Rattle.pef_reloc.proofs.CodeLemmas.{some_length}
@@ -164,20 +164,20 @@ begins_long a b (c ∷ d ∷ rest) x are e =
       fits = s.fits;
     }
 
-either : (s : Option Instr) (begins : Bool) (l : Option Instr) (x : Instr) → short_or_long s begins l ≡ Ok x → (s ≡ Some x) ⊎ (l ≡ Some x)
-either (Some y) begins l x e = inl (cc e)
-either None false l x e = absurd (cc e)
-either None true None x e = absurd (cc e)
-either None true (Some y) x e = inr (cc e)
+either : (at : ℕ) (s : Option Instr) (begins : Bool) (l : Option Instr) (x : Instr) → short_or_long at s begins l ≡ Ok x → (s ≡ Some x) ⊎ (l ≡ Some x)
+either at (Some y) begins l x e = inl (cc e)
+either at None false l x e = absurd (cc e)
+either at None true None x e = absurd (cc e)
+either at None true (Some y) x e = inr (cc e)
 
 -- an instruction that is read begins the bytes
-begins_read : (bytes : List ℕ) (x : Instr) → AreBytes bytes → first_instr bytes ≡ Ok x → Begins bytes x
+begins_read : (at : ℕ) (bytes : List ℕ) (x : Instr) → AreBytes bytes → first_instr at bytes ≡ Ok x → Begins bytes x
 unfolding first_instr number_at
-begins_read [] x are e = absurd (cc e)
-begins_read (a ∷ []) x are e = absurd (cc e)
-begins_read (a ∷ b ∷ rest) x are e =
-    let there : instr_of (Some (a * 256 + b)) (number_at 2 (a ∷ b ∷ rest) 2) ≡ Ok x = ap (λ (o : Option ℕ). instr_of o (number_at 2 (a ∷ b ∷ rest) 2)) (sym (first_is a b rest)) ∙ e in
-    elim (either (short_instr (a * 256 + b)) (is_some (long_instr (a * 256 + b) 0)) (and_then (long_instr (a * 256 + b)) (number_at 2 (a ∷ b ∷ rest) 2)) x there) [
+begins_read at [] x are e = absurd (cc e)
+begins_read at (a ∷ []) x are e = absurd (cc e)
+begins_read at (a ∷ b ∷ rest) x are e =
+    let there : instr_of at (Some (a * 256 + b)) (number_at 2 (a ∷ b ∷ rest) 2) ≡ Ok x = ap (λ (o : Option ℕ). instr_of at o (number_at 2 (a ∷ b ∷ rest) 2)) (sym (first_is a b rest)) ∙ e in
+    elim (either at (short_instr (a * 256 + b)) (is_some (long_instr (a * 256 + b) 0)) (and_then (long_instr (a * 256 + b)) (number_at 2 (a ∷ b ∷ rest) 2)) x there) [
       | inl short ↦ begins_short a b rest x are short
       | inr long ↦ begins_long a b rest x are long
     ]
@@ -199,24 +199,24 @@ more_spelled bytes x instrs begins others =
     }
 
 -- instructions that were read from some bytes without a refusal spell them
-read_spelled : (n : ℕ) (bytes : List ℕ) → length bytes ≤ n → AreBytes bytes → (code_within n bytes).fault ≡ None → Spelled bytes (code_within n bytes).instrs
+read_spelled : (n at : ℕ) (bytes : List ℕ) → length bytes ≤ n → AreBytes bytes → (code_within n at bytes).fault ≡ None → Spelled bytes (code_within n at bytes).instrs
 unfolding code_within
-read_spelled zero [] few are fine = record { is = spelled-nothing; fit = refl }
-read_spelled zero (b ∷ bytes) few are fine = absurd (omega (arith, few))
-read_spelled (suc n) [] few are fine = record { is = spelled-nothing; fit = refl }
-read_spelled (suc n) (b ∷ bytes) few are fine = go (first_instr (b ∷ bytes)) refl fine
-    (λ x none. let some = some_length x in read_spelled n (drop (2 * instr_length x) (b ∷ bytes)) (omega (arith, few, length-drop (2 * instr_length x) (b ∷ bytes))) (later_bytes (2 * instr_length x) (b ∷ bytes) are) none)
+read_spelled zero at [] few are fine = record { is = spelled-nothing; fit = refl }
+read_spelled zero at (b ∷ bytes) few are fine = absurd (omega (arith, few))
+read_spelled (suc n) at [] few are fine = record { is = spelled-nothing; fit = refl }
+read_spelled (suc n) at (b ∷ bytes) few are fine = go (first_instr at (b ∷ bytes)) refl fine
+    (λ x none. let some = some_length x in read_spelled n (at + 2 * instr_length x) (drop (2 * instr_length x) (b ∷ bytes)) (omega (arith, few, length-drop (2 * instr_length x) (b ∷ bytes))) (later_bytes (2 * instr_length x) (b ∷ bytes) are) none)
   where
-    go : (r : Result Instr RelocFault) → first_instr (b ∷ bytes) ≡ r → (code_from r (λ x. code_within n (drop (2 * instr_length x) (b ∷ bytes)))).fault ≡ None
-        → ((x : Instr) → (code_within n (drop (2 * instr_length x) (b ∷ bytes))).fault ≡ None → Spelled (drop (2 * instr_length x) (b ∷ bytes)) (code_within n (drop (2 * instr_length x) (b ∷ bytes))).instrs)
-        → Spelled (b ∷ bytes) (code_from r (λ x. code_within n (drop (2 * instr_length x) (b ∷ bytes)))).instrs
-    go (Ok x) is none others = more_spelled (b ∷ bytes) x _ (begins_read (b ∷ bytes) x are is) (others x none)
+    go : (r : Result Instr RelocFault) → first_instr at (b ∷ bytes) ≡ r → (code_from r (λ x. code_within n (at + 2 * instr_length x) (drop (2 * instr_length x) (b ∷ bytes)))).fault ≡ None
+        → ((x : Instr) → (code_within n (at + 2 * instr_length x) (drop (2 * instr_length x) (b ∷ bytes))).fault ≡ None → Spelled (drop (2 * instr_length x) (b ∷ bytes)) (code_within n (at + 2 * instr_length x) (drop (2 * instr_length x) (b ∷ bytes))).instrs)
+        → Spelled (b ∷ bytes) (code_from r (λ x. code_within n (at + 2 * instr_length x) (drop (2 * instr_length x) (b ∷ bytes)))).instrs
+    go (Ok x) is none others = more_spelled (b ∷ bytes) x _ (begins_read at (b ∷ bytes) x are is) (others x none)
     go (Err f) is none others = absurd (cc none)
 
 readable_spelled : (bytes : List ℕ) → AreBytes bytes → program_fault bytes ≡ None → Spelled bytes (instrs_of bytes)
-unfolding program_fault instrs_of code_of
+unfolding program_fault instrs_of code_at
 readable_spelled bytes are fine =
-    read_spelled (length bytes) bytes (omega arith) are (neither (first_fault [] 0 (code_of bytes).instrs) (code_of bytes).fault fine).1
+    read_spelled (length bytes) 0 bytes (omega arith) are (neither (first_fault [] 0 (code_at 0 bytes).instrs) (code_at 0 bytes).fault fine).1
 
 -- readable bytes are the bytes that spell their instructions
 pub spelled-instrs_of : (bytes : List ℕ) → AreBytes bytes → program_fault bytes ≡ None → spelled (instrs_of bytes) ≡ bytes

@@ -5,7 +5,7 @@ use Rattle.pef_reloc.specs.declared.fault.RelocFault.{RelocFault}
 use Rattle.pef_reloc.specs.declared.instr.Instr.{Instr}
 use Rattle.pef_reloc.specs.declared.recent.Reader.{Reader}
 use Rattle.pef_reloc.specs.Instrs.{instr_length, repeat_of}
-use Rattle.pef_reloc.specs.Decoding.{code_of, first_instr}
+use Rattle.pef_reloc.specs.Decoding.{code_at, first_instr}
 use Rattle.pef_reloc.specs.Kept.Places.{Before}
 use Rattle.pef_reloc.specs.Kept.Readers.{Marks, Passes}
 use Rattle.pef_reloc.specs.Unrolled.{code_fault, instr_fault, program_fault, steps_as}
@@ -16,7 +16,7 @@ pub record ReadLeft (bytes : List ℕ) (at : ℕ) (reader : Reader) : Type 0 whe
   pub before : List Instr
   pub stands : Before bytes before at
   pub marks : Marks reader.begins before
-  pub rest : code_fault before reader.steps (code_of (drop at bytes)) ≡ program_fault bytes
+  pub rest : code_fault before reader.steps (code_at at (drop at bytes)) ≡ program_fault bytes
 
 pub read-start : (bytes : List ℕ) (reader : Reader) → Marks reader.begins [] → reader.steps ≡ 0 → ReadLeft bytes 0 reader
 unfolding program_fault
@@ -29,24 +29,24 @@ passed f rest last none = rw none refl
 stopped : (f : Option RelocFault) (g : RelocFault) (rest last : Option RelocFault) → f ≡ Some g → option_or (option_or f rest) last ≡ Some g
 stopped f g rest last some = rw some refl
 
-pub fault-next : (bytes : List ℕ) (at : ℕ) (x : Instr) (before : List Instr) (steps : ℕ) → at < length bytes → first_instr (drop at bytes) ≡ Ok x → instr_fault before steps (repeat_of x) ≡ None → code_fault before steps (code_of (drop at bytes)) ≡ code_fault (x ∷ before) (steps + steps_as before (repeat_of x)) (code_of (drop (at + 2 * instr_length x) bytes))
+pub fault-next : (bytes : List ℕ) (at : ℕ) (x : Instr) (before : List Instr) (steps : ℕ) → at < length bytes → first_instr at (drop at bytes) ≡ Ok x → instr_fault before steps (repeat_of x) ≡ None → code_fault before steps (code_at at (drop at bytes)) ≡ code_fault (x ∷ before) (steps + steps_as before (repeat_of x)) (code_at (at + 2 * instr_length x) (drop (at + 2 * instr_length x) bytes))
 fault-next bytes at x before steps under here none =
     ap (code_fault before steps) (code-next bytes at x under here)
     ∙ passed (instr_fault before steps (repeat_of x)) _ _ none
 
-pub fault-here : (bytes : List ℕ) (at : ℕ) (x : Instr) (before : List Instr) (steps : ℕ) (f : RelocFault) → at < length bytes → first_instr (drop at bytes) ≡ Ok x → instr_fault before steps (repeat_of x) ≡ Some f → code_fault before steps (code_of (drop at bytes)) ≡ Some f
+pub fault-here : (bytes : List ℕ) (at : ℕ) (x : Instr) (before : List Instr) (steps : ℕ) (f : RelocFault) → at < length bytes → first_instr at (drop at bytes) ≡ Ok x → instr_fault before steps (repeat_of x) ≡ Some f → code_fault before steps (code_at at (drop at bytes)) ≡ Some f
 fault-here bytes at x before steps f under here some =
     ap (code_fault before steps) (code-next bytes at x under here)
     ∙ stopped (instr_fault before steps (repeat_of x)) f _ _ some
 
-pub fault-none : (bytes : List ℕ) (at : ℕ) (before : List Instr) (steps : ℕ) (f : RelocFault) → at < length bytes → first_instr (drop at bytes) ≡ Err f → code_fault before steps (code_of (drop at bytes)) ≡ Some f
+pub fault-none : (bytes : List ℕ) (at : ℕ) (before : List Instr) (steps : ℕ) (f : RelocFault) → at < length bytes → first_instr at (drop at bytes) ≡ Err f → code_fault before steps (code_at at (drop at bytes)) ≡ Some f
 fault-none bytes at before steps f under here = ap (code_fault before steps) (code-fault bytes at f under here)
 
-pub fault-end : (bytes : List ℕ) (at : ℕ) (before : List Instr) (steps : ℕ) → length bytes ≤ at → code_fault before steps (code_of (drop at bytes)) ≡ None
+pub fault-end : (bytes : List ℕ) (at : ℕ) (before : List Instr) (steps : ℕ) → length bytes ≤ at → code_fault before steps (code_at at (drop at bytes)) ≡ None
 fault-end bytes at before steps past = ap (code_fault before steps) (code-end bytes at past)
 
 -- an instruction was passed
-pub read-more : (bytes : List ℕ) (at : ℕ) (old new : Reader) (x : Instr) (left : ReadLeft bytes at old) → at < length bytes → first_instr (drop at bytes) ≡ Ok x → Passes old new left.before x None → ReadLeft bytes (at + 2 * instr_length x) new
+pub read-more : (bytes : List ℕ) (at : ℕ) (old new : Reader) (x : Instr) (left : ReadLeft bytes at old) → at < length bytes → first_instr at (drop at bytes) ≡ Ok x → Passes old new left.before x None → ReadLeft bytes (at + 2 * instr_length x) new
 read-more bytes at old new x left under here passes = record {
   before = x ∷ left.before;
   stands = (at, refl, here, left.stands);

@@ -12,11 +12,11 @@ use Rattle.pef_reloc.specs.Decoding.{first_instr}
 use Rattle.pef_reloc.specs.Instrs.{instr_length, program_length, repeat_free, repeat_of}
 use Rattle.pef_reloc.specs.Kept.Places.{Before, Spans}
 use Rattle.pef_reloc.specs.Kept.Readers.{Marks, flat_count}
-use Rattle.pef_reloc.specs.Unrolled.{block_of, reached, repeat_fault, repeated, steps_as}
+use Rattle.pef_reloc.specs.Unrolled.{block_of, place_after, reached, repeat_fault, repeated, steps_as}
 use Rattle.pef_reloc.proofs.Blocks.{begins, reach, spans-order}
 use Rattle.pef_reloc.proofs.CodeLemmas.{some_length}
 
-either : (b : Bool) (r s : Result (List Instr) RelocFault) → is_ok r ≡ is_ok s → is_ok (cond b r (Err RepeatCuts)) ≡ is_ok (cond b s (Err RepeatCuts))
+either : (b : Bool) (r s : Result (List Instr) (ℕ → RelocFault)) → is_ok r ≡ is_ok s → is_ok (cond b r (Err RepeatCuts)) ≡ is_ok (cond b s (Err RepeatCuts))
 either true r s e = e
 either false r s e = refl
 
@@ -121,7 +121,7 @@ pub record First (bytes : List ℕ) (at to : ℕ) (rest : List Instr) (x : Instr
   pub rest_is : rest ≡ x ∷ others
   pub spans : Spans bytes (at + 2 * instr_length x) others to
 
-first-of : (bytes : List ℕ) (at to : ℕ) (rest : List Instr) (x : Instr) → Spans bytes at rest to → at < to → first_instr (drop at bytes) ≡ Ok x → First bytes at to rest x
+first-of : (bytes : List ℕ) (at to : ℕ) (rest : List Instr) (x : Instr) → Spans bytes at rest to → at < to → first_instr at (drop at bytes) ≡ Ok x → First bytes at to rest x
 first-of bytes at to [] x spans under here = absurd (omega arith)
 first-of bytes at to (y ∷ ys) x spans under here =
     let same : y ≡ x = cc (spans.0, here) in
@@ -136,7 +136,7 @@ rough_one : (r : Option Repeat) → is_some r ≡ true → is_none r ≡ false
 rough_one None e = absurd (cc e)
 rough_one (Some r) e = refl
 
-pub count-more : (bytes : List ℕ) (at to count : ℕ) (block : List Instr) (x : Instr) → CountLeft bytes at to count block → at < to → first_instr (drop at bytes) ≡ Ok x → is_some (repeat_of x) ≡ false → CountLeft bytes (at + 2 * instr_length x) to (count + 1) block
+pub count-more : (bytes : List ℕ) (at to count : ℕ) (block : List Instr) (x : Instr) → CountLeft bytes at to count block → at < to → first_instr at (drop at bytes) ≡ Ok x → is_some (repeat_of x) ≡ false → CountLeft bytes (at + 2 * instr_length x) to (count + 1) block
 count-more bytes at to count block x left under here plain =
     let f = first-of bytes at to left.rest x left.spans under here in
     let flat : repeat_free (x ∷ f.others) ≡ repeat_free f.others = rw (plain_one (repeat_of x) plain) refl in
@@ -149,18 +149,18 @@ count-more bytes at to count block x left under here plain =
     }
 
 -- a repeat in the block
-pub count-nested : (bytes : List ℕ) (at to count : ℕ) (block : List Instr) (x : Instr) → CountLeft bytes at to count block → at < to → first_instr (drop at bytes) ≡ Ok x → is_some (repeat_of x) ≡ true → flat_count block ≡ Err NestedRepeat
+pub count-nested : (bytes : List ℕ) (at to count : ℕ) (block : List Instr) (x : Instr) → CountLeft bytes at to count block → at < to → first_instr at (drop at bytes) ≡ Ok x → is_some (repeat_of x) ≡ true → flat_count to block ≡ Err (NestedRepeat to)
 count-nested bytes at to count block x left under here nested =
     let f = first-of bytes at to left.rest x left.spans under here in
     let rough : repeat_free block ≡ false = sym left.flat_is ∙ (ap repeat_free f.rest_is ∙ rw (rough_one (repeat_of x) nested) refl) in
     rw rough refl
 
 -- a place inside a block begins an instruction
-pub count-begins : (bytes : List ℕ) (at to count : ℕ) (block : List Instr) (f : RelocFault) → CountLeft bytes at to count block → at < to → first_instr (drop at bytes) ≡ Err f → ⊥
+pub count-begins : (bytes : List ℕ) (at to count : ℕ) (block : List Instr) (f : RelocFault) → CountLeft bytes at to count block → at < to → first_instr at (drop at bytes) ≡ Err f → ⊥
 count-begins bytes at to count block f left = begins bytes at to f left.rest left.spans
 
 -- a block that is counted
-counted : (bytes : List ℕ) (at to count : ℕ) (block rest : List Instr) → Spans bytes at rest to → repeat_free rest ≡ repeat_free block → count + length rest ≡ length block → to ≤ at → flat_count block ≡ Ok count
+counted : (bytes : List ℕ) (at to count : ℕ) (block rest : List Instr) → Spans bytes at rest to → repeat_free rest ≡ repeat_free block → count + length rest ≡ length block → to ≤ at → flat_count to block ≡ Ok count
 counted bytes at to count block [] spans flat long past =
     let all : length block ≡ count = omega (arith, long) in
     rw (← flat) (ap Ok all)
@@ -169,7 +169,7 @@ counted bytes at to count block (y ∷ ys) spans flat long past =
     let some = some_length y in
     absurd (omega (arith, later, some))
 
-pub count-end : (bytes : List ℕ) (at to count : ℕ) (block : List Instr) → CountLeft bytes at to count block → to ≤ at → flat_count block ≡ Ok count
+pub count-end : (bytes : List ℕ) (at to count : ℕ) (block : List Instr) → CountLeft bytes at to count block → to ≤ at → flat_count to block ≡ Ok count
 count-end bytes at to count block left = counted bytes at to count block left.rest left.spans left.flat_is left.count_is
 
 -- where the instructions before a place end
@@ -184,7 +184,7 @@ far [] block (suc n) under = refl
 far (x ∷ before) block (suc n) under =
     rw (le-leb (instr_length x) (suc n) (omega (arith, under))) (far before (x ∷ block) (suc n - instr_length x) (omega (arith, under)))
 
-cut_at : (b : Bool) (r : Result (List Instr) RelocFault) → (b ≡ true → is_ok r ≡ false → r ≡ Err RepeatCuts) → is_ok (cond b r (Err RepeatCuts)) ≡ false → cond b r (Err RepeatCuts) ≡ Err RepeatCuts
+cut_at : (b : Bool) (r : Result (List Instr) (ℕ → RelocFault)) → (b ≡ true → is_ok r ≡ false → r ≡ Err RepeatCuts) → is_ok (cond b r (Err RepeatCuts)) ≡ false → cond b r (Err RepeatCuts) ≡ Err RepeatCuts
 cut_at true r further e = further refl e
 cut_at false r further e = refl
 
@@ -198,16 +198,18 @@ cut (x ∷ before) block (suc n) inside e =
     (λ fits cuts. cut before (x ∷ block) (suc n - instr_length x) (omega (arith, inside, leb-true (instr_length x) (suc n) fits)) cuts) e
 
 -- and one that does
-there : (r : Result (List Instr) RelocFault) → is_ok r ≡ true → (block : List Instr) × (r ≡ Ok block)
+there : (r : Result (List Instr) (ℕ → RelocFault)) → is_ok r ≡ true → (block : List Instr) × (r ≡ Ok block)
 there (Ok block) e = (block, refl)
 there (Err f) e = absurd (cc e)
 
-pub steps-far : (bytes : List ℕ) (before : List Instr) (r : Repeat) (at steps : ℕ) → Before bytes before at → at < 2 * r.blocks → unless (repeat_fault before (Some r)) (Ok steps) ≡ Err RepeatTooFar
+pub steps-far : (bytes : List ℕ) (before : List Instr) (r : Repeat) (at steps : ℕ) → Before bytes before at → at < 2 * r.blocks → unless (repeat_fault before (Some r)) (Ok steps) ≡ Err (RepeatTooFar at)
 steps-far bytes before r at steps stands past =
-    rw (far before [] r.blocks (omega (arith, past, before_length bytes before at stands))) refl
+    let ends = before_length bytes before at stands in
+    rw (far before [] r.blocks (omega (arith, past, ends))) (ap (λ place. Err (RepeatTooFar place)) (sym ends))
 
 -- what the marks say about the place that a repeat reaches back to
 pub record Reaches (before : List Instr) (r : Repeat) (at : ℕ) (begins : Bool) : Type 0 where
+  pub place_is : at ≡ place_after before
   pub inside : r.blocks ≤ program_length before
   pub begins_is : is_ok (reached before r.blocks []) ≡ begins
 
@@ -217,15 +219,17 @@ reaches bytes marks before r at begins stands old some few near e =
     let inside : r.blocks ≤ program_length before = omega (arith, ends, near) in
     let place : (at - 2 * r.blocks) / 2 ≡ program_length before - r.blocks = omega (arith, ends, near) in
     record {
+      place_is = ends;
       inside = inside;
       begins_is = sym (old.begins r.blocks some few inside) ∙ (ap (λ h. get_or marks (h % 16) false) (sym place) ∙ e);
     }
 
-pub steps-cut : (before : List Instr) (r : Repeat) (at steps : ℕ) → Reaches before r at false → unless (repeat_fault before (Some r)) (Ok steps) ≡ Err RepeatCuts
-steps-cut before r at steps reach = rw (cut before [] r.blocks reach.inside reach.begins_is) refl
+pub steps-cut : (before : List Instr) (r : Repeat) (at steps : ℕ) → Reaches before r at false → unless (repeat_fault before (Some r)) (Ok steps) ≡ Err (RepeatCuts at)
+steps-cut before r at steps reach = rw (cut before [] r.blocks reach.inside reach.begins_is) (ap (λ place. Err (RepeatCuts place)) (sym reach.place_is))
 
 -- the block of a repeat whose reach begins an instruction
 pub record BlockThere (bytes : List ℕ) (before : List Instr) (r : Repeat) (at : ℕ) : Type 0 where
+  pub place_is : at ≡ place_after before
   pub block : List Instr
   pub is : reached before r.blocks [] ≡ Ok block
   pub spans : Spans bytes (at - 2 * r.blocks) block at
@@ -233,26 +237,28 @@ pub record BlockThere (bytes : List ℕ) (before : List Instr) (r : Repeat) (at 
 pub block-there : (bytes : List ℕ) (before : List Instr) (r : Repeat) (at : ℕ) → Before bytes before at → Reaches before r at true → BlockThere bytes before r at
 block-there bytes before r at stands reaches =
     let found = there (reached before r.blocks []) reaches.begins_is in
-    record { block = found.0; is = found.1; spans = (reach bytes before r.blocks at [] found.0 at stands refl found.1).spans }
+    record { place_is = reaches.place_is; block = found.0; is = found.1; spans = (reach bytes before r.blocks at [] found.0 at stands refl found.1).spans }
 
 pub length-repeated : (n : ℕ) (block : List Instr) → length (repeated n block) ≡ n * length block
 length-repeated zero block = omega arith
 length-repeated (suc n) block = rw (length-append block (repeated n block), length-repeated n block) (omega arith)
 
-nested : (b : Bool) (k steps : ℕ) (f : RelocFault) → cond b (Ok k) (Err NestedRepeat) ≡ Err f → unless (cond b None (Some NestedRepeat)) (Ok steps) ≡ Err f
-nested true k steps f e = absurd (cc e)
-nested false k steps f e = cc e
+nested : (place : ℕ) (b : Bool) (k steps : ℕ) (f : RelocFault) → cond b (Ok k) (Err (NestedRepeat place)) ≡ Err f → unless (cond b None (Some (NestedRepeat place))) (Ok steps) ≡ Err f
+nested place true k steps f e = absurd (cc e)
+nested place false k steps f e = cc e
 
 -- the steps of a repeat, from those of its block
-pub steps-nested : (bytes : List ℕ) (before : List Instr) (r : Repeat) (at steps : ℕ) (f : RelocFault) (found : BlockThere bytes before r at) → flat_count found.block ≡ Err f → unless (repeat_fault before (Some r)) (Ok steps) ≡ Err f
-steps-nested bytes before r at steps f found e = rw found.is (nested (repeat_free found.block) (length found.block) steps f e)
+pub steps-nested : (bytes : List ℕ) (before : List Instr) (r : Repeat) (at steps : ℕ) (f : RelocFault) (found : BlockThere bytes before r at) → flat_count at found.block ≡ Err f → unless (repeat_fault before (Some r)) (Ok steps) ≡ Err f
+steps-nested bytes before r at steps f found e =
+    let P : ℕ → Type 0 = λ place. flat_count place found.block ≡ Err f in
+    rw found.is (nested (place_after before) (repeat_free found.block) (length found.block) steps f (subst P found.place_is e))
 
-fine_count : (b : Bool) (k n : ℕ) → cond b (Ok k) (Err NestedRepeat) ≡ Ok n → (b ≡ true) × (k ≡ n)
-fine_count true k n e = (refl, cc e)
-fine_count false k n e = absurd (cc e)
+fine_count : (place : ℕ) (b : Bool) (k n : ℕ) → cond b (Ok k) (Err (NestedRepeat place)) ≡ Ok n → (b ≡ true) × (k ≡ n)
+fine_count place true k n e = (refl, cc e)
+fine_count place false k n e = absurd (cc e)
 
-pub steps-fine : (bytes : List ℕ) (before : List Instr) (r : Repeat) (at count : ℕ) (found : BlockThere bytes before r at) → flat_count found.block ≡ Ok count → unless (repeat_fault before (Some r)) (Ok (steps_as before (Some r))) ≡ Ok (r.passes * count + 1)
+pub steps-fine : (bytes : List ℕ) (before : List Instr) (r : Repeat) (at count : ℕ) (found : BlockThere bytes before r at) → flat_count at found.block ≡ Ok count → unless (repeat_fault before (Some r)) (Ok (steps_as before (Some r))) ≡ Ok (r.passes * count + 1)
 unfolding block_of
 steps-fine bytes before r at count found e =
-    let p = fine_count (repeat_free found.block) (length found.block) count e in
+    let p = fine_count at (repeat_free found.block) (length found.block) count e in
     rw (found.is, p.0, length-repeated r.passes found.block, p.1) refl

@@ -50,21 +50,22 @@ long_instr w v =
     else if w / 1024 == 0x2D then section_instr (w / 64 % 16) (w % 64 * 0x10000 + v)
     else None
 
--- the one instruction if there is one; otherwise the other, if its first halfword begins one
-abbrev pub short_or_long : Option Instr → Bool → Option Instr → Result Instr RelocFault
-short_or_long (Some instr) begins long = Ok instr
-short_or_long None false long = Err BadOpcode
-short_or_long None true None = Err CutInstruction
-short_or_long None true (Some instr) = Ok instr
+-- the one instruction if there is one; otherwise the other, if its first halfword begins one. A refusal has the
+-- place of that halfword
+abbrev pub short_or_long : ℕ → Option Instr → Bool → Option Instr → Result Instr RelocFault
+short_or_long at (Some instr) begins long = Ok instr
+short_or_long at None false long = Err (BadOpcode at)
+short_or_long at None true None = Err (CutInstruction at)
+short_or_long at None true (Some instr) = Ok instr
 
 -- the instruction of a first halfword, if there is one, and a second one, if there is one
-abbrev pub instr_of : Option ℕ → Option ℕ → Result Instr RelocFault
-instr_of None second = Err CutInstruction
-instr_of (Some w) second = short_or_long (short_instr w) (is_some (long_instr w 0)) (second >>= long_instr w)
+abbrev pub instr_of : ℕ → Option ℕ → Option ℕ → Result Instr RelocFault
+instr_of at None second = Err (CutInstruction at)
+instr_of at (Some w) second = short_or_long at (short_instr w) (is_some (long_instr w 0)) (second >>= long_instr w)
 
--- the instruction that begins the bytes, or why there is none
-unfoldable pub first_instr : List ℕ → Result Instr RelocFault
-first_instr bytes = instr_of (number_at 2 bytes 0) (number_at 2 bytes 2)
+-- the instruction that begins the bytes from a place of a program on, or why there is none
+unfoldable pub first_instr : ℕ → List ℕ → Result Instr RelocFault
+first_instr at bytes = instr_of at (number_at 2 bytes 0) (number_at 2 bytes 2)
 
 -- instructions, and why the bytes after them aren't one
 pub record Code : Type 0 where
@@ -82,15 +83,15 @@ abbrev pub code_from : Result Instr RelocFault → (Instr → Code) → Code
 code_from (Ok instr) rest = code_more instr (rest instr)
 code_from (Err fault) rest = record { instrs = []; fault = Some fault }
 
--- the code of the bytes, if they have at most n instructions
-unfoldable pub code_within : ℕ → List ℕ → Code
-code_within zero bytes = no_code
-code_within (suc n) [] = no_code
-code_within (suc n) (b ∷ bytes) = code_from (first_instr (b ∷ bytes)) (λ instr. code_within n (drop (2 * instr_length instr) (b ∷ bytes)))
+-- the code of the bytes from a place on, if they have at most n instructions
+unfoldable pub code_within : ℕ → ℕ → List ℕ → Code
+code_within zero at bytes = no_code
+code_within (suc n) at [] = no_code
+code_within (suc n) at (b ∷ bytes) = code_from (first_instr at (b ∷ bytes)) (λ instr. code_within n (at + 2 * instr_length instr) (drop (2 * instr_length instr) (b ∷ bytes)))
 
--- the code of the bytes: their instructions up to the first bytes that aren't one
-unfoldable pub code_of : List ℕ → Code
-code_of bytes = code_within (length bytes) bytes
+-- the code of the bytes from a place on: their instructions up to the first bytes that aren't one
+unfoldable pub code_at : ℕ → List ℕ → Code
+code_at at bytes = code_within (length bytes) at bytes
 
 -- the instruction that starts at a halfword, and none if none starts there
 abbrev pub starting : List Instr → ℕ → Option Instr

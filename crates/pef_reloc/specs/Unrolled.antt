@@ -3,20 +3,20 @@
 -- and kPEFRelocLgRepeat). A repeat runs the preceding halfwords as many more times as its count says.
 -- The pass that ran before it isn't counted. That, the refusals and the limit of steps are this
 -- project's own rules.
-use Rattle.std.specs.Prelude.{ℕ, zero, suc, ◌+◌, ◌-◌, nat_le, if◌then◌else◌, List, [], ◌∷◌, ◌++◌, length, Option, None, Some, Result, Ok, Err}
+use Rattle.std.specs.Prelude.{ℕ, zero, suc, ◌+◌, ◌-◌, ◌*◌, nat_le, if◌then◌else◌, List, [], ◌∷◌, ◌++◌, length, Option, None, Some, Result, Ok, Err}
 use Rattle.std.specs.Option.{option_or}
 use Rattle.std.specs.Result.{result_unwrap_or}
 use Rattle.pef_reloc.specs.declared.fault.RelocFault.{RelocFault}
 use Rattle.pef_reloc.specs.declared.fault.RelocFault.TheVariants.{RepeatTooFar, RepeatCuts, NestedRepeat, TooManySteps}
 use Rattle.pef_reloc.specs.declared.instr.Instr.{Instr}
 use Rattle.pef_reloc.specs.declared.instr.Repeat.{Repeat}
-use Rattle.pef_reloc.specs.Instrs.{instr_length, repeat_free, repeat_of}
-use Rattle.pef_reloc.specs.Decoding.{Code, code_of}
+use Rattle.pef_reloc.specs.Instrs.{instr_length, program_length, repeat_free, repeat_of}
+use Rattle.pef_reloc.specs.Decoding.{Code, code_at}
 pub use Rattle.pef_reloc.specs.Limits.{step_limit}
 
 -- the instructions of the last n halfwords, in front of others; of the earlier instructions, the last one
--- is first
-abbrev pub reached : List Instr → ℕ → List Instr → Result (List Instr) RelocFault
+-- is first. Where a refusal is, isn't said yet
+abbrev pub reached : List Instr → ℕ → List Instr → Result (List Instr) (ℕ → RelocFault)
 reached before zero block = Ok block
 reached [] (suc n) block = Err RepeatTooFar
 reached (instr ∷ before) (suc n) block =
@@ -54,21 +54,26 @@ abbrev pub steps_as : List Instr → Option Repeat → ℕ
 steps_as before None = 1
 steps_as before (Some r) = length (repeated r.passes (block_of before r)) + 1
 
--- why the block of a repeat is refused
-abbrev pub block_fault : Result (List Instr) RelocFault → Option RelocFault
-block_fault (Err fault) = Some fault
-block_fault (Ok block) = if repeat_free block then None else Some NestedRepeat
+-- where the bytes of instructions end, which is where the next one begins
+abbrev pub place_after : List Instr → ℕ
+place_after before = 2 * program_length before
+
+-- why the block of a repeat at a place is refused
+abbrev pub block_fault : ℕ → Result (List Instr) (ℕ → RelocFault) → Option RelocFault
+block_fault at (Err fault) = Some (fault at)
+block_fault at (Ok block) = if repeat_free block then None else Some (NestedRepeat at)
 
 abbrev pub repeat_fault : List Instr → Option Repeat → Option RelocFault
 repeat_fault before None = None
-repeat_fault before (Some r) = block_fault (reached before r.blocks [])
+repeat_fault before (Some r) = block_fault (place_after before) (reached before r.blocks [])
 
-abbrev pub steps_fault : ℕ → Option RelocFault
-steps_fault steps = if nat_le steps step_limit then None else Some TooManySteps
+-- why the instruction at a place is refused, with this many steps
+abbrev pub steps_fault : ℕ → ℕ → Option RelocFault
+steps_fault at steps = if nat_le steps step_limit then None else Some (TooManySteps at)
 
--- why an instruction is refused, after others and after this many steps
+-- why an instruction is refused, after others and after this many steps. It begins where the others end
 abbrev pub instr_fault : List Instr → ℕ → Option Repeat → Option RelocFault
-instr_fault before steps r = option_or (repeat_fault before r) (steps_fault (steps + steps_as before r))
+instr_fault before steps r = option_or (repeat_fault before r) (steps_fault (place_after before) (steps + steps_as before r))
 
 -- the first refusal of an instruction
 abbrev pub first_fault : List Instr → ℕ → List Instr → Option RelocFault
@@ -83,8 +88,8 @@ code_fault before steps code = option_or (first_fault before steps code.instrs) 
 
 -- why the bytes aren't a readable program
 unfoldable pub program_fault : List ℕ → Option RelocFault
-program_fault bytes = code_fault [] 0 (code_of bytes)
+program_fault bytes = code_fault [] 0 (code_at 0 bytes)
 
 -- the instructions of a program
 unfoldable pub instrs_of : List ℕ → List Instr
-instrs_of bytes = (code_of bytes).instrs
+instrs_of bytes = (code_at 0 bytes).instrs

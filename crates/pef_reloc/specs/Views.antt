@@ -3,7 +3,7 @@ use Rattle.std.specs.Prelude.{◌≡◌, ℕ, List, [], ◌∷◌, drop, Option,
 use Rattle.pef_reloc.specs.declared.instr.Instr.{Instr}
 use Rattle.pef_reloc.specs.declared.program.Instrs.{Instrs}
 use Rattle.pef_reloc.specs.declared.program.Program.{Program}
-use Rattle.pef_reloc.specs.Decoding.{code_of}
+use Rattle.pef_reloc.specs.Decoding.{code_at}
 
 -- the bytes of a program
 abbrev pub program_bytes : Program → List ℕ
@@ -11,7 +11,7 @@ program_bytes p = p.bytes.now
 
 -- the instructions that an iterator has before it
 abbrev pub listed : Instrs → List Instr
-listed walk = (code_of (drop walk.at walk.bytes.now)).instrs
+listed walk = (code_at walk.at (drop walk.at walk.bytes.now)).instrs
 
 -- the first of a list is taken, and nothing from an empty one
 abbrev pub TakesFirst : List Instr → Option Instr → List Instr → Type 0

@@ -13,7 +13,7 @@ use crate::opcode::{
 };
 use pef_words::Cut;
 
-/// Returns the instruction at the start of the bytes.
+/// Returns the instruction at the start of the bytes, which are those of a program from `at` on.
 ///
 /// # Errors
 ///
@@ -21,22 +21,22 @@ use pef_words::Cut;
 /// inside it.
 #[inline(always)]
 #[tactic(auto, using(crate::proofs::Halfwords::number_inside, crate::proofs::Beginnings::begins_with), unfolding(crate::specs::Decoding::first_instr))]
-pub(crate) fn first_instr(bytes: &[u8]) -> Result<Instr, RelocFault>
-    ensures value { result ≡ first_instr bytes.now }
+pub(crate) fn first_instr(at: usize, bytes: &[u8]) -> Result<Instr, RelocFault>
+    ensures value { result ≡ first_instr at bytes.now }
     ensures fits { IfOk result (λ x. instr_fits x ≡ true) }
     ensures inside { IfOk result (λ x. 2 * instr_length x ≤ length bytes.now) }
 {
     let cut = Cut::new(bytes);
-    let first = cut.u16_at(0).ok_or(RelocFault::CutInstruction)?;
+    let first = cut.u16_at(0).ok_or(RelocFault::CutInstruction { at })?;
     if let Some(instr) = short_instr(first) {
         return Ok(instr);
     }
     // The first halfword alone decides whether there is an instruction.
     let second = cut.u16_at(2);
-    let instr = long_instr(first, second.unwrap_or(0)).ok_or(RelocFault::BadOpcode)?;
+    let instr = long_instr(first, second.unwrap_or(0)).ok_or(RelocFault::BadOpcode { at })?;
     match second {
         Some(_) => Ok(instr),
-        None => Err(RelocFault::CutInstruction),
+        None => Err(RelocFault::CutInstruction { at }),
     }
 }
 
@@ -46,12 +46,12 @@ pub(crate) fn first_instr(bytes: &[u8]) -> Result<Instr, RelocFault>
 #[inline(always)]
 pub(crate) fn instr_from(bytes: &[u8], at: usize) -> Result<Instr, RelocFault>
     requires { at ≤ length bytes.now }
-    ensures value { result ≡ first_instr (drop at bytes.now) }
+    ensures value { result ≡ first_instr at (drop at bytes.now) }
     ensures fits { IfOk result (λ x. instr_fits x ≡ true) }
     ensures inside { IfOk result (λ x. at + 2 * instr_length x ≤ length bytes.now) }
 {
     let (_, rest) = bytes.split_at(at);
-    first_instr(rest)
+    first_instr(at, rest)
 }
 
 /// Returns the instruction of one halfword, if that is one.

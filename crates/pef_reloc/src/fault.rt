@@ -1,25 +1,27 @@
 ghost use Rattle.std.specs.Prelude.{◌≡◌};
-ghost use Rattle.pef_reloc.specs.Faults.{fault_name, fault_number};
+ghost use Rattle.pef_reloc.specs.Faults.{fault_halfword, fault_name, fault_number, fault_offset};
 
 use std::alloc::AllocError;
 use std::fmt;
 use thiserror::Error;
 
 /// Why a relocation program is refused, or stopped.
+///
+/// `at` is the offset in the program's bytes of the instruction that is refused.
 #[derive(Clone, Copy, Debug, PartialEq, Eq, Error)]
 pub enum RelocFault {
     /// A halfword begins no instruction.
-    BadOpcode,
+    BadOpcode { at: usize },
     /// The program ends inside an instruction, or inside a halfword.
-    CutInstruction,
+    CutInstruction { at: usize },
     /// A repeat reaches back past the program's start.
-    RepeatTooFar,
+    RepeatTooFar { at: usize },
     /// The halfwords that a repeat reaches back to start inside an instruction.
-    RepeatCuts,
+    RepeatCuts { at: usize },
     /// The halfwords that a repeat reaches back to include a repeat.
-    NestedRepeat,
+    NestedRepeat { at: usize },
     /// More instructions would be executed than a program may execute.
-    TooManySteps,
+    TooManySteps { at: usize },
     /// A word would pass the end of the section.
     WordOutside,
     /// An import doesn't exist.
@@ -36,12 +38,12 @@ impl RelocFault {
         ensures { result ≡ fault_number self.now }
     {
         match self {
-            RelocFault::BadOpcode => 31,
-            RelocFault::CutInstruction => 32,
-            RelocFault::RepeatTooFar => 33,
-            RelocFault::RepeatCuts => 34,
-            RelocFault::NestedRepeat => 35,
-            RelocFault::TooManySteps => 36,
+            RelocFault::BadOpcode { .. } => 31,
+            RelocFault::CutInstruction { .. } => 32,
+            RelocFault::RepeatTooFar { .. } => 33,
+            RelocFault::RepeatCuts { .. } => 34,
+            RelocFault::NestedRepeat { .. } => 35,
+            RelocFault::TooManySteps { .. } => 36,
             RelocFault::WordOutside => 37,
             RelocFault::ImportOutside => 38,
             RelocFault::SectionOutside => 39,
@@ -54,17 +56,41 @@ impl RelocFault {
         ensures { result.now ≡ fault_name self.now }
     {
         match self {
-            RelocFault::BadOpcode => "BadOpcode",
-            RelocFault::CutInstruction => "CutInstruction",
-            RelocFault::RepeatTooFar => "RepeatTooFar",
-            RelocFault::RepeatCuts => "RepeatCuts",
-            RelocFault::NestedRepeat => "NestedRepeat",
-            RelocFault::TooManySteps => "TooManySteps",
+            RelocFault::BadOpcode { .. } => "BadOpcode",
+            RelocFault::CutInstruction { .. } => "CutInstruction",
+            RelocFault::RepeatTooFar { .. } => "RepeatTooFar",
+            RelocFault::RepeatCuts { .. } => "RepeatCuts",
+            RelocFault::NestedRepeat { .. } => "NestedRepeat",
+            RelocFault::TooManySteps { .. } => "TooManySteps",
             RelocFault::WordOutside => "WordOutside",
             RelocFault::ImportOutside => "ImportOutside",
             RelocFault::SectionOutside => "SectionOutside",
             RelocFault::OutOfMemory => "OutOfMemory",
         }
+    }
+
+    /// Returns the offset in the program's bytes of the instruction that is refused.
+    pub fn offset(&self) -> Option<usize>
+        ensures { result ≡ fault_offset self.now }
+    {
+        match *self {
+            RelocFault::BadOpcode { at } => Some(at),
+            RelocFault::CutInstruction { at } => Some(at),
+            RelocFault::RepeatTooFar { at } => Some(at),
+            RelocFault::RepeatCuts { at } => Some(at),
+            RelocFault::NestedRepeat { at } => Some(at),
+            RelocFault::TooManySteps { at } => Some(at),
+            RelocFault::WordOutside | RelocFault::ImportOutside | RelocFault::SectionOutside =>
+                None,
+            RelocFault::OutOfMemory => None,
+        }
+    }
+
+    /// Returns the number of its first halfword.
+    pub fn halfword(&self) -> Option<usize>
+        ensures { result ≡ fault_halfword self.now }
+    {
+        Some(self.offset()? / 2)
     }
 }
 

@@ -55,7 +55,7 @@ impl Reader {
             None => 1,
         };
         if self.steps + steps > MAX_STEPS {
-            return Err(RelocFault::TooManySteps);
+            return Err(RelocFault::TooManySteps { at });
         }
         self.steps += steps;
         self.mark(instr, at);
@@ -73,11 +73,11 @@ impl Reader {
     {
         let reach = 2 * repeat.blocks as usize;
         if reach > at {
-            return Err(RelocFault::RepeatTooFar);
+            return Err(RelocFault::RepeatTooFar { at });
         }
         let from = at - reach;
         if !self.begins[from / 2 % WINDOW] {
-            return Err(RelocFault::RepeatCuts);
+            return Err(RelocFault::RepeatCuts { at });
         }
         let count = flat_count(bytes, from, at)?;
         Ok(repeat.passes * count + 1)
@@ -97,7 +97,7 @@ impl Reader {
     }
 }
 
-/// Returns the number of instructions in some bytes.
+/// Returns the number of instructions in the bytes from one place to another, where a repeat of them is.
 ///
 /// # Errors
 ///
@@ -106,7 +106,7 @@ fn flat_count(bytes: &[u8], from: usize, to: usize) -> Result<u32, RelocFault>
     requires inside { to ≤ length bytes.now }
     requires order { from ≤ to }
     requires short { to ≤ from + 32 }
-    ensures value { (block : List Instr) → Spans bytes.now from block to → result ≡ flat_count block }
+    ensures value { (block : List Instr) → Spans bytes.now from block to → result ≡ flat_count to block }
     ensures small { IfOk result (λ n. n ≤ 16) }
 {
     let mut at = from;
@@ -114,7 +114,7 @@ fn flat_count(bytes: &[u8], from: usize, to: usize) -> Result<u32, RelocFault>
     while at < to {
         let instr = instr_from(bytes, at)?;
         if instr.repeat().is_some() {
-            return Err(RelocFault::NestedRepeat);
+            return Err(RelocFault::NestedRepeat { at: to });
         }
         count += 1;
         at += 2 * instr.length();

@@ -8,9 +8,9 @@ use Rattle.pef_reloc.specs.Instrs.{program_length, repeat_free, repeat_of}
 use Rattle.pef_reloc.specs.Limits.{step_limit}
 use Rattle.pef_reloc.specs.Unrolled.{instr_fault, reached, steps_as}
 
--- how many instructions a block has, if none of them is a repeat
-abbrev pub flat_count : List Instr → Result ℕ RelocFault
-flat_count block = if repeat_free block then Ok (length block) else Err NestedRepeat
+-- how many instructions the block of a repeat at a place has, if none of them is a repeat
+abbrev pub flat_count : ℕ → List Instr → Result ℕ RelocFault
+flat_count at block = if repeat_free block then Ok (length block) else Err (NestedRepeat at)
 
 -- marks for the last sixteen halfwords, halfword h at h % 16: whether an instruction begins this many
 -- halfwords back, so that a repeat can reach it
