@@ -46,22 +46,22 @@ const LOADERS: &[(LoaderFault, &str)] = &[
 
 /// Refusals of packed bytes.
 const PACKED: &[(PackFault, &str)] = &[
-    (PackFault::Truncated, "Truncated"),
-    (PackFault::BadOpcode, "BadOpcode"),
-    (PackFault::CountTooLarge, "CountTooLarge"),
-    (PackFault::TooLong, "TooLong"),
-    (PackFault::TooShort, "TooShort"),
+    (PackFault::Truncated { at: 0 }, "Truncated"),
+    (PackFault::BadOpcode { at: 0 }, "BadOpcode"),
+    (PackFault::CountTooLarge { at: 0 }, "CountTooLarge"),
+    (PackFault::TooLong { at: 0 }, "TooLong"),
+    (PackFault::TooShort { at: 0 }, "TooShort"),
     (PackFault::OutOfMemory, "OutOfMemory"),
 ];
 
 /// Refusals of relocation programs.
 const PROGRAMS: &[(RelocFault, &str)] = &[
-    (RelocFault::BadOpcode, "BadOpcode"),
-    (RelocFault::CutInstruction, "CutInstruction"),
-    (RelocFault::RepeatTooFar, "RepeatTooFar"),
-    (RelocFault::RepeatCuts, "RepeatCuts"),
-    (RelocFault::NestedRepeat, "NestedRepeat"),
-    (RelocFault::TooManySteps, "TooManySteps"),
+    (RelocFault::BadOpcode { at: 0 }, "BadOpcode"),
+    (RelocFault::CutInstruction { at: 0 }, "CutInstruction"),
+    (RelocFault::RepeatTooFar { at: 0 }, "RepeatTooFar"),
+    (RelocFault::RepeatCuts { at: 0 }, "RepeatCuts"),
+    (RelocFault::NestedRepeat { at: 0 }, "NestedRepeat"),
+    (RelocFault::TooManySteps { at: 0 }, "TooManySteps"),
     (RelocFault::WordOutside, "WordOutside"),
     (RelocFault::ImportOutside, "ImportOutside"),
     (RelocFault::SectionOutside, "SectionOutside"),
@@ -126,7 +126,10 @@ const MEMORY: &[(MemoryFault, &str)] = &[
 const LISTINGS: &[(ListFault, &str)] = &[
     (ListFault::View(ViewFault::BadTag), "BadTag"),
     (ListFault::Loader(LoaderFault::BadName), "BadName"),
-    (ListFault::Reloc(RelocFault::RepeatCuts), "RepeatCuts"),
+    (
+        ListFault::Reloc(RelocFault::RepeatCuts { at: 0 }),
+        "RepeatCuts",
+    ),
 ];
 
 /// Refusals of closures.
@@ -191,7 +194,7 @@ const FRAGMENTS: &[(FragmentFault<'static>, &str)] = &[
     (
         FragmentFault::Pack {
             fragment: b"A",
-            fault: PackFault::TooLong,
+            fault: PackFault::TooLong { at: 0 },
         },
         "TooLong",
     ),

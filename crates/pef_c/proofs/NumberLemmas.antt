@@ -47,20 +47,20 @@ loader_refused loader.BadExportTable = refl
 loader_refused loader.BadExportSection = refl
 
 pack_refused : (f : PackFault) → (pack_number f == 0) ≡ false
-pack_refused pack.Truncated = refl
-pack_refused pack.BadOpcode = refl
-pack_refused pack.CountTooLarge = refl
-pack_refused pack.TooLong = refl
-pack_refused pack.TooShort = refl
+pack_refused (pack.Truncated at) = refl
+pack_refused (pack.BadOpcode at) = refl
+pack_refused (pack.CountTooLarge at) = refl
+pack_refused (pack.TooLong at) = refl
+pack_refused (pack.TooShort at) = refl
 pack_refused pack.OutOfMemory = refl
 
 reloc_refused : (f : RelocFault) → (reloc_number f == 0) ≡ false
-reloc_refused reloc.BadOpcode = refl
-reloc_refused reloc.CutInstruction = refl
-reloc_refused reloc.RepeatTooFar = refl
-reloc_refused reloc.RepeatCuts = refl
-reloc_refused reloc.NestedRepeat = refl
-reloc_refused reloc.TooManySteps = refl
+reloc_refused (reloc.BadOpcode at) = refl
+reloc_refused (reloc.CutInstruction at) = refl
+reloc_refused (reloc.RepeatTooFar at) = refl
+reloc_refused (reloc.RepeatCuts at) = refl
+reloc_refused (reloc.NestedRepeat at) = refl
+reloc_refused (reloc.TooManySteps at) = refl
 reloc_refused reloc.WordOutside = refl
 reloc_refused reloc.ImportOutside = refl
 reloc_refused reloc.SectionOutside = refl

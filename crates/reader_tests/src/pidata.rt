@@ -82,41 +82,41 @@ fn expand_to_an_image(rt: HostRuntime) {
     }
 }
 
-/// Packed bytes, the image's length, and the refusal's number.
-const REFUSED: &[(&[u8], usize, u32)] = &[
-    (&[], 8, 25),
-    (&[0x62], 8, 21),
-    (&[0x62, 0x01], 8, 21),
-    (&[0x62, 0x01, 0x02], 8, 21),
-    (&[0x62, 0x01, 0x02, 0xAA], 8, 21),
-    (&[0x62, 0x01, 0x02, 0xAA, 0xBB], 8, 21),
-    (&[0x62, 0x01, 0x02, 0xAA, 0xBB, 0x01], 8, 21),
-    (&[0x21, 0x05], 2, 25),
-    (&[0xA0], 1, 22),
-    (&[0xBF], 1, 22),
-    (&[0xC0], 1, 22),
-    (&[0x21, 0xAA, 0xFF], 2, 22),
+/// Packed bytes, the image's length, the refusal's number, and its offset in the packed bytes.
+const REFUSED: &[(&[u8], usize, u32, usize)] = &[
+    (&[], 8, 25, 0),
+    (&[0x62], 8, 21, 0),
+    (&[0x62, 0x01], 8, 21, 0),
+    (&[0x62, 0x01, 0x02], 8, 21, 0),
+    (&[0x62, 0x01, 0x02, 0xAA], 8, 21, 0),
+    (&[0x62, 0x01, 0x02, 0xAA, 0xBB], 8, 21, 0),
+    (&[0x62, 0x01, 0x02, 0xAA, 0xBB, 0x01], 8, 21, 0),
+    (&[0x21, 0x05], 2, 25, 2),
+    (&[0xA0], 1, 22, 0),
+    (&[0xBF], 1, 22, 0),
+    (&[0xC0], 1, 22, 0),
+    (&[0x21, 0xAA, 0xFF], 2, 22, 2),
     // An argument that ends early, has a sixth byte, or needs 33 bits.
-    (&[0x20], 1, 21),
-    (&[0x20, 0xFF, 0xFF, 0xFF, 0xFF], 1, 21),
-    (&[0x20, 0xFF, 0xFF, 0xFF, 0xFF, 0x7F], 1, 23),
-    (&[0x20, 0x80, 0x80, 0x80, 0x80, 0x80], 1, 23),
-    (&[0x20, 0x90, 0x80, 0x80, 0x80, 0x00], 1, 23),
-    (&[0x42], 1, 21),
-    (&[0x60, 0x7F, 0x90, 0x80, 0x80, 0x80, 0x00], 1, 23),
-    (&[0x60, 0x7F, 0x01], 1, 21),
+    (&[0x20], 1, 21, 0),
+    (&[0x20, 0xFF, 0xFF, 0xFF, 0xFF], 1, 21, 0),
+    (&[0x20, 0xFF, 0xFF, 0xFF, 0xFF, 0x7F], 1, 23, 0),
+    (&[0x20, 0x80, 0x80, 0x80, 0x80, 0x80], 1, 23, 0),
+    (&[0x20, 0x90, 0x80, 0x80, 0x80, 0x00], 1, 23, 0),
+    (&[0x42], 1, 21, 0),
+    (&[0x60, 0x7F, 0x90, 0x80, 0x80, 0x80, 0x00], 1, 23, 0),
+    (&[0x60, 0x7F, 0x01], 1, 21, 0),
     // Output that is too long is reported before bytes that are missing.
-    (&[0x20, 0x8F, 0xFF, 0xFF, 0xFF, 0x7F], 1, 24),
-    (&[0x22, 0x01, 0x02], 1, 24),
-    (&[0x22], 1, 24),
-    (&[0x22, 0x01], 2, 21),
-    (&[0x41, 0x02, 0x7F], 2, 24),
-    (&[0x61, 0x01, 0x01, 0xAA, 0x01], 2, 24),
-    (&[0x61, 0x01, 0x01, 0xAA], 3, 21),
-    (&[0x81, 0x01, 0x01], 3, 21),
+    (&[0x20, 0x8F, 0xFF, 0xFF, 0xFF, 0x7F], 1, 24, 0),
+    (&[0x22, 0x01, 0x02], 1, 24, 0),
+    (&[0x22], 1, 24, 0),
+    (&[0x22, 0x01], 2, 21, 0),
+    (&[0x41, 0x02, 0x7F], 2, 24, 0),
+    (&[0x61, 0x01, 0x01, 0xAA, 0x01], 2, 24, 0),
+    (&[0x61, 0x01, 0x01, 0xAA], 3, 21, 0),
+    (&[0x81, 0x01, 0x01], 3, 21, 0),
     // Just one byte too long or too short.
-    (&[0x04], 3, 24),
-    (&[0x04], 5, 25),
+    (&[0x04], 3, 24, 0),
+    (&[0x04], 5, 25, 1),
     // Products and sums of the greatest arguments.
     (
         &[
@@ -124,6 +124,7 @@ const REFUSED: &[(&[u8], usize, u32)] = &[
         ],
         1,
         24,
+        0,
     ),
     (
         &[
@@ -132,6 +133,7 @@ const REFUSED: &[(&[u8], usize, u32)] = &[
         ],
         1,
         24,
+        0,
     ),
     (
         &[
@@ -140,25 +142,39 @@ const REFUSED: &[(&[u8], usize, u32)] = &[
         ],
         1,
         24,
+        0,
     ),
+    // A refusal of an instruction that isn't the first: its offset is in the packed bytes, not in the image.
+    (&[0x03, 0xA0], 8, 22, 1),
+    (&[0x03, 0x22, 0xAA], 8, 21, 1),
+    (&[0x03, 0x02], 4, 24, 1),
+    (&[0x03, 0x22, 0x01, 0x02, 0x20, 0x80], 8, 21, 4),
+    (
+        &[0x22, 0x01, 0x02, 0x40, 0xFF, 0xFF, 0xFF, 0xFF, 0x7F],
+        8,
+        23,
+        3,
+    ),
+    (&[0x82, 0x01, 0x02, 0x05, 0x06, 0x61], 9, 21, 5),
+    (&[0x82, 0x01, 0x02, 0x05, 0x06], 9, 25, 5),
 ];
 
-/// Returns the number of the refusal of packed bytes, or `None` if they expand.
-fn refusal(packed: &[u8], out: &mut [u8]) -> Option<u32> {
+/// Returns the number and the offset of the refusal of packed bytes, or `None` if they expand.
+fn refusal(packed: &[u8], out: &mut [u8]) -> Option<(u32, Option<usize>)> {
     match expand(packed, out) {
         Ok(()) => None,
-        Err(fault) => Some(fault.number()),
+        Err(fault) => Some((fault.number(), fault.offset())),
     }
 }
 
 #[test]
 fn expand_refused(rt: HostRuntime) {
     for row in REFUSED {
-        let (packed, len, want) = *row;
+        let (packed, len, number, offset) = *row;
         let mut buffer = [0xEE; 8];
         assert!(rt; len <= 8);
         let found = refusal(packed, &mut buffer[..len]);
-        assert!(rt; found == Some(want), "{packed:?}");
+        assert!(rt; found == Some((number, Some(offset))), "{packed:?}");
     }
 }
 
