@@ -1,7 +1,7 @@
 -- The effect of one act, and of those after it.
 use Rattle.std.proofs.Common.{◌≡◌, ℕ, ◌+◌, Bool, true, false, cond, List, ◌∷◌, nat_le, nat_lt, length, Option, None, Some, refl, ap, sym}
-use Rattle.pef_reloc.specs.declared.fault.RelocFault.{RelocFault}
-use Rattle.pef_reloc.specs.declared.fault.RelocFault.TheVariants.{WordOutside, ImportOutside, SectionOutside}
+use Rattle.pef_reloc.specs.declared.stop.Stop.{Stop}
+use Rattle.pef_reloc.specs.declared.stop.Stop.TheVariants.{NoImport, NoSection, PastEnd}
 use Rattle.pef_reloc.specs.declared.fixup.Base.{Base}
 use Rattle.pef_reloc.specs.declared.fixup.Base.TheVariants.{Section, Import}
 use Rattle.pef_reloc.specs.Steps.{Act, add, need, added}
@@ -9,46 +9,46 @@ use Rattle.pef_reloc.specs.Applied.{Addresses, address_of, Done, added_at, appli
 use Rattle.pef_reloc.specs.Kept.Rows.{word_added}
 use Rattle.pef_reloc.specs.Kept.Rows.{Stands}
 
-abbrev fault_of : Done → Option RelocFault
+abbrev fault_of : Done Stop → Option Stop
 fault_of d = d.fault
 
-abbrev word_done : Bool → List ℕ → List ℕ → Done
-word_done inside old new = cond inside (record { memory = new; fault = None }) (record { memory = old; fault = Some WordOutside })
+abbrev word_done : ℕ → Bool → List ℕ → List ℕ → Done Stop
+word_done at inside old new = cond inside (record { memory = new; fault = None }) (record { memory = old; fault = Some (PastEnd at) })
 
-abbrev word_then : Bool → List ℕ → List ℕ → (List ℕ → Done) → Done
-word_then inside old new rest = unless_refused (cond inside None (Some WordOutside)) old (rest new)
+abbrev word_then : ℕ → Bool → List ℕ → List ℕ → (List ℕ → Done Stop) → Done Stop
+word_then at inside old new rest = unless_refused (cond inside None (Some (PastEnd at))) old (rest new)
 
-go-next : (inside : Bool) (old new memory' : List ℕ) (rest : List ℕ → Done) → word_done inside old new ≡ record { memory = memory'; fault = None } → word_then inside old new rest ≡ rest memory'
-go-next true old new memory' rest e = ap (λ (d : Done). rest d.memory) e
-go-next false old new memory' rest e = let no : ◌≡◌ {A = Option RelocFault} (Some WordOutside) None = ap fault_of e in absurd (cc no)
+go-next : (at : ℕ) (inside : Bool) (old new memory' : List ℕ) (rest : List ℕ → Done Stop) → word_done at inside old new ≡ record { memory = memory'; fault = None } → word_then at inside old new rest ≡ rest memory'
+go-next at true old new memory' rest e = ap (λ (d : Done Stop). rest d.memory) e
+go-next at false old new memory' rest e = let no : ◌≡◌ {A = Option Stop} (Some (PastEnd at)) None = ap fault_of e in absurd (cc no)
 
-go-fault : (inside : Bool) (old new memory' : List ℕ) (rest : List ℕ → Done) (f : RelocFault) → word_done inside old new ≡ record { memory = memory'; fault = Some f } → word_then inside old new rest ≡ record { memory = memory'; fault = Some f }
-go-fault true old new memory' rest f e = let no : ◌≡◌ {A = Option RelocFault} None (Some f) = ap fault_of e in absurd (cc no)
-go-fault false old new memory' rest f e = e
+go-fault : (at : ℕ) (inside : Bool) (old new memory' : List ℕ) (rest : List ℕ → Done Stop) (f : Stop) → word_done at inside old new ≡ record { memory = memory'; fault = Some f } → word_then at inside old new rest ≡ record { memory = memory'; fault = Some f }
+go-fault at true old new memory' rest f e = let no : ◌≡◌ {A = Option Stop} None (Some f) = ap fault_of e in absurd (cc no)
+go-fault at false old new memory' rest f e = e
 
 -- an addition inside memory, and the acts after it
 pub word-next : (a : Addresses) (b : Base) (x at : ℕ) (acts : List Act) (memory memory' : List ℕ) → Stands a b x → word_added memory at x ≡ record { memory = memory'; fault = None } → applied a (add (added at b) ∷ acts) memory ≡ applied a acts memory'
 unfolding applied
 word-next a b x at acts memory memory' stands e =
-    rw (stands.there, stands.address_is) (go-next (nat_le (at + 4) (length memory)) memory (added_at memory at x) memory' (applied a acts) e)
+    rw (stands.there, stands.address_is) (go-next at (nat_le (at + 4) (length memory)) memory (added_at memory at x) memory' (applied a acts) e)
 
 -- an addition that passes the end
-pub word-fault : (a : Addresses) (b : Base) (x at : ℕ) (acts : List Act) (memory memory' : List ℕ) (f : RelocFault) → Stands a b x → word_added memory at x ≡ record { memory = memory'; fault = Some f } → applied a (add (added at b) ∷ acts) memory ≡ record { memory = memory'; fault = Some f }
+pub word-fault : (a : Addresses) (b : Base) (x at : ℕ) (acts : List Act) (memory memory' : List ℕ) (f : Stop) → Stands a b x → word_added memory at x ≡ record { memory = memory'; fault = Some f } → applied a (add (added at b) ∷ acts) memory ≡ record { memory = memory'; fault = Some f }
 unfolding applied
 word-fault a b x at acts memory memory' f stands e =
-    rw (stands.there, stands.address_is) (go-fault (nat_le (at + 4) (length memory)) memory (added_at memory at x) memory' (applied a acts) f e)
+    rw (stands.there, stands.address_is) (go-fault at (nat_le (at + 4) (length memory)) memory (added_at memory at x) memory' (applied a acts) f e)
 
 -- a section that exists, and the acts after the look for it
-pub need-there : (a : Addresses) (k : ℕ) (acts : List Act) (memory : List ℕ) → nat_lt k (length a.sections) ≡ true → applied a (need k ∷ acts) memory ≡ applied a acts memory
+pub need-there : (a : Addresses) (p k : ℕ) (acts : List Act) (memory : List ℕ) → nat_lt k (length a.sections) ≡ true → applied a (need p k ∷ acts) memory ≡ applied a acts memory
 unfolding applied
-need-there a k acts memory e = rw e refl
+need-there a p k acts memory e = rw e refl
 
-pub need-fault : (a : Addresses) (k : ℕ) (acts : List Act) (memory : List ℕ) → nat_lt k (length a.sections) ≡ false → applied a (need k ∷ acts) memory ≡ record { memory = memory; fault = Some SectionOutside }
+pub need-fault : (a : Addresses) (p k : ℕ) (acts : List Act) (memory : List ℕ) → nat_lt k (length a.sections) ≡ false → applied a (need p k ∷ acts) memory ≡ record { memory = memory; fault = Some (NoSection p) }
 unfolding applied
-need-fault a k acts memory e = rw e refl
+need-fault a p k acts memory e = rw e refl
 
 -- an import that doesn't exist
-pub import-fault : (a : Addresses) (j at : ℕ) (acts : List Act) (memory : List ℕ) → nat_lt j (length a.imports) ≡ false → applied a (add (added at (Import j)) ∷ acts) memory ≡ record { memory = memory; fault = Some ImportOutside }
+pub import-fault : (a : Addresses) (j at : ℕ) (acts : List Act) (memory : List ℕ) → nat_lt j (length a.imports) ≡ false → applied a (add (added at (Import j)) ∷ acts) memory ≡ record { memory = memory; fault = Some (NoImport at) }
 unfolding applied
 import-fault a j at acts memory e = rw e refl
 

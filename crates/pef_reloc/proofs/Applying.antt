@@ -12,7 +12,7 @@ use Rattle.pef_reloc.specs.Decoding.{Code, code_at, first_instr}
 use Rattle.pef_reloc.specs.Steps.{start}
 use Rattle.pef_reloc.specs.Limits.{step_limit}
 use Rattle.pef_reloc.specs.Unrolled.{code_fault, executed, instrs_of, place_after, program_fault, repeat_fault, steps_as, steps_fault, unrolled, unrolled_after}
-use Rattle.pef_reloc.specs.Applied.{Addresses, relocated}
+use Rattle.pef_reloc.specs.Applied.{Addresses, relocation}
 use Rattle.pef_reloc.specs.Kept.Machines.{Holds, Moves, Runs}
 use Rattle.pef_reloc.specs.Kept.Places.{Before}
 use Rattle.pef_reloc.proofs.Blocks.{repeat-reach}
@@ -106,13 +106,13 @@ apply-more bytes a at m m' memory memory' whole x left under here ran moves =
       leaves = leaves-more a m m' memory memory' (executed left.before x) (unrolled_after (x ∷ left.before) (code_at (at + 2 * instr_length x) (drop (at + 2 * instr_length x) bytes)).instrs) whole (unrolled (instrs_of bytes)) start (split bytes a at m memory whole x left under here) ran;
     }
 
-pub apply-fault : (bytes : List ℕ) (a : Addresses) (at : ℕ) (m m' : Machine) (memory memory' whole : List ℕ) (x : Instr) (f : RelocFault) (left : ApplyLeft bytes a at m memory whole) → at < length bytes → first_instr at (drop at bytes) ≡ Ok x → Runs a m m' memory memory' (executed left.before x) (Some f) → relocated bytes a whole ≡ record { memory = memory'; fault = Some f }
-unfolding relocated
+pub apply-fault : (bytes : List ℕ) (a : Addresses) (at : ℕ) (m m' : Machine) (memory memory' whole : List ℕ) (x : Instr) (f : RelocFault) (left : ApplyLeft bytes a at m memory whole) → at < length bytes → first_instr at (drop at bytes) ≡ Ok x → Runs a m m' memory memory' (executed left.before x) (Some f) → relocation bytes a whole ≡ record { memory = memory'; fault = Some f }
+unfolding relocation
 apply-fault bytes a at m m' memory memory' whole x f left under here ran =
     leaves-fault a m m' memory memory' (executed left.before x) (unrolled_after (x ∷ left.before) (code_at (at + 2 * instr_length x) (drop (at + 2 * instr_length x) bytes)).instrs) whole (unrolled (instrs_of bytes)) start f (split bytes a at m memory whole x left under here) ran
 
-pub apply-end : (bytes : List ℕ) (a : Addresses) (at : ℕ) (m : Machine) (memory whole : List ℕ) → ApplyLeft bytes a at m memory whole → length bytes ≤ at → relocated bytes a whole ≡ record { memory = memory; fault = None }
-unfolding relocated
+pub apply-end : (bytes : List ℕ) (a : Addresses) (at : ℕ) (m : Machine) (memory whole : List ℕ) → ApplyLeft bytes a at m memory whole → length bytes ≤ at → relocation bytes a whole ≡ record { memory = memory; fault = None }
+unfolding relocation
 apply-end bytes a at m memory whole left past =
     let P : Code → Type 0 = λ code. Leaves a m memory (unrolled_after left.before code.instrs) whole (unrolled (instrs_of bytes)) start in
     leaves-none a m memory whole (unrolled (instrs_of bytes)) start (subst P (code-end bytes at past) left.leaves)

@@ -9,7 +9,7 @@ use Rattle.pef_reloc.specs.declared.machine.Machine.{Machine}
 use Rattle.pef_reloc.specs.Decoding.{first_instr}
 use Rattle.pef_reloc.specs.Instrs.{instr_length}
 use Rattle.pef_reloc.specs.Steps.{State}
-use Rattle.pef_reloc.specs.Unrolled.{reached, repeated, block_of, block_fault, place_after, repeat_fault}
+use Rattle.pef_reloc.specs.Unrolled.{reached, repeated, block_of, block_fault, place_after, repeat_fault, Step, steps_from}
 use Rattle.pef_reloc.specs.Applied.{Addresses}
 use Rattle.pef_reloc.specs.Kept.Machines.{Holds, Moves, Runs}
 use Rattle.pef_reloc.specs.Kept.Places.{Before, Spans}
@@ -24,38 +24,38 @@ spans-order bytes from (x ∷ xs) to spans =
     omega (arith, later)
 
 -- the instructions of a block that are left from a place on
-pub record BlockLeft (a : Addresses) (m : Machine) (memory bytes : List ℕ) (at to : ℕ) (m0 : Machine) (whole : List ℕ) (block : List Instr) : Type 0 where
+pub record BlockLeft (a : Addresses) (m : Machine) (memory bytes : List ℕ) (at to : ℕ) (m0 : Machine) (whole : List ℕ) (block : List Step) : Type 0 where
   pub rest : List Instr
   pub spans : Spans bytes at rest to
-  pub leaves : (s : State) → Holds a m0 s → Leaves a m memory rest whole block s
+  pub leaves : (s : State) → Holds a m0 s → Leaves a m memory (steps_from at rest) whole block s
 
 -- an instruction that ran
-more : (a : Addresses) (m m' : Machine) (memory memory' bytes : List ℕ) (at to : ℕ) (m0 : Machine) (whole : List ℕ) (block : List Instr) (x : Instr) (rest : List Instr) → Spans bytes at rest to → ((s : State) → Holds a m0 s → Leaves a m memory rest whole block s) → at < to → first_instr at (drop at bytes) ≡ Ok x → Runs a m m' memory memory' (x ∷ []) None → BlockLeft a m' memory' bytes (at + 2 * instr_length x) to m0 whole block
+more : (a : Addresses) (m m' : Machine) (memory memory' bytes : List ℕ) (at to : ℕ) (m0 : Machine) (whole : List ℕ) (block : List Step) (x : Instr) (rest : List Instr) → Spans bytes at rest to → ((s : State) → Holds a m0 s → Leaves a m memory (steps_from at rest) whole block s) → at < to → first_instr at (drop at bytes) ≡ Ok x → Runs a m m' memory memory' ((at, x) ∷ []) None → BlockLeft a m' memory' bytes (at + 2 * instr_length x) to m0 whole block
 more a m m' memory memory' bytes at to m0 whole block x [] spans leaves under here ran = absurd (omega arith)
 more a m m' memory memory' bytes at to m0 whole block x (y ∷ ys) spans leaves under here ran =
     let same : y ≡ x = cc (spans.0, here) in
     record {
       rest = ys;
       spans = let P : Instr → Type 0 = λ z. Spans bytes (at + 2 * instr_length z) ys to in subst P same spans.1;
-      leaves = λ s h. let P : Instr → Type 0 = λ z. Leaves a m memory (z ∷ ys) whole block s in
-          leaves-more a m m' memory memory' (x ∷ []) ys whole block s (subst P same (leaves s h)) ran;
+      leaves = λ s h. let P : Instr → Type 0 = λ z. Leaves a m memory ((at, z) ∷ steps_from (at + 2 * instr_length z) ys) whole block s in
+          leaves-more a m m' memory memory' ((at, x) ∷ []) (steps_from (at + 2 * instr_length x) ys) whole block s (subst P same (leaves s h)) ran;
     }
 
-pub block-more : (a : Addresses) (m m' : Machine) (memory memory' bytes : List ℕ) (at to : ℕ) (m0 : Machine) (whole : List ℕ) (block : List Instr) (x : Instr) → BlockLeft a m memory bytes at to m0 whole block → at < to → first_instr at (drop at bytes) ≡ Ok x → Runs a m m' memory memory' (x ∷ []) None → BlockLeft a m' memory' bytes (at + 2 * instr_length x) to m0 whole block
+pub block-more : (a : Addresses) (m m' : Machine) (memory memory' bytes : List ℕ) (at to : ℕ) (m0 : Machine) (whole : List ℕ) (block : List Step) (x : Instr) → BlockLeft a m memory bytes at to m0 whole block → at < to → first_instr at (drop at bytes) ≡ Ok x → Runs a m m' memory memory' ((at, x) ∷ []) None → BlockLeft a m' memory' bytes (at + 2 * instr_length x) to m0 whole block
 block-more a m m' memory memory' bytes at to m0 whole block x left = more a m m' memory memory' bytes at to m0 whole block x left.rest left.spans left.leaves
 
 -- an instruction that was refused
-faulted : (a : Addresses) (m m' : Machine) (memory memory' bytes : List ℕ) (at to : ℕ) (m0 : Machine) (whole : List ℕ) (block : List Instr) (x : Instr) (f : RelocFault) (rest : List Instr) → Spans bytes at rest to → ((s : State) → Holds a m0 s → Leaves a m memory rest whole block s) → at < to → first_instr at (drop at bytes) ≡ Ok x → Runs a m m' memory memory' (x ∷ []) (Some f) → Runs a m0 m' whole memory' block (Some f)
+faulted : (a : Addresses) (m m' : Machine) (memory memory' bytes : List ℕ) (at to : ℕ) (m0 : Machine) (whole : List ℕ) (block : List Step) (x : Instr) (f : RelocFault) (rest : List Instr) → Spans bytes at rest to → ((s : State) → Holds a m0 s → Leaves a m memory (steps_from at rest) whole block s) → at < to → first_instr at (drop at bytes) ≡ Ok x → Runs a m m' memory memory' ((at, x) ∷ []) (Some f) → Runs a m0 m' whole memory' block (Some f)
 faulted a m m' memory memory' bytes at to m0 whole block x f [] spans leaves under here ran = absurd (omega arith)
 faulted a m m' memory memory' bytes at to m0 whole block x f (y ∷ ys) spans leaves under here ran =
     let same : y ≡ x = cc (spans.0, here) in
     record {
-      does = λ s h. let P : Instr → Type 0 = λ z. Leaves a m memory (z ∷ ys) whole block s in
-          record { is = leaves-fault a m m' memory memory' (x ∷ []) ys whole block s f (subst P same (leaves s h)) ran };
+      does = λ s h. let P : Instr → Type 0 = λ z. Leaves a m memory ((at, z) ∷ steps_from (at + 2 * instr_length z) ys) whole block s in
+          leaves-fault a m m' memory memory' ((at, x) ∷ []) (steps_from (at + 2 * instr_length x) ys) whole block s f (subst P same (leaves s h)) ran;
       holds = λ s h none. absurd (cc none);
     }
 
-pub block-fault : (a : Addresses) (m m' : Machine) (memory memory' bytes : List ℕ) (at to : ℕ) (m0 : Machine) (whole : List ℕ) (block : List Instr) (x : Instr) (f : RelocFault) → BlockLeft a m memory bytes at to m0 whole block → at < to → first_instr at (drop at bytes) ≡ Ok x → Runs a m m' memory memory' (x ∷ []) (Some f) → Runs a m0 m' whole memory' block (Some f)
+pub block-fault : (a : Addresses) (m m' : Machine) (memory memory' bytes : List ℕ) (at to : ℕ) (m0 : Machine) (whole : List ℕ) (block : List Step) (x : Instr) (f : RelocFault) → BlockLeft a m memory bytes at to m0 whole block → at < to → first_instr at (drop at bytes) ≡ Ok x → Runs a m m' memory memory' ((at, x) ∷ []) (Some f) → Runs a m0 m' whole memory' block (Some f)
 block-fault a m m' memory memory' bytes at to m0 whole block x f left = faulted a m m' memory memory' bytes at to m0 whole block x f left.rest left.spans left.leaves
 
 -- an instruction begins at a place inside a block
@@ -63,13 +63,13 @@ pub begins : (bytes : List ℕ) (at to : ℕ) (f : RelocFault) (rest : List Inst
 begins bytes at to f [] spans under none = absurd (omega arith)
 begins bytes at to f (y ∷ ys) spans under none = let no : Ok y ≡ Err f = sym spans.0 ∙ none in cc no
 
-pub block-begins : (a : Addresses) (m : Machine) (memory bytes : List ℕ) (at to : ℕ) (m0 : Machine) (whole : List ℕ) (block : List Instr) (f : RelocFault) → BlockLeft a m memory bytes at to m0 whole block → at < to → first_instr at (drop at bytes) ≡ Err f → ⊥
+pub block-begins : (a : Addresses) (m : Machine) (memory bytes : List ℕ) (at to : ℕ) (m0 : Machine) (whole : List ℕ) (block : List Step) (f : RelocFault) → BlockLeft a m memory bytes at to m0 whole block → at < to → first_instr at (drop at bytes) ≡ Err f → ⊥
 block-begins a m memory bytes at to m0 whole block f left = begins bytes at to f left.rest left.spans
 
 -- a block that is run
-ended : (a : Addresses) (m : Machine) (memory bytes : List ℕ) (at to : ℕ) (m0 : Machine) (whole : List ℕ) (block : List Instr) (rest : List Instr) → Spans bytes at rest to → ((s : State) → Holds a m0 s → Leaves a m memory rest whole block s) → to ≤ at → Runs a m0 m whole memory block None
+ended : (a : Addresses) (m : Machine) (memory bytes : List ℕ) (at to : ℕ) (m0 : Machine) (whole : List ℕ) (block : List Step) (rest : List Instr) → Spans bytes at rest to → ((s : State) → Holds a m0 s → Leaves a m memory (steps_from at rest) whole block s) → to ≤ at → Runs a m0 m whole memory block None
 ended a m memory bytes at to m0 whole block [] spans leaves past = record {
-  does = λ s h. record { is = leaves-none a m memory whole block s (leaves s h) };
+  does = λ s h. leaves-none a m memory whole block s (leaves s h);
   holds = λ s h none. leaves-holds a m memory whole block s (leaves s h);
 }
 ended a m memory bytes at to m0 whole block (y ∷ ys) spans leaves past =
@@ -77,14 +77,14 @@ ended a m memory bytes at to m0 whole block (y ∷ ys) spans leaves past =
     let some = some_length y in
     absurd (omega (arith, later, some))
 
-pub block-end : (a : Addresses) (m : Machine) (memory bytes : List ℕ) (at to : ℕ) (m0 : Machine) (whole : List ℕ) (block : List Instr) → BlockLeft a m memory bytes at to m0 whole block → to ≤ at → Runs a m0 m whole memory block None
+pub block-end : (a : Addresses) (m : Machine) (memory bytes : List ℕ) (at to : ℕ) (m0 : Machine) (whole : List ℕ) (block : List Step) → BlockLeft a m memory bytes at to m0 whole block → to ≤ at → Runs a m0 m whole memory block None
 block-end a m memory bytes at to m0 whole block left = ended a m memory bytes at to m0 whole block left.rest left.spans left.leaves
 
 -- one more pass of a block
-pub repeated-more : (n i : ℕ) (block : List Instr) → i < n → repeated (n - i) block ≡ block ++ repeated (n - (i + 1)) block
+pub repeated-more : (n i : ℕ) (block : List Step) → i < n → repeated (n - i) block ≡ block ++ repeated (n - (i + 1)) block
 repeated-more n i block under = let e : n - i ≡ suc (n - (i + 1)) = omega arith in rw e refl
 
-pub repeated-end : (n i : ℕ) (block : List Instr) → n ≤ i → repeated (n - i) block ≡ []
+pub repeated-end : (n i : ℕ) (block : List Step) → n ≤ i → repeated (n - i) block ≡ []
 repeated-end n i block past = let e : n - i ≡ 0 = omega arith in rw e refl
 
 -- the place that a repeat reaches back to, and the instructions from there on
@@ -124,32 +124,32 @@ pub moves-more : (m0 m m' : Machine) (i j n : ℕ) → Moves m0 m i → Moves m 
 moves-more m0 m m' i j n first second under = record { position = omega (arith, first.position, second.position); imports = omega (arith, first.imports, second.imports) }
 
 -- the passes that are left
-pub record PassesLeft (a : Addresses) (m : Machine) (memory : List ℕ) (n i : ℕ) (m0 : Machine) (whole : List ℕ) (block : List Instr) : Type 0 where
+pub record PassesLeft (a : Addresses) (m : Machine) (memory : List ℕ) (n i : ℕ) (m0 : Machine) (whole : List ℕ) (block : List Step) : Type 0 where
   pub leaves : (s : State) → Holds a m0 s → Leaves a m memory (repeated (n - i) block) whole (repeated n block) s
 
-pub passes-start : (a : Addresses) (m : Machine) (memory : List ℕ) (n : ℕ) (block : List Instr) → PassesLeft a m memory n 0 m memory block
+pub passes-start : (a : Addresses) (m : Machine) (memory : List ℕ) (n : ℕ) (block : List Step) → PassesLeft a m memory n 0 m memory block
 passes-start a m memory n block =
     let all : n ≡ n - 0 = omega arith in
     record { leaves = λ s h. let P : ℕ → Type 0 = λ k. Leaves a m memory (repeated k block) memory (repeated n block) s in subst P all (leaves-all a m memory (repeated n block) s h) }
 
-pub passes-more : (a : Addresses) (m m' : Machine) (memory memory' : List ℕ) (n i : ℕ) (m0 : Machine) (whole : List ℕ) (block : List Instr) → PassesLeft a m memory n i m0 whole block → i < n → Runs a m m' memory memory' block None → PassesLeft a m' memory' n (i + 1) m0 whole block
+pub passes-more : (a : Addresses) (m m' : Machine) (memory memory' : List ℕ) (n i : ℕ) (m0 : Machine) (whole : List ℕ) (block : List Step) → PassesLeft a m memory n i m0 whole block → i < n → Runs a m m' memory memory' block None → PassesLeft a m' memory' n (i + 1) m0 whole block
 passes-more a m m' memory memory' n i m0 whole block left under ran = record {
-  leaves = λ s h. let P : List Instr → Type 0 = λ xs. Leaves a m memory xs whole (repeated n block) s in
+  leaves = λ s h. let P : List Step → Type 0 = λ xs. Leaves a m memory xs whole (repeated n block) s in
       leaves-more a m m' memory memory' block (repeated (n - (i + 1)) block) whole (repeated n block) s (subst P (repeated-more n i block under) (left.leaves s h)) ran;
 }
 
-pub passes-fault : (a : Addresses) (m m' : Machine) (memory memory' : List ℕ) (n i : ℕ) (m0 : Machine) (whole : List ℕ) (block : List Instr) (f : RelocFault) → PassesLeft a m memory n i m0 whole block → i < n → Runs a m m' memory memory' block (Some f) → Runs a m0 m' whole memory' (repeated n block) (Some f)
+pub passes-fault : (a : Addresses) (m m' : Machine) (memory memory' : List ℕ) (n i : ℕ) (m0 : Machine) (whole : List ℕ) (block : List Step) (f : RelocFault) → PassesLeft a m memory n i m0 whole block → i < n → Runs a m m' memory memory' block (Some f) → Runs a m0 m' whole memory' (repeated n block) (Some f)
 passes-fault a m m' memory memory' n i m0 whole block f left under ran = record {
-  does = λ s h. let P : List Instr → Type 0 = λ xs. Leaves a m memory xs whole (repeated n block) s in
-      record { is = leaves-fault a m m' memory memory' block (repeated (n - (i + 1)) block) whole (repeated n block) s f (subst P (repeated-more n i block under) (left.leaves s h)) ran };
+  does = λ s h. let P : List Step → Type 0 = λ xs. Leaves a m memory xs whole (repeated n block) s in
+      leaves-fault a m m' memory memory' block (repeated (n - (i + 1)) block) whole (repeated n block) s f (subst P (repeated-more n i block under) (left.leaves s h)) ran;
   holds = λ s h none. absurd (cc none);
 }
 
-pub passes-end : (a : Addresses) (m : Machine) (memory : List ℕ) (n i : ℕ) (m0 : Machine) (whole : List ℕ) (block : List Instr) → PassesLeft a m memory n i m0 whole block → n ≤ i → Runs a m0 m whole memory (repeated n block) None
+pub passes-end : (a : Addresses) (m : Machine) (memory : List ℕ) (n i : ℕ) (m0 : Machine) (whole : List ℕ) (block : List Step) → PassesLeft a m memory n i m0 whole block → n ≤ i → Runs a m0 m whole memory (repeated n block) None
 passes-end a m memory n i m0 whole block left past =
-    let P : State → List Instr → Type 0 = λ s xs. Leaves a m memory xs whole (repeated n block) s in
+    let P : State → List Step → Type 0 = λ s xs. Leaves a m memory xs whole (repeated n block) s in
     record {
-      does = λ s h. record { is = leaves-none a m memory whole (repeated n block) s (subst (P s) (repeated-end n i block past) (left.leaves s h)) };
+      does = λ s h. leaves-none a m memory whole (repeated n block) s (subst (P s) (repeated-end n i block past) (left.leaves s h));
       holds = λ s h none. leaves-holds a m memory whole (repeated n block) s (subst (P s) (repeated-end n i block past) (left.leaves s h));
     }
 

@@ -5,7 +5,6 @@ use Rattle.std.proofs.lemmas.List.{map-append}
 use Rattle.std.proofs.Math.Seq.{drop-append_seam}
 use Rattle.std.specs.Option.{is_none}
 use Rattle.std.proofs.lemmas.Bool.{and_parts, le-leb}
-use Rattle.pef_reloc.specs.declared.fault.RelocFault.{RelocFault}
 use Rattle.pef_reloc.specs.declared.instr.Instr.{Instr}
 use Rattle.pef_reloc.specs.declared.instr.Instr.TheVariants.{BySectDWithSkip, BySectC, BySectD, TVector12, TVector8, VTable8, ImportRun, SmByImport, SmSetSectC, SmSetSectD, SmBySection, IncrPosition, SmRepeat, SetPosition, LgByImport, LgRepeat, LgBySection, LgSetSectC, LgSetSectD}
 use Rattle.pef_reloc.specs.declared.instr.Repeat.{Repeat}
@@ -13,10 +12,10 @@ use Rattle.pef_reloc.specs.Instrs.{halfword_bytes, halfwords_of, instr_fits, ins
 use Rattle.pef_reloc.specs.Decoding.{Code, code_more, code_at}
 use Rattle.pef_reloc.specs.Steps.{State, Act, add, need, acts_from, additions, all_below, is_flat, named_sections, names_below, next_state, start, trace}
 use Rattle.pef_reloc.specs.Limits.{step_limit}
-use Rattle.pef_reloc.specs.Unrolled.{first_fault, instrs_of, program_fault, unrolled, unrolled_after}
-use Rattle.pef_reloc.specs.Applied.{Addresses, Done, applied, relocated, then_done, unless_refused}
+use Rattle.pef_reloc.specs.Unrolled.{first_fault, instrs_in, instrs_of, program_fault, unrolled, unrolled_after}
+use Rattle.pef_reloc.specs.Applied.{Addresses, applied, relocated}
 use Rattle.pef_reloc.proofs.Acts.{need-there}
-use Rattle.pef_reloc.proofs.ActLists.{applied-append}
+use Rattle.pef_reloc.proofs.ActLists.{applied-append, then_same}
 use Rattle.pef_reloc.proofs.CodeLemmas.{code_at-begins, code_at-nothing, some_length}
 use Rattle.pef_reloc.proofs.Decodes.{reads_back}
 use Rattle.pef_reloc.proofs.Spellings.{spelled-nothing, spelled-one}
@@ -83,13 +82,13 @@ first_fault-flat before steps (x ∷ xs) free few =
     rw (none_is (repeat_of x) p.0, under) (first_fault-flat (x ∷ before) (steps + 1) xs p.1 (omega arith))
 
 -- and execute themselves
-pub unrolled_after-flat : (before xs : List Instr) → repeat_free xs ≡ true → unrolled_after before xs ≡ xs
+pub unrolled_after-flat : (before xs : List Instr) → repeat_free xs ≡ true → instrs_in (unrolled_after before xs) ≡ xs
 unrolled_after-flat before [] free = refl
 unrolled_after-flat before (x ∷ xs) free =
     let p = and_parts (is_none (repeat_of x)) (repeat_free xs) free in
     rw (none_is (repeat_of x) p.0) (ap (λ ys. x ∷ ys) (unrolled_after-flat (x ∷ before) xs p.1))
 
-pub unrolled-flat : (xs : List Instr) → repeat_free xs ≡ true → unrolled xs ≡ xs
+pub unrolled-flat : (xs : List Instr) → repeat_free xs ≡ true → instrs_in (unrolled xs) ≡ xs
 unrolled-flat xs free = unrolled_after-flat [] xs free
 
 -- the bytes of a flat list are a readable program
@@ -104,29 +103,22 @@ pub relocated-spelled : (xs : List Instr) (a : Addresses) (memory : List ℕ) �
 unfolding relocated
 relocated-spelled xs a memory flat =
     let p = and_parts (repeat_free xs) (instrs_fit xs) flat in
-    ap (λ ys. applied a (acts_from ys start) memory) (ap unrolled (instrs_of-spelled xs p.1) ∙ unrolled-flat xs p.0)
+    ap (λ ys. applied a (acts_from ys start) memory) (ap (λ ys. instrs_in (unrolled ys)) (instrs_of-spelled xs p.1) ∙ unrolled-flat xs p.0)
 
 -- a look for sections that exist has no effect
-needs_met : (a : Addresses) (sections : List ℕ) (acts : List Act) (memory : List ℕ) → all_below (length a.sections) sections ≡ true → applied a (map need sections ++ acts) memory ≡ applied a acts memory
-needs_met a [] acts memory below = refl
-needs_met a (k ∷ sections) acts memory below =
-    let p = and_parts (nat_lt k (length a.sections)) (all_below (length a.sections) sections) below in
-    need-there a k (map need sections ++ acts) memory p.0 ∙ needs_met a sections acts memory p.1
-
-unless_same : (f : Option RelocFault) (m : List ℕ) (x y : Done) → x ≡ y → unless_refused f m x ≡ unless_refused f m y
-unless_same f m x y e = ap (unless_refused f m) e
-
--- the next step in two ways that are equal
-pub then_same : (d : Done) (f g : List ℕ → Done) → ((m : List ℕ) → f m ≡ g m) → then_done d f ≡ then_done d g
-then_same d f g e = unless_same d.fault d.memory (f d.memory) (g d.memory) (e d.memory)
+needs_met : (a : Addresses) (p : ℕ) (sections : List ℕ) (acts : List Act) (memory : List ℕ) → all_below (length a.sections) sections ≡ true → applied a (map (need p) sections ++ acts) memory ≡ applied a acts memory
+needs_met a p [] acts memory below = refl
+needs_met a p (k ∷ sections) acts memory below =
+    let q = and_parts (nat_lt k (length a.sections)) (all_below (length a.sections) sections) below in
+    need-there a p k (map (need p) sections ++ acts) memory q.0 ∙ needs_met a p sections acts memory q.1
 
 -- instructions that name sections that exist do their additions, with no other refusal
 pub applied-trace : (a : Addresses) (xs : List Instr) (s : State) (memory : List ℕ) → names_below (length a.sections) xs ≡ true → applied a (acts_from xs s) memory ≡ applied a (map add (trace xs s)) memory
 applied-trace a [] s memory below = refl
 applied-trace a (x ∷ xs) s memory below =
     let p = and_parts (all_below (length a.sections) (named_sections x)) (names_below (length a.sections) xs) below in
-    ap (λ acts. applied a acts memory) (append_assoc (map need (named_sections x)) (map add (additions x s)) (acts_from xs (next_state x s)))
-    ∙ (needs_met a (named_sections x) (map add (additions x s) ++ acts_from xs (next_state x s)) memory p.0
+    ap (λ acts. applied a acts memory) (append_assoc (map (need s.position) (named_sections x)) (map add (additions x s)) (acts_from xs (next_state x s)))
+    ∙ (needs_met a s.position (named_sections x) (map add (additions x s) ++ acts_from xs (next_state x s)) memory p.0
     ∙ (applied-append a (map add (additions x s)) (acts_from xs (next_state x s)) memory
     ∙ (then_same (applied a (map add (additions x s)) memory) (applied a (acts_from xs (next_state x s))) (applied a (map add (trace xs (next_state x s)))) (λ m. applied-trace a xs (next_state x s) m p.1)
     ∙ (sym (applied-append a (map add (additions x s)) (map add (trace xs (next_state x s))) memory)

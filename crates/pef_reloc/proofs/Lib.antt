@@ -11,6 +11,7 @@ mod DeliveryLaws
 mod FixupLemmas
 mod Halfwords
 mod FlatLaws
+mod Placing
 mod Readback
 mod Readings
 mod Rows

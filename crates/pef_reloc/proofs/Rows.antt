@@ -1,7 +1,7 @@
 -- Runs of additions, word by word.
 use Rattle.std.proofs.Common.{◌≡◌, ℕ, suc, ◌+◌, ◌-◌, ◌<◌, ◌≤◌, List, [], ◌∷◌, map, length, nat_lt, false, None, Some, refl, arith, ◌∙◌}
-use Rattle.pef_reloc.specs.declared.fault.RelocFault.{RelocFault}
-use Rattle.pef_reloc.specs.declared.fault.RelocFault.TheVariants.{ImportOutside}
+use Rattle.pef_reloc.specs.declared.stop.Stop.{Stop}
+use Rattle.pef_reloc.specs.declared.stop.Stop.TheVariants.{NoImport}
 use Rattle.pef_reloc.specs.declared.fixup.Base.{Base}
 use Rattle.pef_reloc.specs.declared.fixup.Base.TheVariants.{Import}
 use Rattle.pef_reloc.specs.Steps.{add, added, row, pairs, numbered}
@@ -23,7 +23,7 @@ pub row-next : (a : Addresses) (b : Base) (x n i p w : ℕ) (memory memory' : Li
 row-next a b x n i p w memory memory' under stands e =
     rw (row-more n i p w b under) (word-next a b x p _ memory memory' stands e)
 
-pub row-fault : (a : Addresses) (b : Base) (x n i p w : ℕ) (memory memory' : List ℕ) (f : RelocFault) → i < n → Stands a b x → word_added memory p x ≡ record { memory = memory'; fault = Some f } → applied a (map add (row (n - i) p w b)) memory ≡ record { memory = memory'; fault = Some f }
+pub row-fault : (a : Addresses) (b : Base) (x n i p w : ℕ) (memory memory' : List ℕ) (f : Stop) → i < n → Stands a b x → word_added memory p x ≡ record { memory = memory'; fault = Some f } → applied a (map add (row (n - i) p w b)) memory ≡ record { memory = memory'; fault = Some f }
 row-fault a b x n i p w memory memory' f under stands e =
     rw (row-more n i p w b under) (word-fault a b x p _ memory memory' f stands e)
 
@@ -50,11 +50,11 @@ pub pairs-next : (a : Addresses) (b b' : Base) (x y n i p w : ℕ) (memory half 
 pairs-next a b b' x y n i p w memory half memory' under first second e f =
     rw (pairs-more n i p w b b' under) (word-next a b x p _ memory half first e ∙ word-next a b' y (p + 4) _ half memory' second f)
 
-pub pairs-fault : (a : Addresses) (b b' : Base) (x n i p w : ℕ) (memory memory' : List ℕ) (f : RelocFault) → i < n → Stands a b x → word_added memory p x ≡ record { memory = memory'; fault = Some f } → applied a (map add (pairs (n - i) p w b b')) memory ≡ record { memory = memory'; fault = Some f }
+pub pairs-fault : (a : Addresses) (b b' : Base) (x n i p w : ℕ) (memory memory' : List ℕ) (f : Stop) → i < n → Stands a b x → word_added memory p x ≡ record { memory = memory'; fault = Some f } → applied a (map add (pairs (n - i) p w b b')) memory ≡ record { memory = memory'; fault = Some f }
 pairs-fault a b b' x n i p w memory memory' f under stands e =
     rw (pairs-more n i p w b b' under) (word-fault a b x p _ memory memory' f stands e)
 
-pub pairs-fault_second : (a : Addresses) (b b' : Base) (x y n i p w : ℕ) (memory half memory' : List ℕ) (f : RelocFault) → i < n → Stands a b x → Stands a b' y → word_added memory p x ≡ record { memory = half; fault = None } → word_added half (p + 4) y ≡ record { memory = memory'; fault = Some f } → applied a (map add (pairs (n - i) p w b b')) memory ≡ record { memory = memory'; fault = Some f }
+pub pairs-fault_second : (a : Addresses) (b b' : Base) (x y n i p w : ℕ) (memory half memory' : List ℕ) (f : Stop) → i < n → Stands a b x → Stands a b' y → word_added memory p x ≡ record { memory = half; fault = None } → word_added half (p + 4) y ≡ record { memory = memory'; fault = Some f } → applied a (map add (pairs (n - i) p w b b')) memory ≡ record { memory = memory'; fault = Some f }
 pairs-fault_second a b b' x y n i p w memory half memory' f under first second e g =
     rw (pairs-more n i p w b b' under) (word-next a b x p _ memory half first e ∙ word-fault a b' y (p + 4) _ half memory' f second g)
 
@@ -73,11 +73,11 @@ pub numbered-next : (a : Addresses) (x n i p m : ℕ) (memory memory' : List ℕ
 numbered-next a x n i p m memory memory' under stands e =
     rw (numbered-more n i p m under) (word-next a (Import m) x p _ memory memory' stands e)
 
-pub numbered-fault : (a : Addresses) (x n i p m : ℕ) (memory memory' : List ℕ) (f : RelocFault) → i < n → Stands a (Import m) x → word_added memory p x ≡ record { memory = memory'; fault = Some f } → applied a (map add (numbered (n - i) p m)) memory ≡ record { memory = memory'; fault = Some f }
+pub numbered-fault : (a : Addresses) (x n i p m : ℕ) (memory memory' : List ℕ) (f : Stop) → i < n → Stands a (Import m) x → word_added memory p x ≡ record { memory = memory'; fault = Some f } → applied a (map add (numbered (n - i) p m)) memory ≡ record { memory = memory'; fault = Some f }
 numbered-fault a x n i p m memory memory' f under stands e =
     rw (numbered-more n i p m under) (word-fault a (Import m) x p _ memory memory' f stands e)
 
-pub numbered-missing : (a : Addresses) (n i p m : ℕ) (memory : List ℕ) → i < n → nat_lt m (length a.imports) ≡ false → applied a (map add (numbered (n - i) p m)) memory ≡ record { memory = memory; fault = Some ImportOutside }
+pub numbered-missing : (a : Addresses) (n i p m : ℕ) (memory : List ℕ) → i < n → nat_lt m (length a.imports) ≡ false → applied a (map add (numbered (n - i) p m)) memory ≡ record { memory = memory; fault = Some (NoImport p) }
 numbered-missing a n i p m memory under e =
     rw (numbered-more n i p m under) (import-fault a m p _ memory e)
 

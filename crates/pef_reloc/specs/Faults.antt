@@ -12,9 +12,9 @@ fault_number (RepeatTooFar at) = 33
 fault_number (RepeatCuts at) = 34
 fault_number (NestedRepeat at) = 35
 fault_number (TooManySteps at) = 36
-fault_number WordOutside = 37
-fault_number ImportOutside = 38
-fault_number SectionOutside = 39
+fault_number (WordOutside at word) = 37
+fault_number (ImportOutside at word) = 38
+fault_number (SectionOutside at word) = 39
 fault_number OutOfMemory = 99
 
 -- the names of the refusals, which are their texts
@@ -25,9 +25,9 @@ fault_name (RepeatTooFar at) = codes "RepeatTooFar"
 fault_name (RepeatCuts at) = codes "RepeatCuts"
 fault_name (NestedRepeat at) = codes "NestedRepeat"
 fault_name (TooManySteps at) = codes "TooManySteps"
-fault_name WordOutside = codes "WordOutside"
-fault_name ImportOutside = codes "ImportOutside"
-fault_name SectionOutside = codes "SectionOutside"
+fault_name (WordOutside at word) = codes "WordOutside"
+fault_name (ImportOutside at word) = codes "ImportOutside"
+fault_name (SectionOutside at word) = codes "SectionOutside"
 fault_name OutOfMemory = codes "OutOfMemory"
 
 -- the offset in the program's bytes of the instruction that is refused
@@ -38,11 +38,18 @@ fault_offset (RepeatTooFar at) = Some at
 fault_offset (RepeatCuts at) = Some at
 fault_offset (NestedRepeat at) = Some at
 fault_offset (TooManySteps at) = Some at
-fault_offset WordOutside = None
-fault_offset ImportOutside = None
-fault_offset SectionOutside = None
+fault_offset (WordOutside at word) = Some at
+fault_offset (ImportOutside at word) = Some at
+fault_offset (SectionOutside at word) = Some at
 fault_offset OutOfMemory = None
 
 -- the number of its first halfword
 abbrev pub fault_halfword : RelocFault → Option ℕ
 fault_halfword fault = option_map (λ at. at / 2) (fault_offset fault)
+
+-- the offset in the section of the word that it asks to add to
+abbrev pub fault_word : RelocFault → Option ℕ
+fault_word (WordOutside at word) = Some word
+fault_word (ImportOutside at word) = Some word
+fault_word (SectionOutside at word) = Some word
+fault_word _ = None

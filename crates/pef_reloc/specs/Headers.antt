@@ -6,24 +6,24 @@ use Rattle.std.specs.Prelude.{◌≢◌, ℕ, zero, suc, ◌+◌, ◌==◌, List
 use Rattle.std.specs.Option.{option_and_then}
 use Rattle.pef_words.specs.Refusals.{first_among}
 use Rattle.pef_reloc.specs.declared.fault.RelocFault.{RelocFault}
-use Rattle.pef_reloc.specs.Applied.{Addresses, Done, relocated, then_done, unless_refused}
+use Rattle.pef_reloc.specs.Applied.{Addresses, Done, relocation, then_done, unless_refused}
 use Rattle.pef_reloc.specs.Unrolled.{program_fault}
 
 -- nothing is done
-abbrev pub untouched : List ℕ → Done
+abbrev pub untouched : List ℕ → Done RelocFault
 untouched memory = record { memory = memory; fault = None }
 
 -- memory relocated by a program, if the bytes are one
-abbrev pub program_done : Addresses → List ℕ → List ℕ → Done
-program_done a bytes memory = unless_refused (program_fault bytes) memory (relocated bytes a memory)
+abbrev pub program_done : Addresses → List ℕ → List ℕ → Done RelocFault
+program_done a bytes memory = unless_refused (program_fault bytes) memory (relocation bytes a memory)
 
 -- memory of section k relocated by a header, if there is one and it is for that section
-abbrev pub header_done : Addresses → ℕ → Option (ℕ × List ℕ) → List ℕ → Done
+abbrev pub header_done : Addresses → ℕ → Option (ℕ × List ℕ) → List ℕ → Done RelocFault
 header_done a k None memory = untouched memory
 header_done a k (Some header) memory = if header.0 == k then program_done a header.1 memory else untouched memory
 
 -- memory of section k relocated by the n headers from a number on, in order
-unfoldable pub relocated_by : Addresses → ℕ → (ℕ → Option (ℕ × List ℕ)) → ℕ → ℕ → List ℕ → Done
+unfoldable pub relocated_by : Addresses → ℕ → (ℕ → Option (ℕ × List ℕ)) → ℕ → ℕ → List ℕ → Done RelocFault
 relocated_by a k header from zero memory = untouched memory
 relocated_by a k header from (suc n) memory = then_done (header_done a k (header from) memory) (relocated_by a k header (from + 1) n)
 

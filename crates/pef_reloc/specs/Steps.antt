@@ -104,14 +104,14 @@ abbrev pub state_after : List Instr → State → State
 state_after [] s = s
 state_after (instr ∷ instrs) s = state_after instrs (next_state instr s)
 
--- what is done, in order: an addition, or a look for a section that must exist
+-- what is done, in order: an addition, or a look at a position for a section that must exist
 pub data Act : Type 0 where
   add : Fixup → Act
-  need : ℕ → Act
+  need : ℕ → ℕ → Act
 
 -- the acts of an instruction: the section that it names is looked for first
 abbrev pub acts_of : Instr → State → List Act
-acts_of instr s = map need (named_sections instr) ++ map add (additions instr s)
+acts_of instr s = map (need s.position) (named_sections instr) ++ map add (additions instr s)
 
 -- the acts of a list of instructions from a state
 abbrev pub acts_from : List Instr → State → List Act

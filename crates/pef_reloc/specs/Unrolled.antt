@@ -3,7 +3,7 @@
 -- and kPEFRelocLgRepeat). A repeat runs the preceding halfwords as many more times as its count says.
 -- The pass that ran before it isn't counted. That, the refusals and the limit of steps are this
 -- project's own rules.
-use Rattle.std.specs.Prelude.{ℕ, zero, suc, ◌+◌, ◌-◌, ◌*◌, nat_le, if◌then◌else◌, List, [], ◌∷◌, ◌++◌, length, Option, None, Some, Result, Ok, Err}
+use Rattle.std.specs.Prelude.{ℕ, zero, suc, ◌+◌, ◌-◌, ◌*◌, nat_le, if◌then◌else◌, List, [], ◌∷◌, ◌++◌, length, map, Option, None, Some, Result, Ok, Err}
 use Rattle.std.specs.Option.{option_or}
 use Rattle.std.specs.Result.{result_unwrap_or}
 use Rattle.pef_reloc.specs.declared.fault.RelocFault.{RelocFault}
@@ -27,36 +27,49 @@ reached (instr ∷ before) (suc n) block =
 unfoldable pub block_of : List Instr → Repeat → List Instr
 block_of before r = result_unwrap_or (reached before r.blocks []) []
 
+-- where the bytes of instructions end, which is where the next one begins
+abbrev pub place_after : List Instr → ℕ
+place_after before = 2 * program_length before
+
+-- an instruction that is executed, and the place in the program at which it begins
+abbrev pub Step : Type 0
+Step = ℕ × Instr
+
+-- instructions one after the other, from a place on
+abbrev pub steps_from : ℕ → List Instr → List Step
+steps_from at [] = []
+steps_from at (instr ∷ instrs) = (at, instr) ∷ steps_from (at + 2 * instr_length instr) instrs
+
+-- the instructions without their places
+abbrev pub instrs_in : List Step → List Instr
+instrs_in steps = map (λ step. step.1) steps
+
 -- a list this many times
-abbrev pub repeated : ℕ → List Instr → List Instr
+abbrev pub repeated : {A : Type 0} → ℕ → List A → List A
 repeated zero block = []
 repeated (suc n) block = block ++ repeated n block
 
 -- what is executed at an instruction: itself, or the passes of a repeat
-abbrev pub executed_as : List Instr → Instr → Option Repeat → List Instr
-executed_as before instr None = instr ∷ []
-executed_as before instr (Some r) = repeated r.passes (block_of before r)
+abbrev pub executed_as : List Instr → Instr → Option Repeat → List Step
+executed_as before instr None = (place_after before, instr) ∷ []
+executed_as before instr (Some r) = repeated r.passes (steps_from (place_after before - 2 * r.blocks) (block_of before r))
 
-abbrev pub executed : List Instr → Instr → List Instr
+abbrev pub executed : List Instr → Instr → List Step
 executed before instr = executed_as before instr (repeat_of instr)
 
 -- what a list of instructions executes after others
-abbrev pub unrolled_after : List Instr → List Instr → List Instr
+abbrev pub unrolled_after : List Instr → List Instr → List Step
 unrolled_after before [] = []
 unrolled_after before (instr ∷ instrs) = executed before instr ++ unrolled_after (instr ∷ before) instrs
 
 -- what a program executes
-abbrev pub unrolled : List Instr → List Instr
+abbrev pub unrolled : List Instr → List Step
 unrolled instrs = unrolled_after [] instrs
 
 -- the steps at an instruction: what it executes, and a repeat itself
 abbrev pub steps_as : List Instr → Option Repeat → ℕ
 steps_as before None = 1
 steps_as before (Some r) = length (repeated r.passes (block_of before r)) + 1
-
--- where the bytes of instructions end, which is where the next one begins
-abbrev pub place_after : List Instr → ℕ
-place_after before = 2 * program_length before
 
 -- why the block of a repeat at a place is refused
 abbrev pub block_fault : ℕ → Result (List Instr) (ℕ → RelocFault) → Option RelocFault

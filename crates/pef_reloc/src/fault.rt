@@ -1,5 +1,5 @@
 ghost use Rattle.std.specs.Prelude.{◌≡◌};
-ghost use Rattle.pef_reloc.specs.Faults.{fault_halfword, fault_name, fault_number, fault_offset};
+ghost use Rattle.pef_reloc.specs.Faults.{fault_halfword, fault_name, fault_number, fault_offset, fault_word};
 
 use std::alloc::AllocError;
 use std::fmt;
@@ -7,7 +7,9 @@ use thiserror::Error;
 
 /// Why a relocation program is refused, or stopped.
 ///
-/// `at` is the offset in the program's bytes of the instruction that is refused.
+/// `at` is the offset in the program's bytes of the instruction that is refused, which for one that a repeat runs
+/// again is that of the instruction itself. `word` is the offset in the section of the word that it asks to add to; for
+/// an instruction that only names a section it is the position.
 #[derive(Clone, Copy, Debug, PartialEq, Eq, Error)]
 pub enum RelocFault {
     /// A halfword begins no instruction.
@@ -23,11 +25,11 @@ pub enum RelocFault {
     /// More instructions would be executed than a program may execute.
     TooManySteps { at: usize },
     /// A word would pass the end of the section.
-    WordOutside,
+    WordOutside { at: usize, word: u64 },
     /// An import doesn't exist.
-    ImportOutside,
+    ImportOutside { at: usize, word: u64 },
     /// A section doesn't exist.
-    SectionOutside,
+    SectionOutside { at: usize, word: u64 },
     /// An allocation failed.
     OutOfMemory,
 }
@@ -44,9 +46,9 @@ impl RelocFault {
             RelocFault::RepeatCuts { .. } => 34,
             RelocFault::NestedRepeat { .. } => 35,
             RelocFault::TooManySteps { .. } => 36,
-            RelocFault::WordOutside => 37,
-            RelocFault::ImportOutside => 38,
-            RelocFault::SectionOutside => 39,
+            RelocFault::WordOutside { .. } => 37,
+            RelocFault::ImportOutside { .. } => 38,
+            RelocFault::SectionOutside { .. } => 39,
             RelocFault::OutOfMemory => 99,
         }
     }
@@ -62,9 +64,9 @@ impl RelocFault {
             RelocFault::RepeatCuts { .. } => "RepeatCuts",
             RelocFault::NestedRepeat { .. } => "NestedRepeat",
             RelocFault::TooManySteps { .. } => "TooManySteps",
-            RelocFault::WordOutside => "WordOutside",
-            RelocFault::ImportOutside => "ImportOutside",
-            RelocFault::SectionOutside => "SectionOutside",
+            RelocFault::WordOutside { .. } => "WordOutside",
+            RelocFault::ImportOutside { .. } => "ImportOutside",
+            RelocFault::SectionOutside { .. } => "SectionOutside",
             RelocFault::OutOfMemory => "OutOfMemory",
         }
     }
@@ -80,9 +82,22 @@ impl RelocFault {
             RelocFault::RepeatCuts { at } => Some(at),
             RelocFault::NestedRepeat { at } => Some(at),
             RelocFault::TooManySteps { at } => Some(at),
-            RelocFault::WordOutside | RelocFault::ImportOutside | RelocFault::SectionOutside =>
-                None,
+            RelocFault::WordOutside { at, .. } => Some(at),
+            RelocFault::ImportOutside { at, .. } => Some(at),
+            RelocFault::SectionOutside { at, .. } => Some(at),
             RelocFault::OutOfMemory => None,
+        }
+    }
+
+    /// Returns the offset in the section of the word that was to be added to.
+    pub fn word(&self) -> Option<u64>
+        ensures { result ≡ fault_word self.now }
+    {
+        match *self {
+            RelocFault::WordOutside { word, .. } => Some(word),
+            RelocFault::ImportOutside { word, .. } => Some(word),
+            RelocFault::SectionOutside { word, .. } => Some(word),
+            _ => None,
         }
     }
 

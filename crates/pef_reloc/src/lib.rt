@@ -14,6 +14,7 @@ mod opcode;
 mod program;
 mod recent;
 mod relocate;
+mod stop;
 mod theorems;
 mod words;
 
@@ -26,4 +27,6 @@ pub use instr::{Instr, Repeat};
 pub use program::{Instrs, Program};
 pub use recent::MAX_STEPS;
 pub use relocate::apply;
-pub use theorems::{acts_in_turn, additions_inside, readable_programs, spelled_programs};
+pub use theorems::{
+    acts_in_turn, additions_inside, readable_programs, refusals_have_places, spelled_programs,
+};

@@ -2,7 +2,7 @@ ghost use Rattle.std.specs.Prelude.{◌≡◌, ◌+◌, ◌*◌, ◌^◌, ◌≤
 ghost use Rattle.std.specs.Result.{result_err};
 ghost use Rattle.pef_reloc.specs.Applied.{address_of};
 ghost use Rattle.pef_reloc.specs.Instrs.{instr_fits, repeat_of};
-ghost use Rattle.pef_reloc.specs.Unrolled.{executed, repeat_fault, repeated};
+ghost use Rattle.pef_reloc.specs.Unrolled.{executed, repeat_fault, repeated, steps_from};
 ghost use Rattle.pef_reloc.specs.declared.instr.Instr.{Instr};
 ghost use Rattle.pef_reloc.specs.Kept.Machines.{Holds, Moves, Near, Runs, SetsC, SetsD, Stepped, known, machine_after};
 ghost use Rattle.pef_reloc.specs.Kept.Places.{Before, Spans};
@@ -13,6 +13,7 @@ ghost use Rattle.pef_reloc.specs.declared.fixup.Base.TheVariants.{Section, Impor
 use crate::decode::instr_from;
 use crate::fault::RelocFault;
 use crate::instr::Instr;
+use crate::stop::Stop;
 use crate::words::{NEXT, Row, add_pairs, add_row, add_word};
 
 /// A part of a program: its bytes from one place to another.
@@ -39,23 +40,23 @@ impl<'a> Targets<'a> {
         Targets { sections, imports }
     }
 
-    /// Returns the address of a section that an instruction names.
-    fn section(self, section: u32) -> Result<u32, RelocFault>
-        ensures { FindsSection (known self.entry) section result }
+    /// Returns the address of a section that an instruction names for the word at an offset.
+    fn section(self, section: u32, word: u64) -> Result<u32, Stop>
+        ensures { FindsSection (known self.entry) section word result }
     {
         match self.sections.get(section as usize) {
             Some(address) => Ok(*address),
-            None => Err(RelocFault::SectionOutside),
+            None => Err(Stop::NoSection(word)),
         }
     }
 
-    /// Returns the address of an import.
-    fn import(self, import: u64) -> Result<u32, RelocFault>
-        ensures { FindsImport (known self.entry) import result }
+    /// Returns the address of an import that is to be added to the word at an offset.
+    fn import(self, import: u64, word: u64) -> Result<u32, Stop>
+        ensures { FindsImport (known self.entry) import word result }
     {
         match self.imports.get(import as usize) {
             Some(address) => Ok(*address),
-            None => Err(RelocFault::ImportOutside),
+            None => Err(Stop::NoImport(word)),
         }
     }
 
@@ -107,7 +108,7 @@ impl Machine {
         instr: Instr,
         memory: &mut [u8],
         targets: Targets,
-    ) -> Result<(), RelocFault>
+    ) -> Result<(), Stop>
         requires near { Near self.old (2 ^ 40) }
         requires fits { instr_fits instr ≡ true }
         ensures steps { Stepped (known targets.entry) self.old self.new memory.old memory.new instr (result_err result) }
@@ -145,6 +146,26 @@ impl Machine {
         }
     }
 
+    /// Executes the instruction at a place of a program. A repeat does nothing by itself.
+    #[inline(always)]
+    fn step_at(
+        &mut self,
+        at: usize,
+        instr: Instr,
+        memory: &mut [u8],
+        targets: Targets,
+    ) -> Result<(), RelocFault>
+        requires near { Near self.old (2 ^ 40) }
+        requires fits { instr_fits instr ≡ true }
+        ensures runs { Runs (known targets.entry) self.old self.new memory.old memory.new ((at, instr) ∷ []) (result_err result) }
+        ensures moves { Moves self.old self.new 6144 }
+    {
+        match self.step(instr, memory, targets) {
+            Ok(()) => Ok(()),
+            Err(stop) => Err(stop.fault(at)),
+        }
+    }
+
     /// Executes the instruction that comes after the earlier part of a program. A repeat is executed by
     /// its passes.
     #[inline(always)]
@@ -167,7 +188,7 @@ impl Machine {
                 let from = earlier.to - 2 * repeat.blocks as usize;
                 self.repeat(Block { from, ..earlier }, repeat.passes, memory, targets)
             }
-            None => self.step(instr, memory, targets),
+            None => self.step_at(earlier.to, instr, memory, targets),
         }
     }
 
@@ -187,7 +208,7 @@ impl Machine {
         requires inside { block.to ≤ length block.bytes.now }
         requires order { block.from ≤ block.to }
         requires short { block.to ≤ block.from + 32 }
-        ensures runs { (instrs : List Instr) → Spans block.entry.bytes.now block.entry.from instrs block.entry.to → Runs (known targets.entry) self.old self.new memory.old memory.new (repeated passes instrs) (result_err result) }
+        ensures runs { (instrs : List Instr) → Spans block.entry.bytes.now block.entry.from instrs block.entry.to → Runs (known targets.entry) self.old self.new memory.old memory.new (repeated passes (steps_from block.entry.from instrs)) (result_err result) }
         ensures moves { Moves self.old self.new (2 ^ 39) }
     {
         'passes: for _ in 0..passes {
@@ -207,20 +228,20 @@ impl Machine {
         requires inside { block.to ≤ length block.bytes.now }
         requires order { block.from ≤ block.to }
         requires short { block.to ≤ block.from + 32 }
-        ensures runs { (instrs : List Instr) → Spans block.entry.bytes.now block.entry.from instrs block.entry.to → Runs (known targets.entry) self.old self.new memory.old memory.new instrs (result_err result) }
+        ensures runs { (instrs : List Instr) → Spans block.entry.bytes.now block.entry.from instrs block.entry.to → Runs (known targets.entry) self.old self.new memory.old memory.new (steps_from block.entry.from instrs) (result_err result) }
         ensures moves { Moves self.old self.new (2 ^ 17) }
     {
         let mut at = block.from;
         while at < block.to {
             let instr = instr_from(block.bytes, at)?;
-            self.step(instr, memory, targets)?;
+            self.step_at(at, instr, memory, targets)?;
             at += 2 * instr.length();
         }
         Ok(())
     }
 
     /// Adds an address to the words of a row, and moves past them.
-    fn row(&mut self, memory: &mut [u8], row: Row, address: u32) -> Result<(), RelocFault>
+    fn row(&mut self, memory: &mut [u8], row: Row, address: u32) -> Result<(), Stop>
         requires { row.from + row.stride * row.count + 4 < 2 ^ 64 }
         ensures does { DoesRow memory.old memory.new row address (result_err result) }
         ensures after { self.new ≡ machine_after (result_err result) self.old (record self.old { position = row.from + row.stride * row.count }) }
@@ -231,7 +252,7 @@ impl Machine {
     }
 
     /// Adds sections C and D to some pairs of words, `stride` bytes apart, and moves past them.
-    fn pairs(&mut self, memory: &mut [u8], stride: u64, count: u32) -> Result<(), RelocFault>
+    fn pairs(&mut self, memory: &mut [u8], stride: u64, count: u32) -> Result<(), Stop>
         requires { self.old.position + stride * count + 8 < 2 ^ 64 }
         ensures does { DoesPairs memory.old memory.new (record { from = self.old.position; stride = stride; count = count }) self.old.section_c self.old.section_d (result_err result) }
         ensures after { self.new ≡ machine_after (result_err result) self.old (record self.old { position = self.old.position + stride * count }) }
@@ -244,12 +265,7 @@ impl Machine {
     }
 
     /// Adds some imports, one after the other.
-    fn import_run(
-        &mut self,
-        memory: &mut [u8],
-        count: u32,
-        targets: Targets,
-    ) -> Result<(), RelocFault>
+    fn import_run(&mut self, memory: &mut [u8], count: u32, targets: Targets) -> Result<(), Stop>
         requires near { Near self.old (2 ^ 40) }
         requires short { count ≤ 512 }
         ensures does { DoesNumbered (known targets.entry) memory.old memory.new count self.old.position self.old.import_index (result_err result) }
@@ -263,12 +279,7 @@ impl Machine {
 
     /// Adds an import, and makes the one after it the next.
     #[tactic(auto, using(crate::proofs::Rows::numbered_one))]
-    fn import_word(
-        &mut self,
-        memory: &mut [u8],
-        import: u32,
-        targets: Targets,
-    ) -> Result<(), RelocFault>
+    fn import_word(&mut self, memory: &mut [u8], import: u32, targets: Targets) -> Result<(), Stop>
         requires near { Near self.old (2 ^ 40) }
         ensures does { Does (known targets.entry) memory.old memory.new (add (added self.old.position (Import import)) ∷ []) (result_err result) }
         ensures after { self.new ≡ machine_after (result_err result) self.old (record self.old { position = self.old.position + 4; import_index = import + 1 }) }
@@ -286,30 +297,30 @@ impl Machine {
         memory: &mut [u8],
         section: u32,
         targets: Targets,
-    ) -> Result<(), RelocFault>
+    ) -> Result<(), Stop>
         requires near { Near self.old (2 ^ 40) }
-        ensures does { Does (known targets.entry) memory.old memory.new (need section ∷ add (added self.old.position (Section section)) ∷ []) (result_err result) }
+        ensures does { Does (known targets.entry) memory.old memory.new (need self.old.position section ∷ add (added self.old.position (Section section)) ∷ []) (result_err result) }
         ensures after { self.new ≡ machine_after (result_err result) self.old (record self.old { position = self.old.position + 4 }) }
     {
-        let address = targets.section(section)?;
+        let address = targets.section(section, self.position)?;
         add_word(memory, self.position, address)?;
         self.position += NEXT;
         Ok(())
     }
 
     /// Makes a section the new section C.
-    fn set_c(&mut self, section: u32, targets: Targets) -> Result<(), RelocFault>
+    fn set_c(&mut self, section: u32, targets: Targets) -> Result<(), Stop>
         ensures { SetsC (known targets.entry) self.old self.new section (result_err result) }
     {
-        self.section_c = targets.section(section)?;
+        self.section_c = targets.section(section, self.position)?;
         Ok(())
     }
 
     /// Makes a section the new section D.
-    fn set_d(&mut self, section: u32, targets: Targets) -> Result<(), RelocFault>
+    fn set_d(&mut self, section: u32, targets: Targets) -> Result<(), Stop>
         ensures { SetsD (known targets.entry) self.old self.new section (result_err result) }
     {
-        self.section_d = targets.section(section)?;
+        self.section_d = targets.section(section, self.position)?;
         Ok(())
     }
 }
@@ -322,7 +333,7 @@ fn add_imports(
     count: u32,
     first: u64,
     targets: Targets,
-) -> Result<(), RelocFault>
+) -> Result<(), Stop>
     requires word { position + 4 * count + 4 < 2 ^ 64 }
     requires index { first + count < 2 ^ 64 }
     ensures { DoesNumbered (known targets.entry) memory.old memory.new count position first (result_err result) }
@@ -330,7 +341,7 @@ fn add_imports(
     let mut at = position;
     let mut import = first;
     'words: for _ in 0..count {
-        let address = targets.import(import)?;
+        let address = targets.import(import, at)?;
         add_word(memory, at, address)?;
         at += NEXT;
         import += 1;

@@ -1,6 +1,6 @@
 ghost use Rattle.std.specs.Prelude.{◌≡◌, None};
 ghost use Rattle.std.specs.Result.{result_err};
-ghost use Rattle.pef_reloc.specs.Applied.{relocated};
+ghost use Rattle.pef_reloc.specs.Applied.{relocation};
 ghost use Rattle.pef_reloc.specs.Kept.Machines.{known};
 ghost use Rattle.pef_reloc.specs.Unrolled.{program_fault};
 ghost use Rattle.pef_reloc.specs.Views.{program_bytes};
@@ -26,7 +26,7 @@ pub fn apply(
     sections: &[u32],
     imports: &[u32],
 ) -> Result<(), RelocFault>
-    ensures { relocated (program_bytes program.now) (record { sections = sections.now; imports = imports.now }) memory.old ≡ record { memory = memory.new; fault = result_err result } }
+    ensures { relocation (program_bytes program.now) (record { sections = sections.now; imports = imports.now }) memory.old ≡ record { memory = memory.new; fault = result_err result } }
 {
     run(program.bytes(), memory, Targets::new(sections, imports))
 }
@@ -34,7 +34,7 @@ pub fn apply(
 /// Relocates memory by the bytes of a readable program.
 fn run(bytes: &[u8], memory: &mut [u8], targets: Targets) -> Result<(), RelocFault>
     requires { program_fault bytes.now ≡ None }
-    ensures { relocated bytes.now (known targets.entry) memory.old ≡ record { memory = memory.new; fault = result_err result } }
+    ensures { relocation bytes.now (known targets.entry) memory.old ≡ record { memory = memory.new; fault = result_err result } }
 {
     let mut machine = Machine::new(targets);
     let mut at = 0;

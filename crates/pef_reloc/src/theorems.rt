@@ -1,7 +1,7 @@
 //! Laws of the definitions, for the proofs of crates that write programs. The functions do nothing.
 ghost use Rattle.std.specs.Prelude.{◌≡◌, ◌≤◌, ◌<◌, ◌++◌, ℕ, List, None, length, map, slice_index, true};
 ghost use Rattle.pef_reloc.specs.Additions.{AreInside, all_added, with_bases};
-ghost use Rattle.pef_reloc.specs.Applied.{Addresses, address_of, applied, relocated, then_done};
+ghost use Rattle.pef_reloc.specs.Applied.{Addresses, IsPlaced, address_of, applied, relocated, relocation, then_done};
 ghost use Rattle.pef_reloc.specs.Fixups.{fixups_fit};
 ghost use Rattle.pef_reloc.specs.Instrs.{instrs_fit, spelled};
 ghost use Rattle.pef_reloc.specs.Steps.{Act, State, acts_from, add, is_flat, names_below, start, trace};
@@ -23,6 +23,11 @@ pub fn spelled_programs()
 pub fn acts_in_turn()
     ensures behind { (a : Addresses) (acts others : List Act) (memory : List ℕ) → applied a (acts ++ others) memory ≡ then_done (applied a acts memory) (applied a others) }
     ensures additions { (a : Addresses) (instrs : List Instr) (s : State) (memory : List ℕ) → names_below (length a.sections) instrs ≡ true → applied a (acts_from instrs s) memory ≡ applied a (map add (trace instrs s)) memory }
+{}
+
+/// A program has the effect of its acts. If an act is refused, so is the program, at the instruction of that act.
+pub fn refusals_have_places()
+    ensures { (bytes : List ℕ) (a : Addresses) (memory : List ℕ) → IsPlaced (relocation bytes a memory) (relocated bytes a memory) }
 {}
 
 /// The bytes of a readable program are those that spell its instructions, and these fit.

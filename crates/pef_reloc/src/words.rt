@@ -4,8 +4,8 @@ ghost use Rattle.pef_reloc.specs.Applied.{added_at};
 ghost use Rattle.pef_reloc.specs.Kept.Rows.{word_added};
 ghost use Rattle.pef_reloc.specs.Kept.Rows.{DoesPairs, DoesRow};
 
-use crate::fault::RelocFault;
 use crate::fixup::WORD;
+use crate::stop::Stop;
 use byteorder::{BigEndian, ByteOrder};
 
 /// The distance to the next word, in bytes.
@@ -34,7 +34,7 @@ impl Row {
 }
 
 /// Adds `address` to the words of a row, up to the first that passes the end.
-pub(crate) fn add_row(memory: &mut [u8], row: Row, address: u32) -> Result<(), RelocFault>
+pub(crate) fn add_row(memory: &mut [u8], row: Row, address: u32) -> Result<(), Stop>
     requires { row.from + row.stride * row.count + 4 < 2 ^ 64 }
     ensures { DoesRow memory.old memory.new row address (result_err result) }
 {
@@ -48,12 +48,7 @@ pub(crate) fn add_row(memory: &mut [u8], row: Row, address: u32) -> Result<(), R
 
 /// Adds `first` to the words of a row and `second` to the word after each, up to the first word that
 /// passes the end.
-pub(crate) fn add_pairs(
-    memory: &mut [u8],
-    row: Row,
-    first: u32,
-    second: u32,
-) -> Result<(), RelocFault>
+pub(crate) fn add_pairs(memory: &mut [u8], row: Row, first: u32, second: u32) -> Result<(), Stop>
     requires { row.from + row.stride * row.count + 8 < 2 ^ 64 }
     ensures { DoesPairs memory.old memory.new row first second (result_err result) }
 {
@@ -70,13 +65,13 @@ pub(crate) fn add_pairs(
 ///
 /// # Errors
 ///
-/// `WordOutside` if the word passes the end; memory is then unchanged.
-pub(crate) fn add_word(memory: &mut [u8], at: u64, address: u32) -> Result<(), RelocFault>
+/// `PastEnd` if the word passes the end; memory is then unchanged.
+pub(crate) fn add_word(memory: &mut [u8], at: u64, address: u32) -> Result<(), Stop>
     requires { at + 4 < 2 ^ 64 }
     ensures { word_added memory.old at address ≡ record { memory = memory.new; fault = result_err result } }
 {
     if at + NEXT > memory.len() as u64 {
-        return Err(RelocFault::WordOutside);
+        return Err(Stop::PastEnd(at));
     }
     add_at(memory, at as usize, address);
     Ok(())

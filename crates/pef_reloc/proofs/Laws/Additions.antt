@@ -6,7 +6,7 @@ use Rattle.std.proofs.lemmas.Bool.{lt-ltb, le-leb}
 use Rattle.std.proofs.lemmas.List.{length-append, length-drop, length-take}
 use Rattle.byteorder.specs.Endian.{big_number, big_bytes}
 use Rattle.byteorder.specs.Numbers.{length-bytes_high_first}
-use Rattle.pef_reloc.specs.declared.fault.RelocFault.{RelocFault}
+use Rattle.pef_reloc.specs.declared.stop.Stop.{Stop}
 use Rattle.pef_reloc.specs.declared.fixup.Base.{Base}
 use Rattle.pef_reloc.specs.declared.fixup.Base.TheVariants.{Section, Import}
 use Rattle.pef_reloc.specs.declared.fixup.Fixup.{Fixup}
@@ -34,7 +34,7 @@ addition-there a len fixup inside = go fixup.base inside.base
     go (Section k) is = rw (le-leb (fixup.offset + 4) len inside.word) refl
     go (Import j) is = rw (lt-ltb j (length a.imports) is, le-leb (fixup.offset + 4) len inside.word) refl
 
-done_here : (fault : Option RelocFault) (memory : List ℕ) (rest : Done) → fault ≡ None → unless_refused fault memory rest ≡ rest
+done_here : (fault : Option Stop) (memory : List ℕ) (rest : Done Stop) → fault ≡ None → unless_refused fault memory rest ≡ rest
 done_here fault memory rest none = rw none refl
 
 -- additions that lie inside memory are all done

@@ -12,11 +12,13 @@ use Rattle.pef_reloc.specs.Fixups.{fixups_from}
 use Rattle.pef_reloc.specs.Headers.{IsOther, header_done, program_done, refusal_at, relocated_by, untouched}
 use Rattle.pef_reloc.specs.Instrs.{spelled}
 use Rattle.pef_reloc.specs.Limits.{step_limit}
-use Rattle.pef_reloc.specs.Steps.{Makes, is_flat, names_below, start}
+use Rattle.pef_reloc.specs.Steps.{Makes, is_flat, names_below, start, trace}
 use Rattle.pef_reloc.proofs.Laws.Additions.{additions-described, instrs-done}
-use Rattle.pef_reloc.proofs.FlatLaws.{program_fault-spelled, relocated-spelled, then_same}
+use Rattle.pef_reloc.proofs.ActLists.{done_thrice, then_same}
+use Rattle.pef_reloc.proofs.FlatLaws.{program_fault-spelled, relocated-spelled}
+use Rattle.pef_reloc.proofs.Placing.{relocation-done}
 
-abbrev fault_of : Done → Option RelocFault
+abbrev fault_of : Done RelocFault → Option RelocFault
 fault_of d = d.fault
 
 -- a flat program for fixups in address order that lie inside memory has the effect that they
@@ -26,7 +28,7 @@ pub program-described : (a : Addresses) (fixups : List Fixup) (instrs : List Ins
 program-described a fixups instrs memory flat makes names few apart inside =
     let P : List Fixup → Type 0 = λ fs. AreInside a (length memory) fs in
     rw (program_fault-spelled instrs flat few)
-    (relocated-spelled instrs a memory flat ∙ instrs-done a instrs start memory names (subst P (sym makes) inside)
+    (relocation-done (spelled instrs) a memory (all_added a (trace instrs start) memory) (relocated-spelled instrs a memory flat ∙ instrs-done a instrs start memory names (subst P (sym makes) inside))
     ∙ ap untouched (ap (λ (fs : List Fixup). all_added a fs memory) makes ∙ additions-described a fixups memory apart inside))
 
 -- a header for another section leaves the memory unchanged
@@ -39,37 +41,30 @@ pub header-own : (a : Addresses) (k : ℕ) (bytes memory : List ℕ) → header_
 header-own a k bytes memory = rw (eq-eqb k k refl) refl
 
 -- the effect after something that isn't refused
-done_next : (d : Done) (next : List ℕ → Done) → d.fault ≡ None → then_done d next ≡ next d.memory
+done_next : (d : Done RelocFault) (next : List ℕ → Done RelocFault) → d.fault ≡ None → then_done d next ≡ next d.memory
 done_next d next none = rw none refl
 
 -- something that isn't refused in the end wasn't refused before
-done_first : (d : Done) (next : List ℕ → Done) → (then_done d next).fault ≡ None → d.fault ≡ None
+done_first : (d : Done RelocFault) (next : List ℕ → Done RelocFault) → (then_done d next).fault ≡ None → d.fault ≡ None
 done_first d next none = go d.fault none
   where
     go : (f : Option RelocFault) → (unless_refused f d.memory (next d.memory)).fault ≡ None → f ≡ None
     go None is = refl
     go (Some fault) is = is
 
-done_whole : (d : Done) → then_done d untouched ≡ d
+done_whole : (d : Done RelocFault) → then_done d untouched ≡ d
 done_whole d = go d.fault d.memory
   where
     go : (fault : Option RelocFault) (memory : List ℕ) → unless_refused fault memory (untouched memory) ≡ record { memory = memory; fault = fault }
     go None memory = refl
     go (Some fault) memory = refl
 
-done_thrice : (d : Done) (f g : List ℕ → Done) → then_done d (λ m. then_done (f m) g) ≡ then_done (then_done d f) g
-done_thrice d f g = go d.fault d.memory
-  where
-    go : (fault : Option RelocFault) (m : List ℕ) → unless_refused fault m (then_done (f m) g) ≡ then_done (unless_refused fault m (f m)) g
-    go None m = refl
-    go (Some fault) m = refl
-
 -- headers of which none is for the section leave its memory unchanged
 pub headers-others : (a : Addresses) (k : ℕ) (header : ℕ → Option (ℕ × List ℕ)) (from n : ℕ) (memory : List ℕ) → ((j : ℕ) → from ≤ j → j < from + n → IsOther k (header j)) → relocated_by a k header from n memory ≡ untouched memory
 unfolding relocated_by
 headers-others a k header from zero memory others = refl
 headers-others a k header from (suc n) memory others =
-    ap (λ (d : Done). then_done d (relocated_by a k header (from + 1) n)) (header-other a k (header from) memory (others from (omega arith) (omega arith)))
+    ap (λ (d : Done RelocFault). then_done d (relocated_by a k header (from + 1) n)) (header-other a k (header from) memory (others from (omega arith) (omega arith)))
     ∙ headers-others a k header (from + 1) n memory (λ j low high. others j (omega arith) (omega arith))
 
 -- if exactly one of the headers is for the section, they have the effect of its program
@@ -83,12 +78,12 @@ headers-own a k header from (suc n) i bytes memory low high is others =
           let here : header from ≡ Some (k, bytes) = ap header same.1 ∙ is in
           let at = same.1 in
           ap (λ (h : Option (ℕ × List ℕ)). then_done (header_done a k h memory) (relocated_by a k header (from + 1) n)) here
-          ∙ ap (λ (d : Done). then_done d (relocated_by a k header (from + 1) n)) (header-own a k bytes memory)
+          ∙ ap (λ (d : Done RelocFault). then_done d (relocated_by a k header (from + 1) n)) (header-own a k bytes memory)
           ∙ then_same (program_done a bytes memory) (relocated_by a k header (from + 1) n) untouched (λ m. headers-others a k header (from + 1) n m (λ j after under. others j (omega arith) (omega arith) (λ e. omega arith)))
           ∙ done_whole (program_done a bytes memory))
       | inr other ↦ (
           let apart = other.1 in
-          ap (λ (d : Done). then_done d (relocated_by a k header (from + 1) n)) (header-other a k (header from) memory (others from (omega arith) (omega arith) apart))
+          ap (λ (d : Done RelocFault). then_done d (relocated_by a k header (from + 1) n)) (header-other a k (header from) memory (others from (omega arith) (omega arith) apart))
           ∙ headers-own a k header (from + 1) n i bytes memory (omega arith) (omega arith) is (λ j after under differ. others j (omega arith) (omega arith) differ))
     ]
 
@@ -145,7 +140,7 @@ programs-sound a k header i from zero bytes memory under is none = absurd (omega
 programs-sound a k header zero from (suc n) bytes memory under is none =
     let here : from + 0 ≡ from = omega arith in
     let done : header_done a k (header from) memory ≡ program_done a bytes memory = ap (λ (h : Option (ℕ × List ℕ)). header_done a k h memory) (ap header (sym here) ∙ is) ∙ header-own a k bytes memory in
-    let P : Done → Type 0 = λ d. (then_done d (relocated_by a k header (from + 1) n)).fault ≡ None in
+    let P : Done RelocFault → Type 0 = λ d. (then_done d (relocated_by a k header (from + 1) n)).fault ≡ None in
     done_first (program_done a bytes memory) (relocated_by a k header (from + 1) n) (subst P done none)
 programs-sound a k header (suc i) from (suc n) bytes memory under is none =
     let next : from + suc i ≡ from + 1 + i = omega arith in

@@ -5,9 +5,11 @@ use Rattle.pef_reloc.specs.declared.fault.RelocFault.{RelocFault}
 use Rattle.pef_reloc.specs.declared.machine.Targets.{Targets}
 use Rattle.pef_reloc.specs.declared.fixup.Base.TheVariants.{Section}
 use Rattle.pef_reloc.specs.declared.instr.Instr.{Instr}
+use Rattle.pef_reloc.specs.declared.stop.Stop.{Stop}
 use Rattle.pef_reloc.specs.declared.machine.Machine.{Machine}
-use Rattle.pef_reloc.specs.Steps.{State, need, acts_of, next_state, acts_from, state_after}
-use Rattle.pef_reloc.specs.Applied.{Addresses, address_of}
+use Rattle.pef_reloc.specs.Steps.{State, need, acts_of, next_state, state_after}
+use Rattle.pef_reloc.specs.Applied.{Addresses, address_of, ran}
+use Rattle.pef_reloc.specs.Unrolled.{Step, instrs_in}
 use Rattle.pef_reloc.specs.Kept.Rows.{Does}
 
 -- the addresses that the code knows
@@ -22,19 +24,19 @@ pub record Holds (a : Addresses) (m : Machine) (s : State) : Type 0 where
   pub d_is : m.section_d ≡ address_of a (Section s.d)
 
 -- memory and the registers after an instruction, from each state that the registers hold
-pub record Stepped (a : Addresses) (old new : Machine) (before now : List ℕ) (instr : Instr) (answer : Option RelocFault) : Type 0 where
+pub record Stepped (a : Addresses) (old new : Machine) (before now : List ℕ) (instr : Instr) (answer : Option Stop) : Type 0 where
   pub does : (s : State) → Holds a old s → Does a before now (acts_of instr s) answer
   pub holds : (s : State) → Holds a old s → answer ≡ None → Holds a new (next_state instr s)
 
 -- memory and the registers after a list of instructions, from each state that the registers hold
-pub record Runs (a : Addresses) (old new : Machine) (before now : List ℕ) (instrs : List Instr) (answer : Option RelocFault) : Type 0 where
-  pub does : (s : State) → Holds a old s → Does a before now (acts_from instrs s) answer
-  pub holds : (s : State) → Holds a old s → answer ≡ None → Holds a new (state_after instrs s)
+pub record Runs (a : Addresses) (old new : Machine) (before now : List ℕ) (steps : List Step) (answer : Option RelocFault) : Type 0 where
+  pub does : (s : State) → Holds a old s → ran a steps s before ≡ record { memory = now; fault = answer }
+  pub holds : (s : State) → Holds a old s → answer ≡ None → Holds a new (state_after (instrs_in steps) s)
 
 -- the registers after an operation that leaves them unchanged if it is refused
-abbrev pub machine_after : Option RelocFault → Machine → Machine → Machine
+abbrev pub machine_after : Option Stop → Machine → Machine → Machine
 machine_after None old new = new
-machine_after (Some fault) old new = old
+machine_after (Some stop) old new = old
 
 -- neither register is further on than that
 pub record Moves (old new : Machine) (by : ℕ) : Type 0 where
@@ -47,10 +49,10 @@ pub record Near (m : Machine) (room : ℕ) : Type 0 where
   pub imports : m.import_index ≤ 2 ^ 63 + room
 
 -- a section becomes section C or D, if it exists
-pub record SetsC (a : Addresses) (old new : Machine) (section : ℕ) (answer : Option RelocFault) : Type 0 where
-  pub does : (memory : List ℕ) → Does a memory memory (need section ∷ []) answer
+pub record SetsC (a : Addresses) (old new : Machine) (section : ℕ) (answer : Option Stop) : Type 0 where
+  pub does : (memory : List ℕ) → Does a memory memory (need old.position section ∷ []) answer
   pub after : new ≡ machine_after answer old (record old { section_c = address_of a (Section section) })
 
-pub record SetsD (a : Addresses) (old new : Machine) (section : ℕ) (answer : Option RelocFault) : Type 0 where
-  pub does : (memory : List ℕ) → Does a memory memory (need section ∷ []) answer
+pub record SetsD (a : Addresses) (old new : Machine) (section : ℕ) (answer : Option Stop) : Type 0 where
+  pub does : (memory : List ℕ) → Does a memory memory (need old.position section ∷ []) answer
   pub after : new ≡ machine_after answer old (record old { section_d = address_of a (Section section) })

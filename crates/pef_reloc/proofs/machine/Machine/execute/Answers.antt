@@ -1,7 +1,15 @@
 use Rattle.pef_reloc.proofs.Blocks.{repeat-reach}
+use Rattle.pef_reloc.proofs.Windows.{before_length}
 use Rattle.pef_reloc.proofs.machine.Machine.execute.Goals as goal
 
 pub returns-in-Some-clause-runs : goal.returns-in-Some-clause-runs
 returns-in-Some-clause-runs c =
     λ before stands none.
-    rw (← c.in-Some.ensures) (c.repeat-in-Some.ensures.runs _ (repeat-reach _ before c.in-Some.repeat _ stands (rw (← c.in-Some.ensures) at none)).spans)
+    let place = before_length _ before _ stands in
+    rw (← c.in-Some.ensures, ← place) (c.repeat-in-Some.ensures.runs _ (repeat-reach _ before c.in-Some.repeat _ stands (rw (← c.in-Some.ensures) at none)).spans)
+
+pub returns-in-None-clause-runs : goal.returns-in-None-clause-runs
+returns-in-None-clause-runs c =
+    λ before stands none.
+    let place = before_length _ before _ stands in
+    rw (← c.in-None.ensures, ← place) c.step_at.ensures.runs

@@ -1,7 +1,6 @@
 use Rattle.std.proofs.Common.{sym, arith}
 use Rattle.std.proofs.lemmas.Result.{err_from_is_err_and}
 use Rattle.pef_reloc.proofs.CodeLemmas.{some_length, most_length}
-use Rattle.pef_reloc.proofs.Runs.{runs-one}
 use Rattle.pef_reloc.proofs.Blocks.{block-begins, block-end, block-fault, block-more, moves-more}
 use Rattle.pef_reloc.proofs.machine.Machine.run_block.Goals as goal
 
@@ -9,10 +8,10 @@ pub returns-in_err-instr-clause-runs : goal.returns-in_err-instr-clause-runs
 returns-in_err-instr-clause-runs c =
     λ instrs spans. absurd (block-begins _ _ _ _ _ _ _ _ _ _ (c.loop-at.invariant.left instrs spans) c.loop-at-test.true (sym c.in_err-instr.ensures.value))
 
-pub returns-in_err-step-clause-runs : goal.returns-in_err-step-clause-runs
-returns-in_err-step-clause-runs c =
-    λ instrs spans. let p = err_from_is_err_and c.from_residual-in_err-step.result c.from_residual-in_err-step.ensures.1 in
-    rw (p.1, p.2) (block-fault _ _ _ _ _ _ _ _ _ _ _ _ _ (c.loop-at.invariant.left instrs spans) c.loop-at-test.true (sym c.in_ok-instr.ensures.value) (runs-one _ _ _ _ _ _ _ c.in_err-step.ensures.steps))
+pub returns-in_err-step_at-clause-runs : goal.returns-in_err-step_at-clause-runs
+returns-in_err-step_at-clause-runs c =
+    λ instrs spans. let p = err_from_is_err_and c.from_residual-in_err-step_at.result c.from_residual-in_err-step_at.ensures.1 in
+    rw (p.1, p.2) (block-fault _ _ _ _ _ _ _ _ _ _ _ _ _ (c.loop-at.invariant.left instrs spans) c.loop-at-test.true (sym c.in_ok-instr.ensures.value) c.in_err-step_at.ensures.runs)
 
 pub loop-at-preserved : goal.loop-at-preserved
 loop-at-preserved c =
@@ -22,8 +21,8 @@ loop-at-preserved c =
       inside = c.in_ok-instr.ensures.inside;
       ahead = omega arith;
       short = omega (arith, c.loop-at-test.true, most);
-      moves = moves-more _ _ _ _ _ _ c.loop-at.invariant.moves c.in_ok-step.ensures.moves (omega (arith, some, c.loop-at.invariant.ahead));
-      left = λ instrs spans. block-more _ _ _ _ _ _ _ _ _ _ _ _ (c.loop-at.invariant.left instrs spans) c.loop-at-test.true (sym c.in_ok-instr.ensures.value) (runs-one _ _ _ _ _ _ _ c.in_ok-step.ensures.steps);
+      moves = moves-more _ _ _ _ _ _ c.loop-at.invariant.moves c.in_ok-step_at.ensures.moves (omega (arith, some, c.loop-at.invariant.ahead));
+      left = λ instrs spans. block-more _ _ _ _ _ _ _ _ _ _ _ _ (c.loop-at.invariant.left instrs spans) c.loop-at-test.true (sym c.in_ok-instr.ensures.value) c.in_ok-step_at.ensures.runs;
     })
 
 pub returns-clause-runs : goal.returns-clause-runs
