@@ -41,15 +41,15 @@ run_more a header places bytes m after i n section program run under is there ap
       stand = λ k low. elim (eqb_tells section k) [
         | inl same ↦ (
             let mine : (relocated_by a section header 0 (i + 1) (bytes section)).memory ≡ (program_done a program before).memory =
-            ap (λ (d : Done). d.memory) (next section) ∙ ap (λ o. (header_done a section o before).memory) is ∙ ap (λ (d : Done). d.memory) (header-own a section program before) in
+            ap (λ (d : Done RelocFault). d.memory) (next section) ∙ ap (λ o. (header_done a section o before).memory) is ∙ ap (λ (d : Done RelocFault). d.memory) (header-own a section program before) in
             let P : ℕ → Type 0 = λ j. bytes_at after.instances (place_at places j).address ≡ Some (relocated_by a j header 0 (i + 1) (bytes j)).memory in
             subst P same.1 (here before (run.stand section there) ∙ ap Some (sym mine)))
         | inr other ↦ (
             let mine : (relocated_by a k header 0 (i + 1) (bytes k)).memory ≡ (relocated_by a k header 0 i (bytes k)).memory =
-            ap (λ (d : Done). d.memory) (next k) ∙ ap (λ o. (header_done a k o (relocated_by a k header 0 i (bytes k)).memory).memory) is ∙ ap (λ (d : Done). d.memory) (header-other a k (Some (section, program)) (relocated_by a k header 0 i (bytes k)).memory other.1) in
+            ap (λ (d : Done RelocFault). d.memory) (next k) ∙ ap (λ o. (header_done a k o (relocated_by a k header 0 i (bytes k)).memory).memory) is ∙ ap (λ (d : Done RelocFault). d.memory) (header-other a k (Some (section, program)) (relocated_by a k header 0 i (bytes k)).memory other.1) in
             others (place_at places k).address (apart_both places k section low there apart (λ e. other.1 (sym e))) ∙ run.stand k low ∙ ap Some (sym mine))
       ];
-      sound = λ k. ap (λ (d : Done). d.fault) (next k) ∙ header-sound a bytes header i k unrefused;
+      sound = λ k. ap (λ (d : Done RelocFault). d.fault) (next k) ∙ header-sound a bytes header i k unrefused;
       left = sym (first_among-next (refusal_at a bytes header) i n under unrefused) ∙ run.left;
     }
 

@@ -62,9 +62,15 @@ const PROGRAMS: &[(RelocFault, &str)] = &[
     (RelocFault::RepeatCuts { at: 0 }, "RepeatCuts"),
     (RelocFault::NestedRepeat { at: 0 }, "NestedRepeat"),
     (RelocFault::TooManySteps { at: 0 }, "TooManySteps"),
-    (RelocFault::WordOutside, "WordOutside"),
-    (RelocFault::ImportOutside, "ImportOutside"),
-    (RelocFault::SectionOutside, "SectionOutside"),
+    (RelocFault::WordOutside { at: 0, word: 0 }, "WordOutside"),
+    (
+        RelocFault::ImportOutside { at: 0, word: 0 },
+        "ImportOutside",
+    ),
+    (
+        RelocFault::SectionOutside { at: 0, word: 0 },
+        "SectionOutside",
+    ),
     (RelocFault::OutOfMemory, "OutOfMemory"),
 ];
 
@@ -201,7 +207,7 @@ const FRAGMENTS: &[(FragmentFault<'static>, &str)] = &[
     (
         FragmentFault::Reloc {
             fragment: b"A",
-            fault: RelocFault::WordOutside,
+            fault: RelocFault::WordOutside { at: 0, word: 0 },
         },
         "WordOutside",
     ),

@@ -13,14 +13,17 @@ fn read_refusal(bytes: &[u8]) -> (u32, Option<usize>) {
     }
 }
 
-/// Returns the number of the refusal when a program is read or applied, or 0 if it is applied.
-fn apply_number(bytes: &[u8], memory: &mut [u8], sections: &[u32], imports: &[u32]) -> u32 {
+/// The number of a refusal, 0 for none, the offset of the instruction that is refused, and that of its word.
+type Refusal = (u32, Option<usize>, Option<u64>);
+
+/// Returns the refusal when a program is read or applied.
+fn apply_refusal(bytes: &[u8], memory: &mut [u8], sections: &[u32], imports: &[u32]) -> Refusal {
     match Program::read(bytes) {
         Ok(program) => match apply(&program, memory, sections, imports) {
-            Ok(()) => 0,
-            Err(fault) => fault.number(),
+            Ok(()) => (0, None, None),
+            Err(fault) => (fault.number(), fault.offset(), fault.word()),
         },
-        Err(fault) => fault.number(),
+        Err(fault) => (fault.number(), fault.offset(), fault.word()),
     }
 }
 
@@ -189,8 +192,8 @@ fn spell(rt: &impl Abort, alloc: Global, bytes: &[u8], instr: Instr) -> Vec<u8> 
 /// Tests the words that a program makes of zeros.
 fn test_words(rt: &impl Abort, bytes: &[u8], words: &[u32]) {
     let mut memory = [0; 24];
-    let number = apply_number(bytes, &mut memory, &[1, 2, 3], &[5, 6, 7]);
-    assert!(rt; number == 0, "{bytes:?}");
+    let found = apply_refusal(bytes, &mut memory, &[1, 2, 3], &[5, 6, 7]);
+    assert!(rt; found == (0, None, None), "{bytes:?}");
     for (word, made) in words.iter().zip(memory.chunks(4)) {
         assert!(rt; made == word.to_be_bytes().as_slice(), "{bytes:?}");
     }
@@ -268,15 +271,15 @@ fn instructions_walked(rt: HostRuntime) {
 
 const ZEROS: &[u8] = &[0; 12];
 
-/// A program's bytes, memory, the addresses of sections and of imports, and then the number of the
-/// refusal, 0 for none, and the memory after it.
-const APPLIED: &[(&[u8], &[u8], &[u32], &[u32], u32, &[u8])] = &[
+/// A program's bytes, memory, the addresses of sections and of imports, and then the refusal and
+/// the memory after it.
+const APPLIED: &[(&[u8], &[u8], &[u32], &[u32], Refusal, &[u8])] = &[
     (
         &[0x42, 0x00, 0x90, 0x01],
         ZEROS,
         &[0x100, 0x200],
         &[],
-        0,
+        (0, None, None),
         &[0, 0, 2, 0, 0, 0, 2, 0, 0, 0, 2, 0],
     ),
     (
@@ -284,7 +287,7 @@ const APPLIED: &[(&[u8], &[u8], &[u32], &[u32], u32, &[u8])] = &[
         ZEROS,
         &[0x100, 0x200],
         &[],
-        0,
+        (0, None, None),
         &[0, 0, 2, 0, 0, 0, 0, 0, 0, 0, 0, 0],
     ),
     // The additions before a refusal are kept.
@@ -293,7 +296,7 @@ const APPLIED: &[(&[u8], &[u8], &[u32], &[u32], u32, &[u8])] = &[
         ZEROS,
         &[0x100, 0x200],
         &[],
-        37,
+        (37, Some(0), Some(12)),
         &[0, 0, 2, 0, 0, 0, 2, 0, 0, 0, 2, 0],
     ),
     (
@@ -301,7 +304,7 @@ const APPLIED: &[(&[u8], &[u8], &[u32], &[u32], u32, &[u8])] = &[
         ZEROS,
         &[0x100, 0x200],
         &[],
-        39,
+        (39, Some(2), Some(4)),
         &[0, 0, 1, 0, 0, 0, 0, 0, 0, 0, 0, 0],
     ),
     (
@@ -309,7 +312,7 @@ const APPLIED: &[(&[u8], &[u8], &[u32], &[u32], u32, &[u8])] = &[
         ZEROS,
         &[0x100, 0x200],
         &[],
-        39,
+        (39, Some(2), Some(4)),
         &[0, 0, 1, 0, 0, 0, 0, 0, 0, 0, 0, 0],
     ),
     (
@@ -317,20 +320,41 @@ const APPLIED: &[(&[u8], &[u8], &[u32], &[u32], u32, &[u8])] = &[
         ZEROS,
         &[],
         &[7],
-        38,
+        (38, Some(0), Some(4)),
         &[0, 0, 0, 7, 0, 0, 0, 0, 0, 0, 0, 0],
     ),
-    (&[0x80, 0x08, 0x40, 0x00], ZEROS, &[0x100], &[], 37, ZEROS),
+    (
+        &[0x80, 0x08, 0x40, 0x00],
+        ZEROS,
+        &[0x100],
+        &[],
+        (37, Some(2), Some(9)),
+        ZEROS,
+    ),
     // If one addition has several refusals, a missing section is reported first, then a missing import.
-    (&[0x80, 0x0B, 0x66, 0x01], ZEROS, &[], &[], 39, ZEROS),
-    (&[0x80, 0x0B, 0x60, 0x00], ZEROS, &[], &[], 38, ZEROS),
+    (
+        &[0x80, 0x0B, 0x66, 0x01],
+        ZEROS,
+        &[],
+        &[],
+        (39, Some(2), Some(12)),
+        ZEROS,
+    ),
+    (
+        &[0x80, 0x0B, 0x60, 0x00],
+        ZEROS,
+        &[],
+        &[],
+        (38, Some(2), Some(12)),
+        ZEROS,
+    ),
     // A register with its start value adds 0 if there is no such section.
     (
         &[0x42, 0x00, 0x40, 0x00],
         &[1, 2, 3, 4, 5, 6, 7, 8, 0, 0, 0, 0],
         &[],
         &[],
-        0,
+        (0, None, None),
         &[1, 2, 3, 4, 5, 6, 7, 8, 0, 0, 0, 0],
     ),
     // An addition is modulo 2^32, and a word need not be aligned.
@@ -339,7 +363,7 @@ const APPLIED: &[(&[u8], &[u8], &[u32], &[u32], u32, &[u8])] = &[
         &[0, 0xFF, 0xFF, 0xFF, 0xFF, 9, 0, 0, 0, 0, 0, 0],
         &[2],
         &[],
-        0,
+        (0, None, None),
         &[0, 0, 0, 0, 1, 9, 0, 0, 0, 0, 0, 0],
     ),
     (
@@ -347,8 +371,26 @@ const APPLIED: &[(&[u8], &[u8], &[u32], &[u32], u32, &[u8])] = &[
         &[0x11, 0x22, 0x33, 0x44, 0, 0, 0, 8, 1, 2, 0, 0],
         &[0x1_0000],
         &[],
-        0,
+        (0, None, None),
         &[0x11, 0x22, 0x33, 0x44, 0, 1, 0, 8, 1, 2, 0, 0],
+    ),
+    // In a repeat the instruction is the repeated one: the second of the block, at its second pass.
+    (
+        &[0xA0, 0x00, 0x00, 0x00, 0x40, 0x00, 0x42, 0x00, 0x91, 0x03],
+        ZEROS,
+        &[0x100, 0x200],
+        &[],
+        (37, Some(6), Some(12)),
+        &[0, 0, 1, 0, 0, 0, 2, 0, 0, 0, 1, 0],
+    ),
+    // The second word of a pair.
+    (
+        &[0x80, 0x03, 0x46, 0x00],
+        &[0; 8],
+        &[0x100, 0x200],
+        &[],
+        (37, Some(2), Some(8)),
+        &[0, 0, 0, 0, 0, 0, 1, 0],
     ),
 ];
 
@@ -359,11 +401,11 @@ fn test_applied(
     memory: &mut [u8],
     sections: &[u32],
     imports: &[u32],
-    want: u32,
+    want: Refusal,
     after: &[u8],
 ) {
-    let number = apply_number(bytes, memory, sections, imports);
-    assert!(rt; number == want, "{bytes:?}");
+    let found = apply_refusal(bytes, memory, sections, imports);
+    assert!(rt; found == want, "{bytes:?}");
     assert!(rt; *memory == *after, "{bytes:?}");
 }
 
@@ -383,8 +425,9 @@ const MOST_STEPS: &[u8] = &[
 
 #[test]
 fn shortest_and_longest_applied(rt: HostRuntime) {
-    assert!(rt; apply_number(&[0x40, 0x00], &mut [0; 3], &[0x100], &[]) == 37);
-    assert!(rt; apply_number(MOST_STEPS, &mut [], &[], &[]) == 0);
+    let short = apply_refusal(&[0x40, 0x00], &mut [0; 3], &[0x100], &[]);
+    assert!(rt; short == (37, Some(0), Some(0)));
+    assert!(rt; apply_refusal(MOST_STEPS, &mut [], &[], &[]) == (0, None, None));
 }
 
 const SECTION: Base = Base::Section(15);

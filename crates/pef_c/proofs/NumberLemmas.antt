@@ -61,9 +61,9 @@ reloc_refused (reloc.RepeatTooFar at) = refl
 reloc_refused (reloc.RepeatCuts at) = refl
 reloc_refused (reloc.NestedRepeat at) = refl
 reloc_refused (reloc.TooManySteps at) = refl
-reloc_refused reloc.WordOutside = refl
-reloc_refused reloc.ImportOutside = refl
-reloc_refused reloc.SectionOutside = refl
+reloc_refused (reloc.WordOutside at word) = refl
+reloc_refused (reloc.ImportOutside at word) = refl
+reloc_refused (reloc.SectionOutside at word) = refl
 reloc_refused reloc.OutOfMemory = refl
 
 bind_refused : (f : BindFault) → (bind_number f == 0) ≡ false

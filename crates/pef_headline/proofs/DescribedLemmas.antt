@@ -23,6 +23,7 @@ use Rattle.pef_pidata.specs.Pattern.{pattern_text}
 use Rattle.pef_pidata.proofs.Laws.{packed-expands}
 use Rattle.pef_reloc.specs.declared.instr.Instr.{Instr}
 use Rattle.pef_reloc.specs.Additions.{AreInside}
+use Rattle.pef_reloc.specs.declared.fault.RelocFault.{RelocFault}
 use Rattle.pef_reloc.specs.Applied.{Addresses, Done, address_of}
 use Rattle.pef_reloc.specs.Headers.{program_done, refusal_at, relocated_by, untouched}
 use Rattle.pef_reloc.specs.Instrs.{spelled}
@@ -122,7 +123,7 @@ module _ (script : DescribedScript) (k : LinkedContainer) (linked : IsLinked scr
       let s = get_or script.sections i d in
       let there = slice_get-get_or script.sections i d under in
       ap (λ (m : List ℕ). (relocated_by a i (reloc_of l) 0 l.header.reloc_count m).memory) (filled_is i s there)
-      ∙ ap (λ (done : Done). done.memory) (made a there_are i s there)
+      ∙ ap (λ (done : Done RelocFault). done.memory) (made a there_are i s there)
       ∙ sym (ap (λ o. option_map_or (described_memory (address_of a)) o []) there)
 
   -- no relocation header is refused
@@ -137,7 +138,7 @@ module _ (script : DescribedScript) (k : LinkedContainer) (linked : IsLinked scr
       let from_0 : 0 + i ≡ i = omega arith in
       let sound : (relocated_by a p.section (reloc_of l) 0 l.header.reloc_count (filled_at c p.section)).fault ≡ None =
       ap (λ (m : List ℕ). (relocated_by a p.section (reloc_of l) 0 l.header.reloc_count m).fault) (filled_is p.section source.section source.there)
-      ∙ ap (λ (done : Done). done.fault) (made a there_are p.section source.section source.there) in
+      ∙ ap (λ (done : Done RelocFault). done.fault) (made a there_are p.section source.section source.there) in
       refusal-of a (filled_at c) (reloc_of l) i p.section p.bytes header
       ∙ programs-sound a p.section (reloc_of l) i 0 l.header.reloc_count p.bytes (filled_at c p.section) under (ap (reloc_of l) from_0 ∙ header) sound
 

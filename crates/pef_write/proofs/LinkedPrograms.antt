@@ -3,6 +3,7 @@ use Rattle.std.proofs.Common.{◌≡◌, ◌∙◌, ℕ, zero, suc, ◌+◌, tru
 use Rattle.std.specs.List.{AllByRecursion}
 use Rattle.pef_reloc.specs.declared.fixup.Fixup.{Fixup}
 use Rattle.pef_reloc.specs.declared.instr.Instr.{Instr}
+use Rattle.pef_reloc.specs.declared.stop.Stop.{Stop}
 use Rattle.pef_reloc.specs.Additions.{IsThere}
 use Rattle.pef_reloc.specs.Applied.{Addresses, Done, applied}
 use Rattle.pef_reloc.specs.Instrs.{spelled}
@@ -33,7 +34,7 @@ relocates s section instrs holds program =
           let bases = subst Q (sym imports) (subst P (sym sections) holds.bases) in
           let there = all-weaker (λ (fixup : Fixup). BaseThere (length a.sections) (length a.imports) fixup.base) (λ (fixup : Fixup). IsThere a fixup.base) section.fixups (λ fixup. base_there a fixup.base) bases in
           let inside = fixups-inside a 0 (length memory) section.fixups few.apart (omega (arith, holds.inside, whole)) there in
-          ap (λ (d : Done). d.fault) (does a memory sections ∙ additions-done a section.fixups memory inside);
+          ap (λ (d : Done Stop). d.fault) (does a memory sections ∙ additions-done a section.fixups memory inside);
     }
 
 -- each of the programs of sections is that of one of them, and is for its fixups
