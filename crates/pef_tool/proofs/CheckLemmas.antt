@@ -5,9 +5,11 @@ use Rattle.pef_cert.specs.Certified.{Certified}
 use Rattle.pef_reloc.specs.declared.fixup.Fixup.{Fixup}
 use Rattle.pef_script.specs.Script.{DescribedSection}
 use Rattle.pef_ports.specs.Ports.{FilesPort, Reads}
-use Rattle.pef_tool.specs.Check.{AreVerdicts, IsVerdict, Judges, JudgesFiles}
+use Rattle.pef_tool.specs.Answers.Answers.{undetailed}
+use Rattle.pef_tool.specs.Check.{AreVerdicts, IsVerdict, Judges, JudgesFiles, verdicts_outcome}
 use Rattle.pef_tool.specs.declared.answers.refusal.Refusal.{Refusal}
 use Rattle.pef_tool.specs.declared.check.Verdict.{Verdict}
+use Rattle.pef_tool.specs.declared.check.Verdict.TheVariants.{Yes, No}
 
 -- the section whose fixups are found
 pub fixups_found : (sections : List DescribedSection) (k : ℕ) (fixups : List Fixup) → Some fixups ≡ option_map (λ s. s.fixups) (slice_get sections k) → (s : DescribedSection) × (slice_get sections k ≡ Some s) × (s.fixups ≡ fixups)
@@ -56,3 +58,9 @@ files_judged {F} {port} {before} {between} {after} {script} {cert} {text} {certi
       read = record { between = between; first = first; second = second };
       are = subst (λ (t : List ℕ). Judges (record { script = text; certificates = t }) judged) same' one;
     }
+
+-- the outcome of verdicts has no detail
+pub verdicts_undetailed : (verdicts : List Verdict) → undetailed (verdicts_outcome verdicts) ≡ verdicts_outcome verdicts
+verdicts_undetailed [] = refl
+verdicts_undetailed (Yes halfwords ∷ verdicts) = verdicts_undetailed verdicts
+verdicts_undetailed (No ∷ verdicts) = refl

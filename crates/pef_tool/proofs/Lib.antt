@@ -5,6 +5,7 @@ mod AloneLemmas
 mod AnswersProofs
 mod CheckLemmas
 mod EndLemmas
+mod ExplainLemmas
 mod LoadLemmas
 mod LoadedLemmas
 mod RequestProofs

@@ -3,8 +3,7 @@ use Rattle.std.proofs.Common.{◌≡◌, List, [], ℕ, Option, None, Some, Ok, 
 use Rattle.pef_ports.specs.Ports.{Begins, FilesPort, Reads, Stream}
 use Rattle.pef_tool.specs.Request.Requests.{Asked, check, distances, link, list, load, show}
 use Rattle.pef_script.specs.Text.Grammar.{script_of}
-use Rattle.pef_tool.specs.Answers.Answers.{answer_refused}
-use Rattle.pef_tool.specs.Answers.Refusals.{refusal_text, unreadable_text}
+use Rattle.pef_tool.specs.Answers.Refusals.{refusal_answer, unreadable_answer}
 use Rattle.pef_tool.specs.declared.answers.refusal.Refusal.{Refusal}
 use Rattle.pef_tool.specs.declared.answers.refusal.Refusal.TheVariants as refusal
 use Rattle.pef_tool.specs.declared.linking.Unlinked.{Unlinked}
@@ -43,8 +42,8 @@ refuses_link port before after script out refusal.SectionsDiffer refuses = absur
 refuses_link port before after script out refusal.InputUnreadable refuses = absurd refuses
 refuses_link port before after script out refusal.InputTooLong refuses = absurd refuses
 
-unread_path : (told path : List ℕ) → told ≡ path → answer_refused (unreadable_text told) ≡ answer_refused (unreadable_text path)
-unread_path told path same = ap (λ (p : List ℕ). answer_refused (unreadable_text p)) same
+unread_path : (told path : List ℕ) → told ≡ path → unreadable_answer told ≡ unreadable_answer path
+unread_path told path same = ap unreadable_answer same
 
 module _ {F : Type 0} (port : FilesPort F) (before after : F) where
   -- the reason why a script isn't linked ends `link`
@@ -86,7 +85,7 @@ nothing_read (Some bytes) = (bytes, refl, refl)
 
 -- an allocation may fail before a command does anything
 pub lacks_memory : {F R : Type 0} (port : FilesPort F) (stream : R → Stream) (asked : Option Asked) (files : F) (input : R)
-    → RunAnswers port stream asked files files input input (answer_refused (refusal_text refusal.OutOfMemory))
+    → RunAnswers port stream asked files files input input (refusal_answer refusal.OutOfMemory)
 lacks_memory port stream None files input = (inr refl, refl, refl)
 lacks_memory port stream (Some show) files input = ((show.refuses refusal.OutOfMemory, (([], nothing_read _, omega arith), refl), refl), refl)
 lacks_memory port stream (Some (link script out)) files input = ((link.refuses refusal.OutOfMemory, inl (inl refl), refl), refl)

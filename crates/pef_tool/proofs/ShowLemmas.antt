@@ -20,7 +20,6 @@ use Rattle.cfm_prepare.specs.Readers.{entries_of, main_address}
 use Rattle.cfm_prepare.specs.Steps.{MayNotPrepare, Prepares}
 use Rattle.cfm_prepare.specs.declared.fault.PrepareFault.{PrepareFault}
 use Rattle.cfm_prepare.specs.declared.fault.PrepareFault.TheVariants as prepare_fault
-use Rattle.pef_tool.specs.Answers.Answers.{answer_refused}
 use Rattle.pef_tool.specs.declared.answers.refusal.Refusal.TheVariants.{OutOfMemory}
 use Rattle.pef_loader.specs.Loader.{init_of, main_of, term_of}
 use Rattle.pef_script.specs.Script.{DescribedScript}
@@ -31,7 +30,7 @@ use Rattle.pef_tool.specs.Kept.Showing.{ScriptEnds}
 use Rattle.pef_tool.specs.Limits.{memory_limit}
 use Rattle.pef_headline.specs.Now.{described_extents}
 use Rattle.pef_headline.specs.Others.{HasForeign}
-use Rattle.pef_tool.specs.Show.{FailsToBind, IsShown, ShowOutcome, single_store, refuses, show_answer, shows, unbound, unplaced, unplaced_text}
+use Rattle.pef_tool.specs.Show.{FailsToBind, IsShown, ShowOutcome, single_store, refuses, show_answer, shows, unbound, unplaced, unplaced_answer}
 use Rattle.pef_tool.proofs.AloneLemmas.{is-found, new-is, open-is, prepared-alone, root-is}
 use Rattle.pef_headline.proofs.Laws.{described-from, extents-in, extents_are, linked-read, linked_fragment, loader-is, read_as_linked, refused-image, refused-program}
 
@@ -143,7 +142,7 @@ module _ (script : DescribedScript) (k : LinkedContainer) (linked : IsLinked scr
           closure = closure_there why.closure.has.root why.closure.closed (root-is k.bytes why.closure.has.root why.closure.has.is) why.closure.is;
           lacks = lacks.0;
         };
-        said = ap (λ name. answer_refused (unplaced_text name)) (sym lacks.1);
+        said = ap unplaced_answer (sym lacks.1);
       }
   unprepared (prepare_fault.Fragment (fragment_fault.Pack f e)) why = absurd (all_linked _ f.now (new-is k.bytes memory_limit why.closure) (refused-image alone (no_instances memory_limit) _ f.now e why.why))
   unprepared (prepare_fault.Fragment (fragment_fault.Reloc f e)) why = absurd (all_linked _ f.now (new-is k.bytes memory_limit why.closure) (refused-program alone [] (no_instances memory_limit) _ f.now e why.why))

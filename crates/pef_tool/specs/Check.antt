@@ -11,8 +11,10 @@ use Rattle.pef_reloc.specs.Instrs.{program_length}
 use Rattle.pef_reloc.specs.declared.fixup.Fixup.{Fixup}
 use Rattle.pef_script.specs.Text.Grammar.{script_of}
 use Rattle.pef_script.specs.Script.{DescribedScript, DescribedSection}
-use Rattle.pef_tool.specs.Answers.Answers.{Answer, answer_refused}
-use Rattle.pef_tool.specs.Answers.Refusals.{refusal_text, unreadable_text}
+use Rattle.pef_tool.specs.Answers.Answers.{Answer}
+use Rattle.pef_tool.specs.Answers.Refusals.{refusal_answer, unreadable_answer}
+use Rattle.pef_tool.specs.declared.answers.outcome.Outcome.{Outcome}
+use Rattle.pef_tool.specs.declared.answers.outcome.Outcome.TheVariants.{Done, SaidNo}
 use Rattle.pef_tool.specs.declared.check.Verdict.{Verdict}
 use Rattle.pef_tool.specs.declared.check.Verdict.TheVariants.{Yes, No}
 use Rattle.pef_tool.specs.declared.answers.refusal.Refusal.{Refusal}
@@ -124,22 +126,22 @@ abbrev pub verdicts_text : ℕ → List Verdict → List ℕ
 verdicts_text k [] = []
 verdicts_text k (v ∷ verdicts) = verdict_text k v ++ verdicts_text (k + 1) verdicts
 
--- the status of verdicts: 1 if one is a no, else 0
-abbrev pub verdicts_status : List Verdict → ℕ
-verdicts_status [] = 0
-verdicts_status (Yes halfwords ∷ verdicts) = verdicts_status verdicts
-verdicts_status (No ∷ verdicts) = 1
+-- the outcome of verdicts: whether one is a no
+abbrev pub verdicts_outcome : List Verdict → Outcome
+verdicts_outcome [] = Done
+verdicts_outcome (Yes halfwords ∷ verdicts) = verdicts_outcome verdicts
+verdicts_outcome (No ∷ verdicts) = SaidNo
 
 -- the answer for two texts
 abbrev pub judged_answer : Result (List Verdict) Refusal → Answer
-judged_answer (Ok verdicts) = record { text = verdicts_text 0 verdicts; status = verdicts_status verdicts }
-judged_answer (Err refusal) = answer_refused (refusal_text refusal)
+judged_answer (Ok verdicts) = record { text = verdicts_text 0 verdicts; outcome = verdicts_outcome verdicts }
+judged_answer (Err refusal) = refusal_answer refusal
 
 -- the answer for each end
 abbrev pub check_answer : List ℕ → List ℕ → CheckOutcome → Answer
-check_answer script cert no_script = answer_refused (unreadable_text script)
-check_answer script cert no_certificates = answer_refused (unreadable_text cert)
-check_answer script cert lacks_memory = answer_refused (refusal_text OutOfMemory)
+check_answer script cert no_script = unreadable_answer script
+check_answer script cert no_certificates = unreadable_answer cert
+check_answer script cert lacks_memory = refusal_answer OutOfMemory
 check_answer script cert (judges judged) = judged_answer judged
 
 -- the answer of `check SCRIPT CERT`

@@ -8,9 +8,9 @@ use Rattle.pef_ports.specs.declared.ports.FileFault.TheVariants as file_fault
 use Rattle.pef_reloc.specs.Instrs.{program_length}
 use Rattle.pef_script.specs.Script.{DescribedScript}
 use Rattle.pef_script.specs.Text.Grammar.{script_of}
-use Rattle.pef_tool.specs.Answers.Answers.{Answer, answer_done, answer_refused}
+use Rattle.pef_tool.specs.Answers.Answers.{Answer, answer_done}
 use Rattle.pef_tool.specs.Link.{RefusesLinking}
-use Rattle.pef_tool.specs.Answers.Refusals.{refusal_text, unreadable_text}
+use Rattle.pef_tool.specs.Answers.Refusals.{refusal_answer, unreadable_answer}
 use Rattle.pef_tool.specs.declared.check.Verdict.{Verdict}
 use Rattle.pef_tool.specs.declared.check.Verdict.TheVariants.{Yes}
 use Rattle.pef_tool.specs.declared.answers.refusal.Refusal.{Refusal}
@@ -42,8 +42,8 @@ DistancesEnd port before after script (refuses refusal) = RefusesLinking port be
 -- the answer for each end
 abbrev pub distances_answer : List ℕ → DistancesOutcome → Answer
 distances_answer script (certifies certificates) = answer_done (certificates_text certificates)
-distances_answer script unreadable = answer_refused (unreadable_text script)
-distances_answer script (refuses refusal) = answer_refused (refusal_text refusal)
+distances_answer script unreadable = unreadable_answer script
+distances_answer script (refuses refusal) = refusal_answer refusal
 
 -- the answer of `distances SCRIPT`
 abbrev pub DistancesAnswers : {F : Type 0} → FilesPort F → F → F → List ℕ → Answer → Type 0

@@ -10,7 +10,7 @@ use Rattle.pef_details.specs.declared.detail.Detail.{Detail}
 
 -- a text is written whole, or a prefix of it is written and then the output fails
 abbrev pub IsNoted : Stream → Stream → List ℕ → Type 0
-IsNoted before after text = (status : ℕ) × IsDelivered before after (answer_done text) status
+IsNoted before after text = (outcome : Outcome) × IsDelivered before after (answer_done text) outcome
 
 -- the help for a refusal, if there is some, is written as a line, and then the detail that is known
 abbrev pub NotesHelp : Option (List ℕ) → Option Detail → Stream → Stream → Type 0

@@ -9,8 +9,8 @@ use Rattle.pef_script.specs.Script.{DescribedScript}
 use Rattle.pef_script.specs.declared.text.fault.LineFault.{LineFault}
 use Rattle.pef_tool.specs.declared.answers.refusal.Refusal.{Refusal}
 use Rattle.pef_tool.specs.declared.answers.refusal.Refusal.TheVariants.{Script, OutOfMemory}
-use Rattle.pef_tool.specs.Answers.Answers.{Answer, answer_done, answer_refused}
-use Rattle.pef_tool.specs.Answers.Refusals.{refusal_text, unreadable_text, unwritable_text}
+use Rattle.pef_tool.specs.Answers.Answers.{Answer, answer_done}
+use Rattle.pef_tool.specs.Answers.Refusals.{refusal_answer, unreadable_answer, unwritable_answer}
 use Rattle.pef_write.specs.Linked.{IsLinked, LinkedContainer}
 
 -- SCRIPT was read and isn't a script, by its first refusal
@@ -92,9 +92,9 @@ linked_text l = size_text (length l.bytes) ++ lengths_text 0 l.lengths
 -- the answer for each end
 abbrev pub link_answer : List ℕ → List ℕ → LinkOutcome → Answer
 link_answer script out (links l) = answer_done (linked_text l)
-link_answer script out unreadable = answer_refused (unreadable_text script)
-link_answer script out unwritable = answer_refused (unwritable_text out)
-link_answer script out (refuses refusal) = answer_refused (refusal_text refusal)
+link_answer script out unreadable = unreadable_answer script
+link_answer script out unwritable = unwritable_answer out
+link_answer script out (refuses refusal) = refusal_answer refusal
 
 -- the answer of `link SCRIPT OUT`
 abbrev pub LinkAnswers : {F : Type 0} → FilesPort F → F → F → List ℕ → List ℕ → Answer → Type 0

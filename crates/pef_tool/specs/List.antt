@@ -6,8 +6,8 @@ use Rattle.pef_listing.specs.Listing.{listing_text}
 use Rattle.pef_listing.specs.declared.fault.ListFault.{ListFault}
 use Rattle.pef_ports.specs.Ports.{FilesPort, Reads}
 use Rattle.pef_ports.specs.declared.ports.FileFault.TheVariants as file_fault
-use Rattle.pef_tool.specs.Answers.Answers.{Answer, answer_done, answer_refused}
-use Rattle.pef_tool.specs.Answers.Refusals.{refusal_text, unreadable_text}
+use Rattle.pef_tool.specs.Answers.Answers.{Answer, answer_done}
+use Rattle.pef_tool.specs.Answers.Refusals.{refusal_answer, unreadable_answer}
 use Rattle.pef_tool.specs.declared.answers.refusal.Refusal.TheVariants.{Listing, OutOfMemory}
 
 -- FILE was read, and this is its listing, or the first refusal by its readers
@@ -34,9 +34,9 @@ ListEnds port before after path lacks_memory = (after ≡ before) ⊎ Reads port
 -- the answer for each end
 abbrev pub list_answer : List ℕ → ListOutcome → Answer
 list_answer path (lists parts) = answer_done (listing_text parts.container parts.loader)
-list_answer path (unlisted fault) = answer_refused (refusal_text (Listing fault))
-list_answer path unreadable = answer_refused (unreadable_text path)
-list_answer path lacks_memory = answer_refused (refusal_text OutOfMemory)
+list_answer path (unlisted fault) = refusal_answer (Listing fault)
+list_answer path unreadable = unreadable_answer path
+list_answer path lacks_memory = refusal_answer OutOfMemory
 
 -- the answer of `list FILE`
 abbrev pub ListAnswers : {F : Type 0} → FilesPort F → F → F → List ℕ → Answer → Type 0

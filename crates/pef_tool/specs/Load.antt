@@ -9,10 +9,10 @@ use Rattle.cfm_prepare.specs.declared.fault.PrepareFault.{PrepareFault}
 use Rattle.pef_ports.specs.Ports.{FilesPort, Reads}
 use Rattle.pef_ports.specs.declared.ports.FileFault.{FileFault}
 use Rattle.pef_ports.specs.declared.ports.FileFault.TheVariants as file_fault
-use Rattle.pef_tool.specs.Answers.Answers.{Answer, answer_done, answer_refused, answer_usage}
+use Rattle.pef_tool.specs.Answers.Answers.{Answer, answer_done, answer_usage}
 use Rattle.pef_tool.specs.Limits.{memory_limit, most_files}
 use Rattle.pef_tool.specs.Loaded.{loaded_text}
-use Rattle.pef_tool.specs.Answers.Refusals.{prepare_refusal_text, refusal_text, unreadable_text}
+use Rattle.pef_tool.specs.Answers.Refusals.{prepare_refusal_answer, refusal_answer, unreadable_answer}
 use Rattle.pef_tool.specs.declared.answers.refusal.Refusal.TheVariants.{OutOfMemory}
 
 -- files were read in order, one call each, and these are their bytes
@@ -86,9 +86,9 @@ LoadEnds port before after named usage = ((named ≡ []) ⊎ (most_files < lengt
 -- the answer for each end
 abbrev pub load_answer : LoadOutcome → Answer
 load_answer (loads s number) = answer_done (loaded_text s number)
-load_answer (refuses fault) = answer_refused (prepare_refusal_text fault)
-load_answer (unreadable path) = answer_refused (unreadable_text path)
-load_answer lacks_memory = answer_refused (refusal_text OutOfMemory)
+load_answer (refuses fault) = prepare_refusal_answer fault
+load_answer (unreadable path) = unreadable_answer path
+load_answer lacks_memory = refusal_answer OutOfMemory
 load_answer usage = answer_usage
 
 -- the answer of `load NAME=FILE ..`

@@ -2,19 +2,19 @@
 use Rattle.std.specs.Prelude.{◌≡◌, ◌⊎◌, Option, None, Some}
 use Rattle.pef_ports.specs.Ports.{FilesPort, Stream}
 use Rattle.pef_tool.specs.Request.Requests.{Asked, check, distances, link, list, load, show}
-use Rattle.pef_tool.specs.Answers.Answers.{Answer, answer_refused, answer_usage}
+use Rattle.pef_tool.specs.Answers.Answers.{Answer, answer_usage}
 use Rattle.pef_tool.specs.Load.{LoadAnswers}
 use Rattle.pef_tool.specs.Show.{ShowAnswers}
 use Rattle.pef_tool.specs.Check.{CheckAnswers}
 use Rattle.pef_tool.specs.Distances.{DistancesAnswers}
 use Rattle.pef_tool.specs.Link.{LinkAnswers}
 use Rattle.pef_tool.specs.List.{ListAnswers}
-use Rattle.pef_tool.specs.Answers.Refusals.{refusal_text}
+use Rattle.pef_tool.specs.Answers.Refusals.{refusal_answer}
 use Rattle.pef_tool.specs.declared.answers.refusal.Refusal.TheVariants.{OutOfMemory}
 
 -- the answer to words that are no command. Before that is known, an allocation may fail.
 abbrev pub UsageAnswers : Answer → Type 0
-UsageAnswers answer = (answer ≡ answer_usage) ⊎ (answer ≡ answer_refused (refusal_text OutOfMemory))
+UsageAnswers answer = (answer ≡ answer_usage) ⊎ (answer ≡ refusal_answer OutOfMemory)
 
 -- the answer of a run, by its command line, and by the states of the files and the input before and after. Those that a
 -- command doesn't use are unchanged.

@@ -1,6 +1,6 @@
 -- The answer of `show` (README; docs/RULES.md, "A fragment alone"). It reads the whole input, and shows the memory that
 -- its script describes.
-use Rattle.std.specs.Prelude.{◌≡◌, ℕ, ◌≤◌, List, [], ◌∷◌, ◌++◌, Some, Ok, Err, codes, length}
+use Rattle.std.specs.Prelude.{◌≡◌, ℕ, ◌≤◌, List, [], ◌∷◌, Some, Ok, Err, codes, length}
 use Rattle.cfm_closure.specs.Stores.{Pair}
 use Rattle.cfm_closure.specs.Faults.{FailsAs}
 use Rattle.cfm_closure.specs.declared.fault.BindFault.{BindFault}
@@ -16,7 +16,7 @@ use Rattle.cfm_prepare.specs.Fragments.{places_of}
 use Rattle.cfm_prepare.specs.Contexts.{ContextState, fresh_state}
 use Rattle.cfm_prepare.specs.Steps.{Prepares}
 use Rattle.pef_tool.specs.Answers.Answers.{Answer, answer_done, answer_refused}
-use Rattle.pef_tool.specs.Answers.Refusals.{bind_refusal_text, refusal_text, refused_text, reported_text}
+use Rattle.pef_tool.specs.Answers.Refusals.{bind_refusal_answer, refusal_answer, fragment_end}
 use Rattle.pef_tool.specs.declared.answers.refusal.Refusal.{Refusal}
 use Rattle.pef_tool.specs.declared.answers.refusal.Refusal.TheVariants.{Script, InputUnreadable, InputTooLong, OutOfMemory}
 use Rattle.pef_ports.specs.Input.{IsLonger, IsWhole, WasReadWithin}
@@ -143,16 +143,16 @@ ShowEnds before after (unbound fault) = IsUnbound before after fault
 ShowEnds before after unplaced = IsUnplaced before after
 ShowEnds before after (refuses refusal) = ShowRefuses before after refusal
 
--- the line of a fragment without room for its sections: 67, and its name
-abbrev pub unplaced_text : List ℕ → List ℕ
-unplaced_text name = refused_text (memory.fault_number NoRoom) (memory.fault_name NoRoom) ++ reported_text (codes " in ") (Some name) ++ 10 ∷ []
+-- the answer for a fragment without room for its sections: 67, and its name
+abbrev pub unplaced_answer : List ℕ → Answer
+unplaced_answer name = answer_refused (memory.fault_number NoRoom) (memory.fault_name NoRoom) (fragment_end (Some name))
 
 -- the answer for each end
 abbrev pub show_answer : ShowOutcome → Answer
 show_answer (shows s number) = answer_done (loaded_text s number)
-show_answer (unbound fault) = answer_refused (bind_refusal_text fault)
-show_answer unplaced = answer_refused (unplaced_text (codes "it"))
-show_answer (refuses refusal) = answer_refused (refusal_text refusal)
+show_answer (unbound fault) = bind_refusal_answer fault
+show_answer unplaced = unplaced_answer (codes "it")
+show_answer (refuses refusal) = refusal_answer refusal
 
 -- the answer of `show`
 abbrev pub ShowAnswers : Stream → Stream → Answer → Type 0

@@ -1,8 +1,8 @@
 ghost use Rattle.std.specs.Prelude.{◌≡◌, IfOk, length, true};
 ghost use Rattle.pef_ports.specs.Sent.{Sends};
 ghost use Rattle.pef_reloc.specs.Fixups.{fixups_fit};
-ghost use Rattle.pef_tool.specs.Answers.Answers.{Answer, IsDelivered, status_of};
-ghost use Rattle.pef_tool.specs.Check.{AreVerdicts, CheckAnswers, IsVerdict, Judges, are_numbered, judged_answer, match_sections, verdict_text, verdicts_status, verdicts_text};
+ghost use Rattle.pef_tool.specs.Answers.Answers.{Answer, IsDelivered};
+ghost use Rattle.pef_tool.specs.Check.{AreVerdicts, CheckAnswers, IsVerdict, Judges, are_numbered, judged_answer, match_sections, verdict_text, verdicts_outcome, verdicts_text};
 ghost use Rattle.pef_tool.specs.Kept.Judged.{JudgesRead, JudgesScript};
 ghost use Rattle.pef_words.specs.Refusals.{result_map};
 
@@ -44,7 +44,7 @@ pub fn check_files<F: Files, W: Sink>(
 ) -> Outcome
     ensures { (answer : Answer)
         × CheckAnswers (record { state = F.state; was_read = F.was_read; was_written = F.was_written }) files.old files.new script.now cert.now answer
-        × IsDelivered (W.stream out.old) (W.stream out.new) answer (status_of result) }
+        × IsDelivered (W.stream out.old) (W.stream out.new) answer result }
 {
     let text = match read_file(alloc, files, script) {
         Ok(text) => text,
@@ -172,7 +172,7 @@ impl Reply for Verdicts {
 
 /// Returns the outcome of a run with some verdicts.
 fn verdicts_outcome(verdicts: &[Verdict]) -> Outcome
-    ensures { status_of result ≡ verdicts_status verdicts.now }
+    ensures { result ≡ verdicts_outcome verdicts.now }
 {
     for verdict in verdicts {
         if *verdict == Verdict::No {

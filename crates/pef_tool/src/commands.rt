@@ -1,9 +1,10 @@
-ghost use Rattle.std.specs.Prelude.{Some, map, string_bytes};
+ghost use Rattle.std.specs.Prelude.{◌≡◌, Some, map, string_bytes};
 ghost use Rattle.pef_tool.specs.Request.CommandLine.{asked_by};
 ghost use Rattle.pef_tool.specs.Request.Requests.{asked_of};
-ghost use Rattle.pef_tool.specs.Answers.Answers.{Answer, IsDelivered, answer_refused, status_of};
-ghost use Rattle.pef_tool.specs.Answers.Refusals.{refusal_text};
+ghost use Rattle.pef_tool.specs.Answers.Answers.{Answer, IsDelivered, status_of};
+ghost use Rattle.pef_tool.specs.Answers.Refusals.{refusal_answer};
 ghost use Rattle.pef_tool.specs.declared.answers.refusal.Refusal.TheVariants.{OutOfMemory};
+ghost use Rattle.pef_tool.specs.declared.answers.outcome.Outcome.{Outcome};
 ghost use Rattle.pef_tool.specs.Run.{RunAnswers};
 
 use crate::answers::{Outcome, Refusal, Usage, deliver};
@@ -29,8 +30,10 @@ pub fn run<F: Files, R: Source, W: Sink>(
     out: &mut W,
 ) -> u8
     ensures { (answer : Answer)
+        × (outcome : Outcome)
         × RunAnswers (record { state = F.state; was_read = F.was_read; was_written = F.was_written }) R.stream (asked_by (map string_bytes words.now)) files.old files.new input.old input.new answer
-        × IsDelivered (W.stream out.old) (W.stream out.new) answer result }
+        × IsDelivered (W.stream out.old) (W.stream out.new) answer outcome
+        × (result ≡ status_of outcome) }
 {
     perform(alloc, words, files, input, out).status()
 }
@@ -45,7 +48,7 @@ pub fn perform<F: Files, R: Source, W: Sink>(
 ) -> Outcome
     ensures { (answer : Answer)
         × RunAnswers (record { state = F.state; was_read = F.was_read; was_written = F.was_written }) R.stream (asked_by (map string_bytes words.now)) files.old files.new input.old input.new answer
-        × IsDelivered (W.stream out.old) (W.stream out.new) answer (status_of result) }
+        × IsDelivered (W.stream out.old) (W.stream out.new) answer result }
 {
     match read_words(alloc, words) {
         Ok(request) => run_request(alloc, request, files, input, out),
@@ -56,7 +59,7 @@ pub fn perform<F: Files, R: Source, W: Sink>(
 
 /// Prints that an allocation failed before the words were parsed.
 pub fn out_of_memory<W: Sink>(out: &mut W) -> Outcome
-    ensures { IsDelivered (W.stream out.old) (W.stream out.new) (answer_refused (refusal_text OutOfMemory)) (status_of result) }
+    ensures { IsDelivered (W.stream out.old) (W.stream out.new) (refusal_answer OutOfMemory) result }
 {
     deliver(out, &Refusal::OutOfMemory)
 }
@@ -71,7 +74,7 @@ fn run_request<F: Files, R: Source, W: Sink>(
 ) -> Outcome
     ensures { (answer : Answer)
         × RunAnswers (record { state = F.state; was_read = F.was_read; was_written = F.was_written }) R.stream (Some (asked_of request.entry)) files.old files.new input.old input.new answer
-        × IsDelivered (W.stream out.old) (W.stream out.new) answer (status_of result) }
+        × IsDelivered (W.stream out.old) (W.stream out.new) answer result }
 {
     match request {
         Request::Show => show_input(alloc, input, out),

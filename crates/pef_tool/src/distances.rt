@@ -1,4 +1,4 @@
-ghost use Rattle.pef_tool.specs.Answers.Answers.{Answer, IsDelivered, answer_done, status_of};
+ghost use Rattle.pef_tool.specs.Answers.Answers.{Answer, IsDelivered, answer_done};
 ghost use Rattle.pef_tool.specs.Distances.{DistancesAnswers};
 ghost use Rattle.pef_tool.specs.Kept.Linking.{CertifiesFrom, CertifiesText};
 
@@ -22,7 +22,7 @@ pub fn print_distances<F: Files, W: Sink>(
 ) -> Outcome
     ensures { (answer : Answer)
         × DistancesAnswers (record { state = F.state; was_read = F.was_read; was_written = F.was_written }) files.old files.new script.now answer
-        × IsDelivered (W.stream out.old) (W.stream out.new) answer (status_of result) }
+        × IsDelivered (W.stream out.old) (W.stream out.new) answer result }
 {
     let linked = match certify_file(alloc, files, script) {
         Ok(linked) => linked,

@@ -1,6 +1,6 @@
 ghost use Rattle.std.specs.Prelude.{◌≡◌};
 ghost use Rattle.pef_ports.specs.Sent.{Sends};
-ghost use Rattle.pef_tool.specs.Answers.Answers.{Answer, IsDelivered, answer_done, status_of};
+ghost use Rattle.pef_tool.specs.Answers.Answers.{Answer, IsDelivered, answer_done};
 ghost use Rattle.pef_tool.specs.Link.{LinkAnswers, length_text, lengths_text, linked_text, size_text};
 
 use crate::answers::{FileRefusal, Outcome, Refusal, Reply, deliver};
@@ -21,7 +21,7 @@ pub fn link_files<F: Files, W: Sink>(
 ) -> Outcome
     ensures { (answer : Answer)
         × LinkAnswers (record { state = F.state; was_read = F.was_read; was_written = F.was_written }) files.old files.new script.now target.now answer
-        × IsDelivered (W.stream out.old) (W.stream out.new) answer (status_of result) }
+        × IsDelivered (W.stream out.old) (W.stream out.new) answer result }
 {
     let linked = match link_file(alloc, files, script) {
         Ok(linked) => linked,
@@ -53,7 +53,11 @@ impl<'a> Reply for LinkedReply<'a> {
 }
 
 /// Prints the number of bytes that were linked, and the number of halfwords of each section's program.
-fn print_linked<W: Sink>(out: &mut W, page: &mut Page, linked: &LinkedContainer) -> Result<(), StreamFault>
+fn print_linked<W: Sink>(
+    out: &mut W,
+    page: &mut Page,
+    linked: &LinkedContainer,
+) -> Result<(), StreamFault>
     ensures { Sends result (W.stream out.old) (W.stream out.new) page.old.items page.new.items (linked_text linked.now) }
 {
     print_size(out, page, linked.bytes().len())?;
@@ -61,7 +65,11 @@ fn print_linked<W: Sink>(out: &mut W, page: &mut Page, linked: &LinkedContainer)
 }
 
 /// Prints the lengths of the sections' programs, numbered from 0.
-fn print_lengths<W: Sink>(out: &mut W, page: &mut Page, linked: &LinkedContainer) -> Result<(), StreamFault>
+fn print_lengths<W: Sink>(
+    out: &mut W,
+    page: &mut Page,
+    linked: &LinkedContainer,
+) -> Result<(), StreamFault>
     ensures { Sends result (W.stream out.old) (W.stream out.new) page.old.items page.new.items (lengths_text 0 linked.now.lengths) }
 {
     for k in 0..linked.sections() {

@@ -1,5 +1,4 @@
-ghost use Rattle.pef_tool.specs.Answers.Answers.{answer_refused};
-ghost use Rattle.pef_tool.specs.Answers.Refusals.{refusal_text};
+ghost use Rattle.pef_tool.specs.Answers.Refusals.{refusal_answer};
 ghost use Rattle.pef_tool.specs.Kept.Linking.{LinksFrom, LinksText, ReadsScript, unlinked_answer};
 
 use crate::answers::{Outcome, Refusal, Reply, script_refusal};
@@ -26,7 +25,7 @@ impl ScriptRefusal {
 }
 
 impl Reply for ScriptRefusal {
-    ghost answer = { λ refused. answer_refused (refusal_text refused.refusal) };
+    ghost answer = { λ refused. refusal_answer refused.refusal };
 
     fn outcome(&self) -> Outcome {
         self.refusal.outcome().detailed(self.detail)

@@ -1,6 +1,6 @@
 ghost use Rattle.pef_listing.specs.Listing.{listing_text};
 ghost use Rattle.pef_listing.specs.Views.{parts};
-ghost use Rattle.pef_tool.specs.Answers.Answers.{Answer, IsDelivered, answer_done, status_of};
+ghost use Rattle.pef_tool.specs.Answers.Answers.{Answer, IsDelivered, answer_done};
 ghost use Rattle.pef_tool.specs.List.{ListAnswers};
 
 use crate::answers::{Outcome, Refusal, Reply, deliver, deliver_detailed};
@@ -21,7 +21,7 @@ pub fn list_file<F: Files, W: Sink>(
 ) -> Outcome
     ensures { (answer : Answer)
         × ListAnswers (record { state = F.state; was_read = F.was_read; was_written = F.was_written }) files.old files.new path.now answer
-        × IsDelivered (W.stream out.old) (W.stream out.new) answer (status_of result) }
+        × IsDelivered (W.stream out.old) (W.stream out.new) answer result }
 {
     let bytes = match read_file(alloc, files, path) {
         Ok(bytes) => bytes,

@@ -1,6 +1,6 @@
 ghost use Rattle.std.specs.Prelude.{◌≡◌, ◌≤◌, IfErr, IfOk, length, map};
 ghost use Rattle.pef_tool.specs.Request.Requests.{named_path};
-ghost use Rattle.pef_tool.specs.Answers.Answers.{Answer, IsDelivered, status_of};
+ghost use Rattle.pef_tool.specs.Answers.Answers.{Answer, IsDelivered};
 ghost use Rattle.pef_tool.specs.Kept.Loading.{StopsReading};
 ghost use Rattle.pef_tool.specs.Limits.{most_files};
 ghost use Rattle.pef_tool.specs.Load.{LoadAnswers, WereRead, paired};
@@ -26,7 +26,7 @@ pub fn load_files<F: Files, W: Sink>(
 ) -> Outcome
     ensures { (answer : Answer)
         × LoadAnswers (record { state = F.state; was_read = F.was_read; was_written = F.was_written }) files.old files.new (map named_path named.now) answer
-        × IsDelivered (W.stream out.old) (W.stream out.new) answer (status_of result) }
+        × IsDelivered (W.stream out.old) (W.stream out.new) answer result }
 {
     if named.is_empty() || named.len() > MAX_PAIRS {
         return deliver(out, &Usage);

@@ -1,7 +1,7 @@
 ghost use Rattle.std.specs.Prelude.{◌≡◌, ◌<◌, ◌≤◌, ◌^◌, IfErr, IfOk, codes};
 ghost use Rattle.cfm_prepare.specs.Contexts.{fresh_state};
 ghost use Rattle.cfm_prepare.specs.Steps.{MayNotPrepare, Prepares};
-ghost use Rattle.pef_tool.specs.Answers.Answers.{IsDelivered, answer_done, status_of};
+ghost use Rattle.pef_tool.specs.Answers.Answers.{IsDelivered, answer_done};
 ghost use Rattle.pef_ports.specs.Sent.{Sends};
 ghost use Rattle.pef_tool.specs.Fragment.{entry_text, sections_text};
 ghost use Rattle.pef_tool.specs.Kept.Rooted.{RootEnds, RootOutcome, root_answer};
@@ -58,7 +58,7 @@ pub fn deliver_root<S: Shelf, W: Sink>(
 ) -> Outcome
     ensures { (outcome : RootOutcome)
         × RootEnds store.entry name.now outcome
-        × IsDelivered (W.stream out.old) (W.stream out.new) (root_answer outcome) (status_of result) }
+        × IsDelivered (W.stream out.old) (W.stream out.new) (root_answer outcome) result }
 {
     match prepare_root(alloc, store, name) {
         Ok(loaded) => deliver(out, &loaded),

@@ -1,5 +1,5 @@
 ghost use Rattle.std.specs.Prelude.{◌≡◌, IfOk};
-ghost use Rattle.pef_tool.specs.Answers.Answers.{Answer, IsDelivered, status_of};
+ghost use Rattle.pef_tool.specs.Answers.Answers.{Answer, IsDelivered};
 ghost use Rattle.pef_script.specs.Script.{DescribedScript};
 ghost use Rattle.pef_write.specs.Linked.{IsLinked};
 ghost use Rattle.pef_tool.specs.Kept.Showing.{ScriptEnds};
@@ -21,7 +21,7 @@ const INPUT_LIMIT: usize = 536_870_912;
 pub fn show_input<R: Source, W: Sink>(alloc: Global, input: &mut R, out: &mut W) -> Outcome
     ensures { (answer : Answer)
         × ShowAnswers (R.stream input.old) (R.stream input.new) answer
-        × IsDelivered (W.stream out.old) (W.stream out.new) answer (status_of result) }
+        × IsDelivered (W.stream out.old) (W.stream out.new) answer result }
 {
     let text = match read_input(alloc, input, INPUT_LIMIT) {
         Ok(text) => text,
@@ -39,7 +39,7 @@ pub fn show_input<R: Source, W: Sink>(alloc: Global, input: &mut R, out: &mut W)
 fn show_linked<W: Sink>(alloc: Global, linked: &LinkedContainer, out: &mut W) -> Outcome
     ensures { (script : DescribedScript) → IsLinked script linked.now → (outcome : ShowOutcome)
         × ScriptEnds script outcome
-        × IsDelivered (W.stream out.old) (W.stream out.new) (show_answer outcome) (status_of result) }
+        × IsDelivered (W.stream out.old) (W.stream out.new) (show_answer outcome) result }
 {
     let Ok(store) = single_store(alloc, linked.bytes()) else {
         return deliver(out, &Refusal::OutOfMemory);

@@ -1,7 +1,14 @@
 //! Theorems on the commands. The functions do nothing.
-ghost use Rattle.std.specs.Prelude.{◌≡◌, ◌≤◌, List, Result, Ok, length};
+ghost use Rattle.std.specs.Prelude.{◌≡◌, ◌⊎◌, ◌≤◌, ℕ, List, Option, Result, Ok, length};
 ghost use Rattle.cfm_memory.specs.Extents.{LackRoom, no_instances};
 ghost use Rattle.pef_headline.specs.Now.{described_extents};
+ghost use Rattle.pef_details.specs.declared.detail.Detail.{Detail};
+ghost use Rattle.pef_ports.specs.Ports.{Stream};
+ghost use Rattle.pef_refusals.specs.Help.{help_of};
+ghost use Rattle.pef_tool.specs.Answers.Answers.{IsDelivered, answer_refused};
+ghost use Rattle.pef_tool.specs.Explain.{Explains, NotesHelp};
+ghost use Rattle.pef_tool.specs.declared.answers.outcome.Outcome.{Outcome};
+ghost use Rattle.pef_tool.specs.declared.answers.outcome.Outcome.TheVariants.{OutputFailed};
 ghost use Rattle.pef_script.specs.WellFormed.{ScriptHolds};
 ghost use Rattle.pef_tool.specs.Limits.{memory_limit};
 ghost use Rattle.pef_cert.specs.Text.Printed.{certificates_text};
@@ -24,4 +31,11 @@ pub fn distances_are_accepted()
 /// alignments.
 pub fn fifteen_sections_find_room()
     ensures { (script : DescribedScript) → ScriptHolds script → length script.sections ≤ 15 → LackRoom (no_instances memory_limit) (described_extents script) → ⊥ }
+{}
+
+/// After a refused run, [`explain`](crate::explain) writes the help for the number that was printed, unless the output
+/// failed.
+pub fn refusals_are_explained()
+    ensures { (number : ℕ) (name rest : List ℕ) (outcome : Outcome) (out printed notes noted : Stream) → IsDelivered out printed (answer_refused number name rest) outcome → Explains outcome notes noted
+        → (outcome ≡ OutputFailed) ⊎ ((detail : Option Detail) × NotesHelp (help_of number) detail notes noted) }
 {}

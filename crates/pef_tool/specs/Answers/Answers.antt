@@ -1,28 +1,11 @@
 -- The answers of commands, and how an answer is written (README, "Output and status").
-use Rattle.std.specs.Prelude.{◌≡◌, ◌⊎◌, ℕ, List, Option, None, codes, take}
+use Rattle.std.specs.Prelude.{◌≡◌, ◌⊎◌, ℕ, List, ◌++◌, Option, None, codes, decimal, take}
 use Rattle.pef_ports.specs.Ports.{Stream, Grows, LastFailed, NoneFailed}
 use Rattle.pef_tool.specs.declared.answers.outcome.Outcome.{Outcome}
 use Rattle.pef_tool.specs.declared.answers.outcome.Outcome.TheVariants.{Done, SaidNo, Refused, Usage, OutputFailed}
 use Rattle.pef_details.specs.declared.detail.Detail.{Detail}
 
--- an answer: the text that is printed, and the exit status of the run
-pub record Answer : Type 0 where
-  pub text : List ℕ
-  pub status : ℕ
-
--- the answer of a command that is done
-abbrev pub answer_done : List ℕ → Answer
-answer_done text = record { text = text; status = 0 }
-
--- the answer of a command that is refused
-abbrev pub answer_refused : List ℕ → Answer
-answer_refused text = record { text = text; status = 1 }
-
--- the answer to an invalid command line
-abbrev pub answer_usage : Answer
-answer_usage = record { text = codes "usage\n"; status = 2 }
-
--- the status of each outcome
+-- the exit status of each outcome
 abbrev pub status_of : Outcome → ℕ
 status_of Done = 0
 status_of SaidNo = 1
@@ -42,8 +25,35 @@ detailed detail (Refused number _) = Refused number detail
 detailed detail Usage = Usage
 detailed detail OutputFailed = OutputFailed
 
--- the whole answer is written. Or a prefix of it is written, the output fails at its last call, and the status is 1.
-abbrev pub IsDelivered : Stream → Stream → Answer → ℕ → Type 0
-IsDelivered before after answer status =
-    (Grows before.bytes after.bytes answer.text × NoneFailed before after × (status ≡ answer.status))
-    ⊎ (((n : ℕ) × Grows before.bytes after.bytes (take n answer.text)) × LastFailed before after × (status ≡ 1))
+-- .. and without one
+abbrev pub undetailed : Outcome → Outcome
+undetailed outcome = detailed None outcome
+
+-- an answer: the text that is printed, and the outcome of the run, without a detail
+pub record Answer : Type 0 where
+  pub text : List ℕ
+  pub outcome : Outcome
+
+-- the answer of a command that is done
+abbrev pub answer_done : List ℕ → Answer
+answer_done text = record { text = text; outcome = Done }
+
+-- the start of a refusal's line: a number and a name
+abbrev pub refused_text : ℕ → List ℕ → List ℕ
+refused_text number name = codes "refused " ++ decimal number ++ codes " " ++ name
+
+-- the answer of a command that is refused: the number and the name of the refusal, and what follows them. The outcome
+-- has the number that is printed.
+abbrev pub answer_refused : ℕ → List ℕ → List ℕ → Answer
+answer_refused number name rest = record { text = refused_text number name ++ rest; outcome = refused_as number }
+
+-- the answer to an invalid command line
+abbrev pub answer_usage : Answer
+answer_usage = record { text = codes "usage\n"; outcome = Usage }
+
+-- the whole answer is written, and the run has its outcome, with a detail if one is known. Or a prefix of it is written,
+-- and the output fails at its last call.
+abbrev pub IsDelivered : Stream → Stream → Answer → Outcome → Type 0
+IsDelivered before after answer outcome =
+    (Grows before.bytes after.bytes answer.text × NoneFailed before after × (undetailed outcome ≡ answer.outcome))
+    ⊎ (((n : ℕ) × Grows before.bytes after.bytes (take n answer.text)) × LastFailed before after × (outcome ≡ OutputFailed))

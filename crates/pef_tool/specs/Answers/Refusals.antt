@@ -1,4 +1,4 @@
--- The line that ends a refused run (docs/ERRORS.md, "How a refusal is printed"). The numbers and names of the
+-- The answers of refused runs (docs/ERRORS.md, "How a refusal is printed"). The numbers and names of the
 -- libraries' faults are defined there.
 use Rattle.std.specs.Prelude.{ℕ, List, [], ◌∷◌, ◌++◌, Option, None, Some, codes, decimal}
 use Rattle.cfm_closure.specs.Faults as bind
@@ -15,6 +15,7 @@ use Rattle.pef_ports.specs.Faults as input
 use Rattle.pef_ports.specs.Names.{name_text}
 use Rattle.pef_ports.specs.declared.input.InputFault.TheVariants as input_fault
 use Rattle.pef_script.specs.Text.Faults as script
+use Rattle.pef_tool.specs.Answers.Answers.{Answer, answer_refused}
 use Rattle.pef_tool.specs.declared.answers.refusal.FileRefusal.{FileRefusal}
 use Rattle.pef_tool.specs.declared.answers.refusal.FileRefusal.TheVariants.{Unreadable, Unwritable}
 use Rattle.pef_tool.specs.declared.answers.refusal.Refusal.{Refusal}
@@ -50,12 +51,9 @@ place_of InputUnreadable = []
 place_of InputTooLong = []
 place_of OutOfMemory = []
 
--- the start of each line: a number and a name
-abbrev pub refused_text : ℕ → List ℕ → List ℕ
-refused_text number name = codes "refused " ++ decimal number ++ codes " " ++ name
-
-abbrev pub refusal_text : Refusal → List ℕ
-refusal_text refusal = refused_text (number_of refusal) (name_of refusal) ++ place_of refusal ++ 10 ∷ []
+-- the answer
+abbrev pub refusal_answer : Refusal → Answer
+refusal_answer refusal = answer_refused (number_of refusal) (name_of refusal) (place_of refusal ++ 10 ∷ [])
 
 -- the names that the refusal of a closure gives: of a fragment, of a library, of a symbol
 
@@ -87,14 +85,17 @@ abbrev pub reported_text : List ℕ → Option (List ℕ) → List ℕ
 reported_text word None = []
 reported_text word (Some name) = word ++ name_text name
 
--- the line of the refusal of a closure
-abbrev pub bind_refusal_text : BindFault → List ℕ
-bind_refusal_text fault =
-    refused_text (bind.fault_number fault) (bind.fault_name fault)
-    ++ reported_text (codes " in ") (reported_fragment fault)
+-- the rest of its line
+abbrev pub bind_refusal_rest : BindFault → List ℕ
+bind_refusal_rest fault =
+    reported_text (codes " in ") (reported_fragment fault)
     ++ reported_text (codes " library ") (reported_library fault)
     ++ reported_text (codes " symbol ") (reported_symbol fault)
     ++ 10 ∷ []
+
+-- the answer if there is no closure
+abbrev pub bind_refusal_answer : BindFault → Answer
+bind_refusal_answer fault = answer_refused (bind.fault_number fault) (bind.fault_name fault) (bind_refusal_rest fault)
 
 -- the name of the fragment that isn't prepared, if its closure isn't the reason
 abbrev pub reported_unprepared : PrepareFault → Option (List ℕ)
@@ -103,14 +104,18 @@ reported_unprepared (prepare_fault.Fragment (fragment_fault.Pack f k)) = Some f.
 reported_unprepared (prepare_fault.Fragment (fragment_fault.Reloc f k)) = Some f.now
 reported_unprepared _ = None
 
--- the line of a fragment that isn't prepared, if its closure isn't the reason
-abbrev pub unprepared_text : PrepareFault → List ℕ
-unprepared_text fault = refused_text (prepare.fault_number fault) (prepare.fault_name fault) ++ reported_text (codes " in ") (reported_unprepared fault) ++ 10 ∷ []
+-- the end of a line that names a fragment, if it names one
+abbrev pub fragment_end : Option (List ℕ) → List ℕ
+fragment_end name = reported_text (codes " in ") name ++ 10 ∷ []
 
--- the line of a fragment that isn't prepared
-abbrev pub prepare_refusal_text : PrepareFault → List ℕ
-prepare_refusal_text (prepare_fault.Bind f) = bind_refusal_text f
-prepare_refusal_text fault = unprepared_text fault
+-- the rest of the line of a fragment that isn't prepared
+abbrev pub prepare_refusal_rest : PrepareFault → List ℕ
+prepare_refusal_rest (prepare_fault.Bind f) = bind_refusal_rest f
+prepare_refusal_rest fault = fragment_end (reported_unprepared fault)
+
+-- the answer if a fragment isn't prepared
+abbrev pub prepare_refusal_answer : PrepareFault → Answer
+prepare_refusal_answer fault = answer_refused (prepare.fault_number fault) (prepare.fault_name fault) (prepare_refusal_rest fault)
 
 -- a name at the end of a line
 abbrev pub name_end : List ℕ → List ℕ
@@ -144,18 +149,18 @@ abbrev pub path_of : FileRefusal → List ℕ
 path_of (Unreadable path) = path.now
 path_of (Unwritable path) = path.now
 
--- the start of such a refusal's line: the start of each line, and a space
-abbrev pub file_refusal_start : ℕ → List ℕ → List ℕ
-file_refusal_start number name = refused_text number name ++ codes " "
+-- the rest of such a refusal's line
+abbrev pub path_end : List ℕ → List ℕ
+path_end path = codes " " ++ name_end path
 
--- the line of a refusal because of a file
-abbrev pub file_refusal_text : FileRefusal → List ℕ
-file_refusal_text refusal = file_refusal_start (file_number_of refusal) (file_name_of refusal) ++ name_end (path_of refusal)
+-- the answer if a file is the reason
+abbrev pub file_refusal_answer : FileRefusal → Answer
+file_refusal_answer refusal = answer_refused (file_number_of refusal) (file_name_of refusal) (path_end (path_of refusal))
 
--- the line of a file that couldn't be read
-abbrev pub unreadable_text : List ℕ → List ℕ
-unreadable_text path = file_refusal_start unreadable_number unreadable_name ++ name_end path
+-- the answer if a file couldn't be read
+abbrev pub unreadable_answer : List ℕ → Answer
+unreadable_answer path = answer_refused unreadable_number unreadable_name (path_end path)
 
--- the line of a file that couldn't be written
-abbrev pub unwritable_text : List ℕ → List ℕ
-unwritable_text path = file_refusal_start unwritable_number unwritable_name ++ name_end path
+-- the answer if a file couldn't be written
+abbrev pub unwritable_answer : List ℕ → Answer
+unwritable_answer path = answer_refused unwritable_number unwritable_name (path_end path)

@@ -3,8 +3,8 @@ use Rattle.std.specs.Prelude.{◌≡◌, ℕ, List, Result, Ok, Err}
 use Rattle.pef_ports.specs.Ports.{FilesPort}
 use Rattle.pef_script.specs.Text.Grammar.{script_of}
 use Rattle.pef_script.specs.Script.{DescribedScript}
-use Rattle.pef_tool.specs.Answers.Answers.{Answer, answer_refused}
-use Rattle.pef_tool.specs.Answers.Refusals.{refusal_text}
+use Rattle.pef_tool.specs.Answers.Answers.{Answer}
+use Rattle.pef_tool.specs.Answers.Refusals.{refusal_answer}
 use Rattle.pef_tool.specs.Distances.{CertifiesFile}
 use Rattle.pef_tool.specs.Kept.Reading.{StopsFile, unread_answer}
 use Rattle.pef_tool.specs.Link.{LinksFile, RefusesLinking}
@@ -54,4 +54,4 @@ CertifiesFrom port before after path (Err why) = StopsLinking port before after 
 -- the answer of a command that stops there
 abbrev pub unlinked_answer : Unlinked → Answer
 unlinked_answer (Unread fault) = unread_answer fault
-unlinked_answer (Refused refused) = answer_refused (refusal_text refused.refusal)
+unlinked_answer (Refused refused) = refusal_answer refused.refusal

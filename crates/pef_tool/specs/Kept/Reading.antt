@@ -2,8 +2,8 @@
 use Rattle.std.specs.Prelude.{◌≡◌, ℕ, List, Err}
 use Rattle.pef_ports.specs.Ports.{FilesPort, Reads}
 use Rattle.pef_ports.specs.declared.ports.FileFault.TheVariants as file_fault
-use Rattle.pef_tool.specs.Answers.Answers.{Answer, answer_refused}
-use Rattle.pef_tool.specs.Answers.Refusals.{refusal_text, unreadable_text}
+use Rattle.pef_tool.specs.Answers.Answers.{Answer}
+use Rattle.pef_tool.specs.Answers.Refusals.{refusal_answer, unreadable_answer}
 use Rattle.pef_tool.specs.declared.answers.refusal.Refusal.TheVariants as refusal
 use Rattle.pef_tool.specs.declared.reading.ReadingFault.{ReadingFault}
 use Rattle.pef_tool.specs.declared.reading.ReadingFault.TheVariants.{Unreadable, OutOfMemory}
@@ -15,5 +15,5 @@ StopsFile port before after path OutOfMemory = Reads port before after path (Err
 
 -- the answer of a command that stops there
 abbrev pub unread_answer : ReadingFault → Answer
-unread_answer (Unreadable path) = answer_refused (unreadable_text path.now)
-unread_answer OutOfMemory = answer_refused (refusal_text refusal.OutOfMemory)
+unread_answer (Unreadable path) = unreadable_answer path.now
+unread_answer OutOfMemory = refusal_answer refusal.OutOfMemory

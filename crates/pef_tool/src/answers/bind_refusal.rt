@@ -1,7 +1,6 @@
 ghost use Rattle.std.specs.Prelude.{◌≡◌, option_map};
 ghost use Rattle.pef_ports.specs.Sent.{Sends};
-ghost use Rattle.pef_tool.specs.Answers.Answers.{answer_refused};
-ghost use Rattle.pef_tool.specs.Answers.Refusals.{bind_refusal_text, reported_fragment, reported_library, reported_symbol, reported_text};
+ghost use Rattle.pef_tool.specs.Answers.Refusals.{bind_refusal_answer, reported_fragment, reported_library, reported_symbol, reported_text};
 
 use crate::answers::outcome::Outcome;
 use crate::answers::refusal::print_refused;
@@ -10,7 +9,7 @@ use cfm_closure::BindFault;
 use pef_ports::{Page, Piece, Sink, StreamFault, print_pieces, send};
 
 impl<'a> Reply for BindFault<'a> {
-    ghost answer = { λ fault. answer_refused (bind_refusal_text fault) };
+    ghost answer = { bind_refusal_answer };
 
     fn outcome(&self) -> Outcome {
         Outcome::refused(self.number())

@@ -1,5 +1,5 @@
 ghost use Rattle.std.specs.Prelude.{◌≡◌};
-ghost use Rattle.pef_tool.specs.Answers.Answers.{detailed, refused_as, status_of};
+ghost use Rattle.pef_tool.specs.Answers.Answers.{detailed, refused_as, status_of, undetailed};
 
 use pef_details::Detail;
 
@@ -43,7 +43,7 @@ impl Outcome {
     /// Returns the same outcome, with a detail if it is a refusal.
     pub fn detailed(self, detail: Option<Detail>) -> Outcome
         ensures outcome { result ≡ detailed detail self }
-        ensures status { status_of result ≡ status_of self }
+        ensures same { undetailed result ≡ undetailed self }
     {
         match self {
             Outcome::Refused { number, .. } => Outcome::Refused { number, detail },

@@ -1,7 +1,8 @@
-ghost use Rattle.std.specs.Prelude.{◌≡◌, option_map};
+ghost use Rattle.std.specs.Prelude.{◌≡◌, ◌++◌, option_map};
 ghost use Rattle.pef_ports.specs.Sent.{Sends};
-ghost use Rattle.pef_tool.specs.Answers.Answers.{answer_refused};
-ghost use Rattle.pef_tool.specs.Answers.Refusals.{prepare_refusal_text, reported_unprepared, unprepared_text};
+ghost use Rattle.cfm_prepare.specs.Faults.{fault_name, fault_number};
+ghost use Rattle.pef_tool.specs.Answers.Answers.{refused_text};
+ghost use Rattle.pef_tool.specs.Answers.Refusals.{fragment_end, prepare_refusal_answer, reported_unprepared};
 
 use crate::answers::bind_refusal::print_reported;
 use crate::answers::outcome::Outcome;
@@ -11,7 +12,7 @@ use cfm_prepare::{FragmentFault, PrepareFault};
 use pef_ports::{Page, Sink, StreamFault, send};
 
 impl<'a> Reply for PrepareFault<'a> {
-    ghost answer = { λ fault. answer_refused (prepare_refusal_text fault) };
+    ghost answer = { prepare_refusal_answer };
 
     fn outcome(&self) -> Outcome {
         Outcome::refused(self.number())
@@ -34,7 +35,7 @@ fn print_unprepared<W: Sink>(
     page: &mut Page,
     fault: &PrepareFault<'_>,
 ) -> Result<(), StreamFault>
-    ensures { Sends result (W.stream out.old) (W.stream out.new) page.old.items page.new.items (unprepared_text fault.now) }
+    ensures { Sends result (W.stream out.old) (W.stream out.new) page.old.items page.new.items (refused_text (fault_number fault.now) (fault_name fault.now) ++ fragment_end (reported_unprepared fault.now)) }
 {
     print_refused(out, page, fault.number(), fault.name())?;
     print_reported(out, page, b" in ", reported_unprepared(fault))?;

@@ -1,8 +1,8 @@
 ghost use Rattle.std.specs.Prelude.{◌≡◌};
 ghost use Rattle.pef_ports.specs.Sent.{Sends};
-ghost use Rattle.pef_tool.specs.Answers.Answers.{answer_refused};
+ghost use Rattle.pef_tool.specs.Answers.Answers.{refused_text};
 ghost use Rattle.pef_tool.specs.Answers.Reported.{certificate_refusal, input_refusal, script_refusal};
-ghost use Rattle.pef_tool.specs.Answers.Refusals.{file_name_of, file_number_of, file_refusal_text, name_end, name_of, number_of, path_of, place_of, refusal_text, refused_text};
+ghost use Rattle.pef_tool.specs.Answers.Refusals.{file_name_of, file_number_of, file_refusal_answer, name_end, name_of, number_of, path_of, place_of, refusal_answer};
 
 use crate::answers::outcome::Outcome;
 use crate::answers::reply::Reply;
@@ -102,7 +102,7 @@ pub fn print_refused<W: Sink>(
 }
 
 impl Reply for Refusal {
-    ghost answer = { λ refusal. answer_refused (refusal_text refusal) };
+    ghost answer = { refusal_answer };
 
     fn outcome(&self) -> Outcome {
         Outcome::refused(self.number())
@@ -187,7 +187,7 @@ impl<'a> FileRefusal<'a> {
 }
 
 impl<'a> Reply for FileRefusal<'a> {
-    ghost answer = { λ refusal. answer_refused (file_refusal_text refusal) };
+    ghost answer = { file_refusal_answer };
 
     fn outcome(&self) -> Outcome {
         Outcome::refused(self.number())

@@ -1,6 +1,6 @@
 ghost use Rattle.std.specs.Prelude.{◌≡◌, []};
 ghost use Rattle.pef_ports.specs.Sent.{Sends};
-ghost use Rattle.pef_tool.specs.Answers.Answers.{Answer, IsDelivered, answer_usage, status_of};
+ghost use Rattle.pef_tool.specs.Answers.Answers.{Answer, IsDelivered, answer_usage, undetailed};
 
 use crate::answers::outcome::Outcome;
 use pef_details::Detail;
@@ -8,12 +8,12 @@ use pef_ports::{Page, Sink, StreamFault, flush, send};
 
 /// An answer of a command: a text that ends the run, and the outcome.
 pub trait Reply {
-    /// The text and the status.
+    /// The text, and the outcome without a detail.
     ghost answer: { Self → Answer };
 
     /// Returns the outcome after the text was written.
     fn outcome(&self) -> Outcome
-        ensures { status_of result ≡ (answer self.now).status };
+        ensures { undetailed result ≡ (answer self.now).outcome };
 
     /// Prints the text through the page.
     fn print<W: Sink>(&self, out: &mut W, page: &mut Page) -> Result<(), StreamFault>
@@ -22,7 +22,7 @@ pub trait Reply {
 
 /// Sends a whole reply and returns the outcome.
 pub fn deliver<A: Reply, W: Sink>(out: &mut W, reply: &A) -> Outcome
-    ensures { IsDelivered (W.stream out.old) (W.stream out.new) (A.answer reply.now) (status_of result) }
+    ensures { IsDelivered (W.stream out.old) (W.stream out.new) (A.answer reply.now) result }
 {
     match print_whole(out, reply) {
         Ok(()) => reply.outcome(),
@@ -36,7 +36,7 @@ pub fn deliver_detailed<A: Reply, W: Sink>(
     reply: &A,
     detail: Option<Detail>,
 ) -> Outcome
-    ensures { IsDelivered (W.stream out.old) (W.stream out.new) (A.answer reply.now) (status_of result) }
+    ensures { IsDelivered (W.stream out.old) (W.stream out.new) (A.answer reply.now) result }
 {
     deliver(out, reply).detailed(detail)
 }

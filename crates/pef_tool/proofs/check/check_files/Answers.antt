@@ -1,8 +1,7 @@
 -- Both files are read, and their texts decide.
 use Rattle.std.proofs.Common.{Ok, Err, refl}
-use Rattle.pef_tool.specs.Answers.Answers.{answer_refused}
 use Rattle.pef_tool.specs.Check.{judged_answer, judges}
-use Rattle.pef_tool.specs.Answers.Refusals.{refusal_text}
+use Rattle.pef_tool.specs.Answers.Refusals.{refusal_answer}
 use Rattle.pef_tool.specs.Kept.Reading.{unread_answer}
 use Rattle.pef_tool.proofs.CheckLemmas.{files_judged}
 use Rattle.pef_tool.proofs.OutcomeLemmas.{check_ends, check_ends_later}
@@ -26,4 +25,4 @@ pub returns : goal.returns
 returns g c =
     let why = c.in-Err-check_texts.refusal in
     let ends = files_judged c.as_slice.result.now c.as_slice-2.result.now c.in-Ok.ensures.read c.in-Ok-read_file.ensures.read c.as_slice.ensures.value c.as_slice-2.ensures.value c.in-Err-check_texts.ensures in
-    (answer_refused (refusal_text why), (judges (Err why), ends, refl), c.deliver_detailed.ensures)
+    (refusal_answer why, (judges (Err why), ends, refl), c.deliver_detailed.ensures)

@@ -1,6 +1,5 @@
--- Delivered with some status.
-use Rattle.pef_tool.specs.Answers.Answers.{status_of}
+-- Delivered with some outcome.
 use Rattle.pef_tool.proofs.explanation.write_note.Goals as goal
 
 pub returns : goal.returns
-returns g c = (status_of c.deliver.result, c.deliver.ensures)
+returns g c = (c.deliver.result, c.deliver.ensures)

@@ -3,10 +3,10 @@ use Rattle.std.proofs.Common.{refl, ap, sym, ◌∙◌}
 use Rattle.pef_listing.specs.Listed.{listed_of}
 use Rattle.pef_listing.specs.Listing.{listing_text}
 use Rattle.pef_listing.specs.Views.{parts}
-use Rattle.pef_tool.specs.Answers.Answers.{answer_done, answer_refused}
+use Rattle.pef_tool.specs.Answers.Answers.{answer_done}
 use Rattle.pef_tool.specs.Kept.Reading.{unread_answer}
 use Rattle.pef_tool.specs.List.{lists, unlisted}
-use Rattle.pef_tool.specs.Answers.Refusals.{refusal_text}
+use Rattle.pef_tool.specs.Answers.Refusals.{refusal_answer}
 use Rattle.pef_tool.specs.declared.answers.refusal.Refusal.TheVariants.{Listing}
 use Rattle.pef_tool.proofs.OutcomeLemmas.{list_ends}
 use Rattle.pef_tool.proofs.list.list_file.Goals as goal
@@ -24,4 +24,4 @@ pub returns : goal.returns
 returns g c =
     let fault = c.in-Err-read.fault in
     let are = ap listed_of (sym c.as_slice.ensures.value) ∙ sym c.in-Err-read.ensures in
-    (answer_refused (refusal_text (Listing fault)), (unlisted fault, record { bytes = c.in-Ok.bytes.items; read = c.in-Ok.ensures.read; are = are }, refl), c.deliver_detailed.ensures)
+    (refusal_answer (Listing fault), (unlisted fault, record { bytes = c.in-Ok.bytes.items; read = c.in-Ok.ensures.read; are = are }, refl), c.deliver_detailed.ensures)

@@ -5,10 +5,10 @@ use Rattle.std.specs.declared.alloc.Global.{Global}
 use Rattle.std.specs.declared.vec.Vec.{Vec}
 use Rattle.pef_ports.specs.Ports.{FilesPort}
 use Rattle.pef_tool.specs.Request.Requests.{named_path}
-use Rattle.pef_tool.specs.Answers.Answers.{Answer, IsDelivered, answer_refused, status_of}
+use Rattle.pef_tool.specs.Answers.Answers.{Answer, IsDelivered}
 use Rattle.pef_tool.specs.Kept.Reading.{unread_answer}
 use Rattle.pef_tool.specs.Load.{first_name, lacks_memory, load_answer, paired}
-use Rattle.pef_tool.specs.Answers.Refusals.{refusal_text}
+use Rattle.pef_tool.specs.Answers.Refusals.{refusal_answer}
 use Rattle.pef_tool.specs.declared.answers.refusal.Refusal.TheVariants.{OutOfMemory}
 use Rattle.pef_tool.proofs.OutcomeLemmas.{load_ends}
 use Rattle.pef_tool.proofs.LoadLemmas.{first-is, lacks-all, root-loads, some-files, were-length}
@@ -36,7 +36,7 @@ returns-in_default g c =
     let named = map named_path c.args.named.now in
     let contents = map items c.in-Ok.contents.items in
     let read = lacks-all port c.args.files.now c.read_files.new.files named contents c.in-Ok.ensures.read in
-    (answer_refused (refusal_text OutOfMemory), (lacks_memory, inl (length named, contents, read), refl), c.deliver-in_default.ensures)
+    (refusal_answer OutOfMemory, (lacks_memory, inl (length named, contents, read), refl), c.deliver-in_default.ensures)
 
 pub returns : goal.returns
 returns g c =
@@ -48,5 +48,5 @@ returns g c =
     let some : 0 < length named = some-files named c.is_empty.result c.is_empty.ensures c.if-is_empty.false in
     let name : c.as_bytes.result.now ≡ first_name (map named_path named) = c.as_bytes.ensures.value ∙ sym (first-is named _ some) in
     let ends = root-loads port c.args.files.now c.read_files.new.files (map named_path named) contents c.deliver_root.ensures.0 c.in-Ok.ensures.read (rw (← store, ← name) c.deliver_root.ensures.1) in
-    let P : Answer → Type 0 = λ answer. IsDelivered (stream c.args.out.now) (stream c.deliver_root.new.out) answer (status_of c.deliver_root.result) in
+    let P : Answer → Type 0 = λ answer. IsDelivered (stream c.args.out.now) (stream c.deliver_root.new.out) answer c.deliver_root.result in
     (load_answer ends.0, (ends.0, ends.1, refl), subst P ends.2 c.deliver_root.ensures.2)

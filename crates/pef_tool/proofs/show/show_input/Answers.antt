@@ -1,7 +1,6 @@
 -- The input is read whole, and its script decides.
 use Rattle.std.proofs.Common.{sym, subst, refl}
-use Rattle.pef_tool.specs.Answers.Answers.{answer_refused}
-use Rattle.pef_tool.specs.Answers.Refusals.{refusal_text}
+use Rattle.pef_tool.specs.Answers.Refusals.{refusal_answer}
 use Rattle.pef_tool.specs.Show.{ShowEnds, refuses, show_answer}
 use Rattle.pef_tool.specs.declared.answers.refusal.Refusal.{Refusal}
 use Rattle.pef_tool.proofs.EndLemmas.{ends_with, fault_ends, no_script_shown}
@@ -14,7 +13,7 @@ returns-in-Err g c =
     let why = c.input_refusal.result in
     let P : Refusal → Type 0 = λ r. ShowEnds before after (refuses r) in
     let ends = subst P (sym c.input_refusal.ensures) (fault_ends before after c.in-Err.fault c.in-Err.ensures) in
-    (answer_refused (refusal_text why), (refuses why, ends, refl), c.deliver.ensures)
+    (refusal_answer why, (refuses why, ends, refl), c.deliver.ensures)
 
 pub returns-in-Ok-link_text : goal.returns-in-Ok-link_text
 returns-in-Ok-link_text g c =
@@ -31,4 +30,4 @@ returns g c =
     let after = g.R.Source.stream c.read_input.new.input in
     let why = c.in-Err-link_text.refused.refusal in
     let ends = no_script_shown before after c.in-Ok.text c.as_slice.result.now why c.in-Ok.ensures c.as_slice.ensures.value c.in-Err-link_text.ensures in
-    (answer_refused (refusal_text why), (refuses why, ends, refl), c.deliver-in-Err-link_text.ensures)
+    (refusal_answer why, (refuses why, ends, refl), c.deliver-in-Err-link_text.ensures)

@@ -1,6 +1,6 @@
 -- The prepared fragment is shown, or the reason why it isn't prepared.
 use Rattle.std.proofs.Common.{◌≡◌, refl, sym, subst, ap, ◌∙◌}
-use Rattle.pef_tool.specs.Answers.Answers.{Answer, IsDelivered, status_of}
+use Rattle.pef_tool.specs.Answers.Answers.{Answer, IsDelivered}
 use Rattle.pef_tool.specs.declared.answers.refusal.Refusal.TheVariants.{OutOfMemory}
 use Rattle.pef_tool.specs.Show.{single_store, refuses}
 use Rattle.pef_tool.proofs.ShowLemmas.{root-shown}
@@ -14,5 +14,5 @@ returns g c = λ script linked.
     let stream = g.W.Sink.stream in
     let store : c.in-Ok.store ≡ single_store c.args.linked.now.bytes = c.in-Ok.ensures ∙ ap single_store c.bytes.ensures in
     let ends = root-shown script c.args.linked.now linked c.deliver_root.ensures.0 (rw (← store) c.deliver_root.ensures.1) in
-    let P : Answer → Type 0 = λ answer. IsDelivered (stream c.args.out.now) (stream c.deliver_root.new.out) answer (status_of c.deliver_root.result) in
+    let P : Answer → Type 0 = λ answer. IsDelivered (stream c.args.out.now) (stream c.deliver_root.new.out) answer c.deliver_root.result in
     (ends.outcome, ends.ends, subst P (sym ends.said) c.deliver_root.ensures.2)
