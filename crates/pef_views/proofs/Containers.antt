@@ -50,12 +50,12 @@ unfolding container_of
 accepts c a = rw (a.header, a.tests, a.sections, a.loader) refl
 
 module _ (c : Contained) (i : ℕ) (s : SectionHeader) (ok : IsContainer c) (under : i < c.header.section_count) (there : section_at c.bytes i ≡ Some s) where
-  unmet : first_met (section_tests (is_instantiated c.header i) s (length c.bytes)) ≡ None
+  unmet : first_met (section_tests i (is_instantiated c.header i) s (length c.bytes)) ≡ None
   unmet = section_unmet c.bytes c.header i s (accepted c ok).sections under there
 
   -- the raw bytes of a section lie inside
   pub raw_inside : IsTrue (is_inside s (length c.bytes))
-  raw_inside = unmet_inside (is_instantiated c.header i) s (length c.bytes) unmet
+  raw_inside = unmet_inside i (is_instantiated c.header i) s (length c.bytes) unmet
 
   -- they are as many as its header says
   pub raw_whole : length (raw_of c.bytes s) ≡ s.packed_size
@@ -63,7 +63,7 @@ module _ (c : Contained) (i : ℕ) (s : SectionHeader) (ok : IsContainer c) (und
 
   -- an instantiated section is one that can be
   pub instantiable : i < c.header.instantiated_section_count → IsInstantiable (section_in c.bytes s)
-  instantiable below = unmet_instantiable c.bytes s (rw (lt-ltb i c.header.instantiated_section_count below) at unmet)
+  instantiable below = unmet_instantiable i c.bytes s (rw (lt-ltb i c.header.instantiated_section_count below) at unmet)
 
 header_counts : (h : Header) (len : ℕ) → first_met (header_tests h len) ≡ None → h.instantiated_section_count ≤ h.section_count
 unfolding header_tests

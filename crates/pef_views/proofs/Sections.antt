@@ -16,9 +16,9 @@ use Rattle.pef_views.specs.Container.{IsInstantiable, section_in, section_refusa
 pub record Unrefused (bytes : List ℕ) (h : Header) (i : ℕ) : Type 0 where
   pub header : SectionHeader
   pub at : section_at bytes i ≡ Some header
-  pub unmet : first_met (section_tests (is_instantiated h i) header (length bytes)) ≡ None
+  pub unmet : first_met (section_tests i (is_instantiated h i) header (length bytes)) ≡ None
 
-unrefused-among : (bytes : List ℕ) (h : Header) (i : ℕ) (s : Option SectionHeader) → section_at bytes i ≡ s → option_map_or (λ s. first_met (section_tests (is_instantiated h i) s (length bytes))) s (Some TooShort) ≡ None → Unrefused bytes h i
+unrefused-among : (bytes : List ℕ) (h : Header) (i : ℕ) (s : Option SectionHeader) → section_at bytes i ≡ s → option_map_or (λ s. first_met (section_tests i (is_instantiated h i) s (length bytes))) s (Some TooShort) ≡ None → Unrefused bytes h i
 unrefused-among bytes h i None at none = absurd (cc)
 unrefused-among bytes h i (Some s) at none = record { header = s; at = at; unmet = none }
 
@@ -28,12 +28,12 @@ unrefused bytes h i none under =
     unrefused-among bytes h i (section_at bytes i) refl (none_among (section_refusal bytes h) 0 h.section_count i none (omega arith) (omega arith))
 
 -- a section whose tests don't hold has its raw bytes inside
-pub unmet_inside : (inst : Bool) (s : SectionHeader) (len : ℕ) → first_met (section_tests inst s len) ≡ None → IsTrue (is_inside s len)
+pub unmet_inside : (i : ℕ) (inst : Bool) (s : SectionHeader) (len : ℕ) → first_met (section_tests i inst s len) ≡ None → IsTrue (is_inside s len)
 unfolding section_tests
-unmet_inside inst s len none = not-false _ (first_unmet _ _ _ none).0
+unmet_inside i inst s len none = not-false _ (first_unmet _ _ _ none).0
 
 -- if no section is refused, the tests of each one that exists don't hold
-pub section_unmet : (bytes : List ℕ) (h : Header) (i : ℕ) (s : SectionHeader) → first_among (section_refusal bytes h) 0 h.section_count ≡ None → i < h.section_count → section_at bytes i ≡ Some s → first_met (section_tests (is_instantiated h i) s (length bytes)) ≡ None
+pub section_unmet : (bytes : List ℕ) (h : Header) (i : ℕ) (s : SectionHeader) → first_among (section_refusal bytes h) 0 h.section_count ≡ None → i < h.section_count → section_at bytes i ≡ Some s → first_met (section_tests i (is_instantiated h i) s (length bytes)) ≡ None
 section_unmet bytes h i s none under there =
     let refused = none_among (section_refusal bytes h) 0 h.section_count i none (omega arith) (omega arith) in
     rw there at refused
@@ -41,7 +41,7 @@ section_unmet bytes h i s none under there =
 -- .. and its raw bytes lie inside
 pub section_inside : (bytes : List ℕ) (h : Header) (i : ℕ) (s : SectionHeader) → first_among (section_refusal bytes h) 0 h.section_count ≡ None → i < h.section_count → section_at bytes i ≡ Some s → IsTrue (is_inside s (length bytes))
 section_inside bytes h i s none under there =
-    unmet_inside (is_instantiated h i) s (length bytes) (section_unmet bytes h i s none under there)
+    unmet_inside i (is_instantiated h i) s (length bytes) (section_unmet bytes h i s none under there)
 
 -- raw bytes inside have their full length
 pub length-raw_of : (bytes : List ℕ) (s : SectionHeader) → IsTrue (is_inside s (length bytes)) → length (raw_of bytes s) ≡ s.packed_size
@@ -62,9 +62,9 @@ sizes_are pattern total unpacked packed fit =
     )
 
 -- an instantiated section whose tests don't hold
-pub unmet_instantiable : (bytes : List ℕ) (s : SectionHeader) → first_met (section_tests true s (length bytes)) ≡ None → IsInstantiable (section_in bytes s)
+pub unmet_instantiable : (i : ℕ) (bytes : List ℕ) (s : SectionHeader) → first_met (section_tests i true s (length bytes)) ≡ None → IsInstantiable (section_in bytes s)
 unfolding section_tests
-unmet_instantiable bytes s none =
+unmet_instantiable i bytes s none =
     let inside = first_unmet (not (is_inside s (length bytes))) _ _ none in
     let kind = first_unmet (not (is_instantiable (kind_of s.section_kind))) _ _ inside.1 in
     let sizes = first_unmet (not (sizes_fit s)) _ _ kind.1 in

@@ -19,10 +19,10 @@ header_tests-unmet h len tag_1 tag_2 architecture version counts room =
     rw (tag_1, tag_2, architecture, version, le-ltb h.section_count h.instantiated_section_count counts, le-ltb len (names_from h) room) refl
 
 -- no test of this section holds
-pub section_tests-unmet : (instantiated : Bool) (s : SectionHeader) (len : ℕ) → IsTrue (is_inside s len) → (IsTrue instantiated → IsTrue (is_instantiable (kind_of s.section_kind)) × IsTrue (sizes_fit s) × (s.alignment ≤ greatest_alignment)) → first_met (section_tests instantiated s len) ≡ None
+pub section_tests-unmet : (i : ℕ) (instantiated : Bool) (s : SectionHeader) (len : ℕ) → IsTrue (is_inside s len) → (IsTrue instantiated → IsTrue (is_instantiable (kind_of s.section_kind)) × IsTrue (sizes_fit s) × (s.alignment ≤ greatest_alignment)) → first_met (section_tests i instantiated s len) ≡ None
 unfolding section_tests
-section_tests-unmet false s len inside sound = rw inside refl
-section_tests-unmet true s len inside sound =
+section_tests-unmet i false s len inside sound = rw inside refl
+section_tests-unmet i true s len inside sound =
     let parts = sound refl in
     rw (inside, parts.0, parts.1, le-ltb greatest_alignment s.alignment parts.2) refl
 
@@ -32,7 +32,7 @@ pub record IsWritten (bytes : List ℕ) (h : Header) (section : ℕ → SectionH
   pub header : header_of bytes ≡ Some h
   pub tests : first_met (header_tests h (length bytes)) ≡ None
   pub sections : (i : ℕ) → i < h.section_count → section_at bytes i ≡ Some (section i)
-  pub unmet : (i : ℕ) → i < h.section_count → first_met (section_tests (is_instantiated h i) (section i) (length bytes)) ≡ None
+  pub unmet : (i : ℕ) → i < h.section_count → first_met (section_tests i (is_instantiated h i) (section i) (length bytes)) ≡ None
   pub more : h.instantiated_section_count < h.section_count
   pub loader : IsTrue (is_loader (kind_of (section h.instantiated_section_count).section_kind))
 

@@ -25,7 +25,7 @@ is_instantiated h i = nat_lt i h.instantiated_section_count
 -- the refusal of section i
 abbrev pub section_refusal : List ℕ → Header → ℕ → Option ViewFault
 section_refusal bytes h i =
-    option_map_or (λ s. first_met (section_tests (is_instantiated h i) s (length bytes))) (section_at bytes i) (Some TooShort)
+    option_map_or (λ s. first_met (section_tests i (is_instantiated h i) s (length bytes))) (section_at bytes i) (Some TooShort)
 
 -- the raw bytes of section i, if it is a loader section that isn't instantiated
 abbrev pub loader_here : List ℕ → Header → ℕ → Option (List ℕ)

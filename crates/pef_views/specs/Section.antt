@@ -49,12 +49,12 @@ sizes_fit s = nat_le s.unpacked_size s.total_size && (is_packed (kind_of s.secti
 abbrev pub greatest_alignment : ℕ
 greatest_alignment = 31
 
--- the tests of a section, which is instantiated or isn't, in a container of some length, in order
-unfoldable pub section_tests : Bool → SectionHeader → ℕ → List (Bool × ViewFault)
-section_tests instantiated s len = (not (is_inside s len), SectionOutside)
-    ∷ (instantiated && not (is_instantiable (kind_of s.section_kind)), BadSectionKind)
-    ∷ (instantiated && not (sizes_fit s), BadSizes)
-    ∷ (instantiated && nat_lt greatest_alignment s.alignment, BadAlignment)
+-- the tests of section i, which is instantiated or isn't, in a container of some length, in order
+unfoldable pub section_tests : ℕ → Bool → SectionHeader → ℕ → List (Bool × ViewFault)
+section_tests i instantiated s len = (not (is_inside s len), SectionOutside i)
+    ∷ (instantiated && not (is_instantiable (kind_of s.section_kind)), BadSectionKind i)
+    ∷ (instantiated && not (sizes_fit s), BadSizes i)
+    ∷ (instantiated && nat_lt greatest_alignment s.alignment, BadAlignment i)
     ∷ []
 
 -- the raw bytes of a section, its contents: packedSize bytes at containerOffset

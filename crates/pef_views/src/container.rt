@@ -110,20 +110,20 @@ fn test_sections(cut: Cut<'_>, header: Header) -> Result<(), ViewFault>
     ensures { result_err result
         ≡ first_among (section_refusal cut.entry.bytes.now header) 0 header.section_count }
 {
-    for i in 0..usize::from(header.section_count) {
+    for i in 0..header.section_count {
         test_section_at(cut, header, i)?;
     }
     Ok(())
 }
 
 /// Tests section `i`.
-fn test_section_at(cut: Cut<'_>, header: Header, i: usize) -> Result<(), ViewFault>
+fn test_section_at(cut: Cut<'_>, header: Header, i: u16) -> Result<(), ViewFault>
     requires { i < header.section_count }
     ensures { result_err result ≡ section_refusal cut.entry.bytes.now header i }
 {
-    let section = read_section(cut, i).ok_or(ViewFault::TooShort)?;
-    let instantiated = i < usize::from(header.instantiated_section_count);
-    test_section(section, instantiated, cut.len())
+    let section = read_section(cut, usize::from(i)).ok_or(ViewFault::TooShort)?;
+    let instantiated = i < header.instantiated_section_count;
+    test_section(i, section, instantiated, cut.len())
 }
 
 /// Returns the raw bytes of the first loader section that isn't instantiated.

@@ -1,10 +1,17 @@
-ghost use Rattle.std.specs.Prelude.{◌≡◌};
-ghost use Rattle.pef_views.specs.Faults.{fault_name, fault_number};
+ghost use Rattle.std.specs.Prelude.{◌≡◌, ◌<◌, ◌+◌};
+ghost use Rattle.pef_views.specs.Faults.{fault_name, fault_number, fault_offset};
+ghost use Rattle.pef_views.specs.Header.{section_header_from};
 
+use crate::header::section_header_at;
+use pef_format::layout::{
+    ALIGNMENT_AT, ARCHITECTURE_AT, CONTAINER_OFFSET_AT, FORMAT_VERSION_AT,
+    INSTANTIATED_SECTION_COUNT_AT, SECTION_KIND_AT, TAG_1_AT, UNPACKED_SIZE_AT,
+};
 use std::fmt;
 use thiserror::Error;
 
-/// The first rule of the format that some bytes break. The text is the rule's name.
+/// The first rule of the format that some bytes break, with the number of the section that breaks it, from 0. The text
+/// is the rule's name.
 #[derive(Clone, Copy, Debug, PartialEq, Eq, Error)]
 pub enum ViewFault {
     /// The container header, or the section headers that it counts, exceed the bytes.
@@ -23,16 +30,16 @@ pub enum ViewFault {
     BadSectionCounts,
 
     /// A section's raw bytes exceed the container.
-    SectionOutside,
+    SectionOutside { section: u16 },
 
     /// An instantiated section isn't code, data, a constant or executable data.
-    BadSectionKind,
+    BadSectionKind { section: u16 },
 
     /// An instantiated section's image doesn't fit its memory, or its raw bytes are too few for it.
-    BadSizes,
+    BadSizes { section: u16 },
 
     /// An instantiated section's alignment is above 31.
-    BadAlignment,
+    BadAlignment { section: u16 },
 
     /// None of the sections that aren't instantiated is a loader section.
     NoLoader,
@@ -49,11 +56,30 @@ impl ViewFault {
             ViewFault::BadArchitecture => 3,
             ViewFault::BadFormatVersion => 4,
             ViewFault::BadSectionCounts => 5,
-            ViewFault::SectionOutside => 6,
-            ViewFault::BadSectionKind => 7,
-            ViewFault::BadSizes => 8,
-            ViewFault::BadAlignment => 9,
+            ViewFault::SectionOutside { .. } => 6,
+            ViewFault::BadSectionKind { .. } => 7,
+            ViewFault::BadSizes { .. } => 8,
+            ViewFault::BadAlignment { .. } => 9,
             ViewFault::NoLoader => 10,
+        }
+    }
+
+    /// Returns the offset in the container of the field that the broken rule is about.
+    ///
+    /// `None` if the rule is about no field: the bytes are too short, or no section is the loader section.
+    pub fn offset(&self) -> Option<usize>
+        ensures { result ≡ fault_offset self.now }
+    {
+        match self {
+            ViewFault::TooShort | ViewFault::NoLoader => None,
+            ViewFault::BadTag => Some(TAG_1_AT),
+            ViewFault::BadArchitecture => Some(ARCHITECTURE_AT),
+            ViewFault::BadFormatVersion => Some(FORMAT_VERSION_AT),
+            ViewFault::BadSectionCounts => Some(INSTANTIATED_SECTION_COUNT_AT),
+            ViewFault::SectionOutside { section } => Some(field_at(*section, CONTAINER_OFFSET_AT)),
+            ViewFault::BadSectionKind { section } => Some(field_at(*section, SECTION_KIND_AT)),
+            ViewFault::BadSizes { section } => Some(field_at(*section, UNPACKED_SIZE_AT)),
+            ViewFault::BadAlignment { section } => Some(field_at(*section, ALIGNMENT_AT)),
         }
     }
 
@@ -67,13 +93,21 @@ impl ViewFault {
             ViewFault::BadArchitecture => "BadArchitecture",
             ViewFault::BadFormatVersion => "BadFormatVersion",
             ViewFault::BadSectionCounts => "BadSectionCounts",
-            ViewFault::SectionOutside => "SectionOutside",
-            ViewFault::BadSectionKind => "BadSectionKind",
-            ViewFault::BadSizes => "BadSizes",
-            ViewFault::BadAlignment => "BadAlignment",
+            ViewFault::SectionOutside { .. } => "SectionOutside",
+            ViewFault::BadSectionKind { .. } => "BadSectionKind",
+            ViewFault::BadSizes { .. } => "BadSizes",
+            ViewFault::BadAlignment { .. } => "BadAlignment",
             ViewFault::NoLoader => "NoLoader",
         }
     }
+}
+
+/// Returns the offset in the container of a field of a section header.
+fn field_at(section: u16, field: usize) -> usize
+    requires { field < 28 }
+    ensures { result ≡ section_header_from section + field }
+{
+    section_header_at(usize::from(section)) + field
 }
 
 impl fmt::Display for ViewFault {

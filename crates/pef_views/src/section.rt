@@ -84,26 +84,27 @@ pub(crate) fn read_section(cut: Cut<'_>, i: usize) -> Option<SectionHeader>
     })
 }
 
-/// Tests a section in a container of `len` bytes, and reports the first rule that it breaks.
+/// Tests section `i` in a container of `len` bytes, and reports the first rule that it breaks.
 #[tactic(auto, unfolding(crate::specs::Section::section_tests))]
 pub(crate) fn test_section(
+    i: u16,
     section: SectionHeader,
     instantiated: bool,
     len: usize,
 ) -> Result<(), ViewFault>
-    ensures { result_err result ≡ first_met (section_tests instantiated section len) }
+    ensures { result_err result ≡ first_met (section_tests i instantiated section len) }
 {
     if !lies_inside(section, len) {
-        return Err(ViewFault::SectionOutside);
+        return Err(ViewFault::SectionOutside { section: i });
     }
     if instantiated && !section.kind().is_instantiable() {
-        return Err(ViewFault::BadSectionKind);
+        return Err(ViewFault::BadSectionKind { section: i });
     }
     if instantiated && !has_fitting_sizes(section) {
-        return Err(ViewFault::BadSizes);
+        return Err(ViewFault::BadSizes { section: i });
     }
     if instantiated && section.alignment > MAX_ALIGNMENT {
-        return Err(ViewFault::BadAlignment);
+        return Err(ViewFault::BadAlignment { section: i });
     }
     Ok(())
 }
