@@ -270,8 +270,8 @@ fn key_place(power: u32, i: usize) -> usize
     (SLOT_SIZE << power) + KEY_SIZE * i
 }
 
-/// Returns where export `i` is: the exports follow the keys.
-fn export_place(power: u32, count: u32, i: usize) -> usize
+/// Returns where export `i` is in a table of `2^power` slots and `count` exports: the exports follow the keys.
+pub fn export_place(power: u32, count: u32, i: usize) -> usize
     requires power { power ≤ most_power }
     requires place { i < 2 ^ 32 }
     ensures value { result ≡ export_place power count i }

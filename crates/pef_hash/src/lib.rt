@@ -10,7 +10,7 @@ mod regular;
 mod word;
 
 pub use builder::{Table, build};
-pub use exports::{Entry, Exports};
+pub use exports::{Entry, Exports, export_place};
 pub use fault::HashFault;
 pub use regular::{built_tables_are_regular, regular_slots_end_inside};
 pub use word::{hash_word, power_for, slot};
