@@ -16,7 +16,7 @@ use Rattle.pef_loader.specs.declared.library.LibraryEntry.{LibraryEntry}
 use Rattle.pef_loader.specs.declared.import.ImportEntry.{ImportEntry}
 use Rattle.pef_loader.specs.declared.reloc.RelocEntry.{RelocEntry}
 use Rattle.pef_loader.specs.declared.fault.LoaderFault.{LoaderFault}
-use Rattle.pef_loader.specs.declared.fault.LoaderFault.TheVariants.{LoaderShort, BadTableOffset, BadEntry, BadExportTable}
+use Rattle.pef_loader.specs.declared.fault.LoaderFault.TheVariants.{LoaderShort, BadTableOffset, BadExportTable}
 use Rattle.pef_loader.specs.Header.{header_of, is_entry, tables_end}
 use Rattle.pef_loader.specs.Library.{library_at, library_refusal, library_tests, owns}
 use Rattle.pef_loader.specs.Import.{import_at, import_refusal, import_tests, owner_at, owner_of}
@@ -24,14 +24,14 @@ use Rattle.pef_loader.specs.Reloc.{instructions_of, reloc_at, reloc_refusal, rel
 use Rattle.pef_format.specs.Exports.{Export}
 use Rattle.pef_loader.specs.Export.{export_in, export_refusal, export_table, export_tests, has_exports, has_section}
 use Rattle.pef_loader.specs.Kept.Accepted.{IsAccepted}
-use Rattle.pef_loader.specs.Loader.{IsLoader, Loaded, export_of, fault_if, has_entries, judged, loaded_of, named_of}
+use Rattle.pef_loader.specs.Loader.{IsLoader, Loaded, entry_tests, export_of, fault_if, judged, loaded_of, named_of}
 
 judged_ok : (l : Loaded) (h : LoaderHeader) → header_of l.bytes ≡ Some h → judged l.sections l.bytes h ≡ Ok l → IsAccepted l
 judged_ok l h there ok =
     let a = unless_ok (fault_if (nat_lt (length l.bytes) (tables_end h)) BadTableOffset) _ l ok in
     let b = unless_ok (first_among (library_refusal l.bytes h) 0 h.library_count) _ l a.1 in
     let d = unless_ok (first_among (import_refusal l.bytes h) 0 h.import_count) _ l b.1 in
-    let e = unless_ok (fault_if (not (has_entries l.sections h)) BadEntry) _ l d.1 in
+    let e = unless_ok (first_met (entry_tests l.sections h)) _ l d.1 in
     let f = unless_ok (first_among (reloc_refusal l.bytes h l.sections) 0 h.reloc_count) _ l e.1 in
     let g = unless_ok (fault_if (not (has_exports l.bytes h)) BadExportTable) _ l f.1 in
     let i = unless_ok (first_among (export_refusal l.bytes h l.sections) 0 h.export_count) _ l g.1 in
@@ -65,11 +65,12 @@ pub record HasEntries (l : Loaded) : Type 0 where
   pub term : IsTrue (is_entry l.sections l.header.term_section)
 
 pub entries_are : (l : Loaded) → IsLoader l → HasEntries l
+unfolding entry_tests
 entries_are l ok =
-    let is = is_entry l.sections in
-    let all = and_parts (is l.header.main_section && is l.header.init_section) (is l.header.term_section) (not-false _ (fault_unmet _ BadEntry (accepted l ok).entries)) in
-    let two = and_parts (is l.header.main_section) (is l.header.init_section) all.0 in
-    record { main = two.0; init = two.1; term = all.1 }
+    let main = first_unmet (not (is_entry l.sections l.header.main_section)) _ _ (accepted l ok).entries in
+    let init = first_unmet (not (is_entry l.sections l.header.init_section)) _ _ main.1 in
+    let term = first_unmet (not (is_entry l.sections l.header.term_section)) _ _ init.1 in
+    record { main = not-false _ main.0; init = not-false _ init.0; term = not-false _ term.0 }
 
 -- a part that isn't refused is there, and none of its tests is met
 refused_not : {E : Type 0} (part : Option E) (tests : E → List (Bool × LoaderFault)) (fault : LoaderFault) → option_map_or (λ e. first_met (tests e)) part (Some fault) ≡ None → (e : E) × (part ≡ Some e) × (first_met (tests e) ≡ None)
@@ -90,7 +91,7 @@ pub record IsLibrary (l : Loaded) (entry : LibraryEntry) : Type 0 where
 pub library_is : (l : Loaded) (i : ℕ) → IsLoader l → i < l.header.library_count → (entry : LibraryEntry) × (library_at l.bytes i ≡ Some entry) × IsLibrary l entry
 unfolding library_tests
 library_is l i ok under =
-    let part = refused_not (library_at l.bytes i) (λ e. library_tests l.bytes l.header e) BadTableOffset (none_among (library_refusal l.bytes l.header) 0 l.header.library_count i (accepted l ok).libraries (omega arith) (omega arith)) in
+    let part = refused_not (library_at l.bytes i) (λ e. library_tests l.bytes l.header i e) BadTableOffset (none_among (library_refusal l.bytes l.header) 0 l.header.library_count i (accepted l ok).libraries (omega arith) (omega arith)) in
     let name = first_unmet (is_none (name_at l.bytes (l.header.strings_offset + part.0.name_offset))) _ _ part.2 in
     let range = first_unmet (nat_lt l.header.import_count (part.0.first + part.0.count)) _ _ name.1 in
     let there = some_if _ name.0 in
@@ -135,7 +136,7 @@ pub record IsReloc (l : Loaded) (entry : RelocEntry) : Type 0 where
 pub reloc_is : (l : Loaded) (k : ℕ) → IsLoader l → k < l.header.reloc_count → (entry : RelocEntry) × (reloc_at l.bytes l.header k ≡ Some entry) × IsReloc l entry
 unfolding reloc_tests instructions_of part_of
 reloc_is l k ok under =
-    let part = refused_not (reloc_at l.bytes l.header k) (λ e. reloc_tests l.bytes l.header l.sections e) BadTableOffset (none_among (reloc_refusal l.bytes l.header l.sections) 0 l.header.reloc_count k (accepted l ok).relocs (omega arith) (omega arith)) in
+    let part = refused_not (reloc_at l.bytes l.header k) (λ e. reloc_tests l.bytes l.header l.sections k e) BadTableOffset (none_among (reloc_refusal l.bytes l.header l.sections) 0 l.header.reloc_count k (accepted l ok).relocs (omega arith) (omega arith)) in
     let section = first_unmet (nat_le l.sections part.0.section) _ _ part.2 in
     let outside = first_unmet (nat_lt (length l.bytes) (l.header.reloc_instr_offset + part.0.first + 2 * part.0.count)) _ _ section.1 in
     let inside = ltb-false (length l.bytes) _ outside.0 in (
@@ -200,7 +201,7 @@ parts_of sections bytes l (Some h) ok =
     let a = unless_ok (fault_if (nat_lt (length bytes) (tables_end h)) BadTableOffset) _ l ok in
     let b = unless_ok (first_among (library_refusal bytes h) 0 h.library_count) _ l a.1 in
     let d = unless_ok (first_among (import_refusal bytes h) 0 h.import_count) _ l b.1 in
-    let e = unless_ok (fault_if (not (has_entries sections h)) BadEntry) _ l d.1 in
+    let e = unless_ok (first_met (entry_tests sections h)) _ l d.1 in
     let f = unless_ok (first_among (reloc_refusal bytes h sections) 0 h.reloc_count) _ l e.1 in
     let g = unless_ok (fault_if (not (has_exports bytes h)) BadExportTable) _ l f.1 in
     let i = unless_ok (first_among (export_refusal bytes h sections) 0 h.export_count) _ l g.1 in

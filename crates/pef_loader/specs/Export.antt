@@ -11,6 +11,7 @@ use Rattle.pef_hash.specs.declared.exports.Entry.{Entry}
 use Rattle.pef_loader.specs.declared.header.LoaderHeader.{LoaderHeader}
 use Rattle.pef_loader.specs.declared.fault.LoaderFault.{LoaderFault}
 use Rattle.pef_loader.specs.declared.fault.LoaderFault.TheVariants.{BadExportTable, BadName, BadExportSection}
+use Rattle.pef_loader.specs.declared.fault.NamedRow.TheVariants as row
 
 -- there are no exports, or the slots, the keys and the exports don't pass the end
 abbrev pub has_exports : List ℕ → LoaderHeader → Bool
@@ -36,8 +37,8 @@ has_section h sections value section = is_export_section section && is_there h s
 
 -- the tests of export i, in order. A name also passes the end if the strings begin after the end
 unfoldable pub export_tests : List ℕ → LoaderHeader → ℕ → ℕ → Entry → List (Bool × LoaderFault)
-export_tests bytes h sections i e = (nat_lt (length bytes) h.strings_offset || is_none (name_of (export_table bytes h) i), BadName)
-    ∷ (not (has_section h sections e.value e.section), BadExportSection)
+export_tests bytes h sections i e = (nat_lt (length bytes) h.strings_offset || is_none (name_of (export_table bytes h) i), BadName (row.Export i))
+    ∷ (not (has_section h sections e.value e.section), BadExportSection i)
     ∷ []
 
 -- the refusal of export i

@@ -9,6 +9,7 @@ use Rattle.pef_loader.specs.declared.header.LoaderHeader.{LoaderHeader}
 use Rattle.pef_loader.specs.declared.import.ImportEntry.{ImportEntry}
 use Rattle.pef_loader.specs.declared.fault.LoaderFault.{LoaderFault}
 use Rattle.pef_loader.specs.declared.fault.LoaderFault.TheVariants.{BadTableOffset, BadName, OrphanImport}
+use Rattle.pef_loader.specs.declared.fault.NamedRow.TheVariants as row
 use Rattle.pef_loader.specs.Header.{import_place}
 use Rattle.pef_loader.specs.Library.{owns}
 
@@ -29,8 +30,8 @@ owner_of bytes h j = first_among (owner_at bytes j) 0 h.library_count
 
 -- the tests of import j, in order
 unfoldable pub import_tests : List ℕ → LoaderHeader → ℕ → ImportEntry → List (Bool × LoaderFault)
-import_tests bytes h j e = (is_none (name_at bytes (h.strings_offset + e.name_offset)), BadName)
-    ∷ (is_none (owner_of bytes h j), OrphanImport)
+import_tests bytes h j e = (is_none (name_at bytes (h.strings_offset + e.name_offset)), BadName (row.Import j))
+    ∷ (is_none (owner_of bytes h j), OrphanImport j)
     ∷ []
 
 -- the refusal of import j

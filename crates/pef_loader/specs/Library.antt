@@ -8,6 +8,7 @@ use Rattle.pef_loader.specs.declared.header.LoaderHeader.{LoaderHeader}
 use Rattle.pef_loader.specs.declared.library.LibraryEntry.{LibraryEntry}
 use Rattle.pef_loader.specs.declared.fault.LoaderFault.{LoaderFault}
 use Rattle.pef_loader.specs.declared.fault.LoaderFault.TheVariants.{BadTableOffset, BadName, BadLibraryRange}
+use Rattle.pef_loader.specs.declared.fault.NamedRow.TheVariants as row
 use Rattle.pef_loader.specs.Header.{library_place}
 
 -- library i, or none if it passes the end
@@ -21,15 +22,15 @@ library_at bytes i = do
   options ← number_at 1 bytes (library_place i + 20)
   Some (record { name_offset = name; old_imp = old_imp; current = current; count = count; first = first; options = options })
 
--- the tests of a library, in order
-unfoldable pub library_tests : List ℕ → LoaderHeader → LibraryEntry → List (Bool × LoaderFault)
-library_tests bytes h e = (is_none (name_at bytes (h.strings_offset + e.name_offset)), BadName)
-    ∷ (nat_lt h.import_count (e.first + e.count), BadLibraryRange)
+-- the tests of library i, in order
+unfoldable pub library_tests : List ℕ → LoaderHeader → ℕ → LibraryEntry → List (Bool × LoaderFault)
+library_tests bytes h i e = (is_none (name_at bytes (h.strings_offset + e.name_offset)), BadName (row.Library i))
+    ∷ (nat_lt h.import_count (e.first + e.count), BadLibraryRange i)
     ∷ []
 
 -- the refusal of library i
 abbrev pub library_refusal : List ℕ → LoaderHeader → ℕ → Option LoaderFault
-library_refusal bytes h i = option_map_or (λ e. first_met (library_tests bytes h e)) (library_at bytes i) (Some BadTableOffset)
+library_refusal bytes h i = option_map_or (λ e. first_met (library_tests bytes h i e)) (library_at bytes i) (Some BadTableOffset)
 
 -- import j is one of library i's
 abbrev pub owns : List ℕ → ℕ → ℕ → Bool

@@ -1,9 +1,10 @@
 -- Which bytes are a loader section and what it consists of, or the first rule that they break (Mac OS Runtime
 -- Architectures, "PEF Structure", "Loader Section").
-use Rattle.std.specs.Prelude.{◌≡◌, ℕ, Bool, not, List, length, Option, None, Some, Result, Ok, Err, nat_lt, ◌&&◌, if◌then◌else◌}
+use Rattle.std.specs.Prelude.{◌≡◌, ℕ, Bool, not, List, [], ◌∷◌, length, Option, None, Some, Result, Ok, Err, nat_lt, if◌then◌else◌}
 use Rattle.std.specs.Option.{option_map_or}
-use Rattle.pef_words.specs.Refusals.{first_among, unless}
+use Rattle.pef_words.specs.Refusals.{first_among, first_met, unless}
 use Rattle.pef_hash.specs.Exports.{export_named}
+use Rattle.pef_loader.specs.declared.header.EntryKind.TheVariants.{Main, Init, Term}
 use Rattle.pef_loader.specs.declared.header.LoaderHeader.{LoaderHeader}
 use Rattle.pef_loader.specs.declared.fault.LoaderFault.{LoaderFault}
 use Rattle.pef_loader.specs.declared.fault.LoaderFault.TheVariants.{LoaderShort, BadTableOffset, BadEntry, BadExportTable}
@@ -25,9 +26,12 @@ pub record Loaded : Type 0 where
 abbrev pub fault_if : Bool → LoaderFault → Option LoaderFault
 fault_if test fault = if test then Some fault else None
 
--- each entry point is missing, or is in an instantiated section
-abbrev pub has_entries : ℕ → LoaderHeader → Bool
-has_entries sections h = is_entry sections h.main_section && is_entry sections h.init_section && is_entry sections h.term_section
+-- the tests of the entry points, in order: each is missing, or is in an instantiated section
+unfoldable pub entry_tests : ℕ → LoaderHeader → List (Bool × LoaderFault)
+entry_tests sections h = (not (is_entry sections h.main_section), BadEntry Main)
+    ∷ (not (is_entry sections h.init_section), BadEntry Init)
+    ∷ (not (is_entry sections h.term_section), BadEntry Term)
+    ∷ []
 
 -- with a header: the first rule that is broken, by the length of the tables, the libraries, the imports, the entry
 -- points, the relocation headers and the exports in turn
@@ -36,7 +40,7 @@ judged sections bytes h =
     unless (fault_if (nat_lt (length bytes) (tables_end h)) BadTableOffset)
     (unless (first_among (library_refusal bytes h) 0 h.library_count)
     (unless (first_among (import_refusal bytes h) 0 h.import_count)
-    (unless (fault_if (not (has_entries sections h)) BadEntry)
+    (unless (first_met (entry_tests sections h))
     (unless (first_among (reloc_refusal bytes h sections) 0 h.reloc_count)
     (unless (fault_if (not (has_exports bytes h)) BadExportTable)
     (unless (first_among (export_refusal bytes h sections) 0 h.export_count)

@@ -18,15 +18,15 @@ reloc_at bytes h k = do
   first ← number_at 4 bytes (reloc_place h k + 8)
   Some (record { section = section; count = count; first = first })
 
--- the tests of a relocation header, in order
-unfoldable pub reloc_tests : List ℕ → LoaderHeader → ℕ → RelocEntry → List (Bool × LoaderFault)
-reloc_tests bytes h sections e = (nat_le sections e.section, BadRelocSection)
-    ∷ (nat_lt (length bytes) (h.reloc_instr_offset + e.first + 2 * e.count), RelocOutside)
+-- the tests of relocation header k, in order
+unfoldable pub reloc_tests : List ℕ → LoaderHeader → ℕ → ℕ → RelocEntry → List (Bool × LoaderFault)
+reloc_tests bytes h sections k e = (nat_le sections e.section, BadRelocSection k)
+    ∷ (nat_lt (length bytes) (h.reloc_instr_offset + e.first + 2 * e.count), RelocOutside k)
     ∷ []
 
 -- the refusal of relocation header k
 abbrev pub reloc_refusal : List ℕ → LoaderHeader → ℕ → ℕ → Option LoaderFault
-reloc_refusal bytes h sections k = option_map_or (λ e. first_met (reloc_tests bytes h sections e)) (reloc_at bytes h k) (Some BadTableOffset)
+reloc_refusal bytes h sections k = option_map_or (λ e. first_met (reloc_tests bytes h sections k e)) (reloc_at bytes h k) (Some BadTableOffset)
 
 -- the instructions of a relocation header: its halfwords, at an offset from the first of all instructions
 unfoldable pub instructions_of : List ℕ → LoaderHeader → RelocEntry → Option (List ℕ)

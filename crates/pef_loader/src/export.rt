@@ -3,7 +3,7 @@ ghost use Rattle.std.specs.Result.{result_err};
 ghost use Rattle.pef_hash.specs.Views.{table_of};
 ghost use Rattle.pef_loader.specs.Export.{export_refusal, export_table, export_tests, has_exports, has_section};
 
-use crate::fault::LoaderFault;
+use crate::fault::{LoaderFault, NamedRow};
 use crate::header::{LoaderHeader, LoaderTables};
 use pef_format::{ExportValue, is_export_section};
 use pef_hash::Exports;
@@ -44,17 +44,23 @@ pub(crate) fn test_export(
     exports: Exports<'_>,
     tables: LoaderTables<'_>,
     sections: u16,
-    i: usize,
+    i: u32,
 ) -> Result<(), LoaderFault>
     requires { table_of exports ≡ export_table tables.cut.bytes.now tables.header }
     ensures { result_err result ≡ export_refusal tables.entry.cut.bytes.now tables.entry.header sections i }
 {
-    let export = exports.entry(i).ok_or(LoaderFault::BadExportTable)?;
-    if tables.header.strings_offset as usize > tables.cut.len() || exports.name(i).is_none() {
-        return Err(LoaderFault::BadName);
+    let export = exports
+        .entry(i as usize)
+        .ok_or(LoaderFault::BadExportTable)?;
+    if tables.header.strings_offset as usize > tables.cut.len()
+        || exports.name(i as usize).is_none()
+    {
+        return Err(LoaderFault::BadName {
+            of: NamedRow::Export(i),
+        });
     }
     if !has_section(export.section, export.value, tables.header, sections) {
-        return Err(LoaderFault::BadExportSection);
+        return Err(LoaderFault::BadExportSection { export: i });
     }
     Ok(())
 }

@@ -1,5 +1,6 @@
 ghost use Rattle.std.specs.Prelude.{◌≡◌, ◌+◌, ◌<◌, ◌^◌};
-ghost use Rattle.pef_loader.specs.Header.{header_of, imports_from, is_entry, relocs_from, tables_end};
+ghost use Rattle.pef_loader.specs.Faults.{entry_field};
+ghost use Rattle.pef_loader.specs.Header.{header_of, import_place, is_entry, library_place, reloc_place, tables_end};
 
 use pef_format::layout::{
     EXPORT_HASH_OFFSET_AT, EXPORT_HASH_TABLE_POWER_AT, EXPORTED_SYMBOL_COUNT_AT, IMPORT_SIZE,
@@ -39,27 +40,29 @@ pub struct LoaderHeader {
 }
 
 impl LoaderHeader {
-    /// Returns where the imported symbols begin: after the libraries.
-    pub(crate) fn imports(&self) -> usize
-        ensures value { result ≡ imports_from self.now }
-        ensures small { result < 2 ^ 37 }
-    {
-        LOADER_HEADER_SIZE + LIBRARY_SIZE * self.library_count as usize
-    }
-
-    /// Returns where the relocation headers begin: after the imported symbols.
-    pub(crate) fn relocs(&self) -> usize
-        ensures value { result ≡ relocs_from self.now }
+    /// Returns where import `j` begins: the imports follow the libraries.
+    pub(crate) fn import(&self, j: usize) -> usize
+        requires { j < 2 ^ 32 }
+        ensures value { result ≡ import_place self.now j }
         ensures small { result < 2 ^ 38 }
     {
-        self.imports() + IMPORT_SIZE * self.import_count as usize
+        library_place(self.library_count as usize) + IMPORT_SIZE * j
+    }
+
+    /// Returns where relocation header `k` begins: the relocation headers follow the imports.
+    pub(crate) fn reloc(&self, k: usize) -> usize
+        requires { k < 2 ^ 32 }
+        ensures value { result ≡ reloc_place self.now k }
+        ensures small { result < 2 ^ 39 }
+    {
+        self.import(self.import_count as usize) + RELOCATION_HEADER_SIZE * k
     }
 
     /// Returns where the relocation headers end.
     pub(crate) fn end(&self) -> usize
         ensures { result ≡ tables_end self.now }
     {
-        self.relocs() + RELOCATION_HEADER_SIZE * self.reloc_count as usize
+        self.reloc(self.reloc_count as usize)
     }
 
     /// Returns where the name with this offset begins.
@@ -70,11 +73,46 @@ impl LoaderHeader {
     }
 }
 
+/// Which of the three entry points of a loader header.
+#[derive(Clone, Copy, Debug, PartialEq, Eq)]
+pub enum EntryKind {
+    /// The main entry point.
+    Main,
+
+    /// The initialization routine.
+    Init,
+
+    /// The termination routine.
+    Term,
+}
+
+impl EntryKind {
+    /// Returns the offset in the loader section of the entry point's section number.
+    pub(crate) fn section_field(self) -> usize
+        ensures { result ≡ entry_field self }
+    {
+        match self {
+            EntryKind::Main => MAIN_SECTION_AT,
+            EntryKind::Init => INIT_SECTION_AT,
+            EntryKind::Term => TERM_SECTION_AT,
+        }
+    }
+}
+
 /// The tables of a loader section: its bytes, and the header that says where each table is.
 #[derive(Clone, Copy, Debug)]
 pub(crate) struct LoaderTables<'a> {
     pub cut: Cut<'a>,
     pub header: LoaderHeader,
+}
+
+/// Returns where library `i` begins: the libraries follow the header.
+pub(crate) fn library_place(i: usize) -> usize
+    requires { i < 2 ^ 32 }
+    ensures value { result ≡ library_place i }
+    ensures small { result < 2 ^ 37 }
+{
+    LOADER_HEADER_SIZE + LIBRARY_SIZE * i
 }
 
 /// Reads the header of a loader section, or returns `None` if it passes the end.

@@ -3,9 +3,9 @@ ghost use Rattle.std.specs.Result.{result_err};
 ghost use Rattle.pef_loader.specs.Kept.Names.{NamesEndAt};
 ghost use Rattle.pef_loader.specs.Import.{import_at, import_refusal, import_tests, owner_of};
 
-use crate::fault::LoaderFault;
+use crate::fault::{LoaderFault, NamedRow};
 use crate::header::LoaderTables;
-use pef_format::layout::{CLASS_COUNT, CLASS_SHIFT, IMPORT_SIZE, WEAK_IMPORT};
+use pef_format::layout::{CLASS_COUNT, CLASS_SHIFT, WEAK_IMPORT};
 use pef_words::Cut;
 
 /// An imported symbol, field by field (PEFImportedSymbol).
@@ -22,8 +22,7 @@ pub(crate) fn read_import(tables: LoaderTables<'_>, j: usize) -> Option<ImportEn
     requires { j < 2 ^ 32 }
     ensures { result ≡ import_at tables.entry.cut.bytes.now tables.entry.header j }
 {
-    let at = tables.header.imports() + IMPORT_SIZE * j;
-    let word = tables.cut.u32_at(at)?;
+    let word = tables.cut.u32_at(tables.header.import(j))?;
     let class_byte = (word >> CLASS_SHIFT) as u8;
     Some(ImportEntry {
         class: class_byte % CLASS_COUNT,
@@ -38,19 +37,20 @@ pub(crate) fn test_import(
     tables: LoaderTables<'_>,
     names_end: usize,
     owner: Option<usize>,
-    j: usize,
+    j: u32,
 ) -> Result<(), LoaderFault>
     requires names { NamesEndAt tables.cut.bytes.now names_end }
     requires owner { owner ≡ owner_of tables.cut.bytes.now tables.header j }
-    requires place { j < 2 ^ 32 }
     ensures { result_err result ≡ import_refusal tables.entry.cut.bytes.now tables.entry.header j }
 {
-    let import = read_import(tables, j).ok_or(LoaderFault::BadTableOffset)?;
+    let import = read_import(tables, j as usize).ok_or(LoaderFault::BadTableOffset)?;
     if tables.header.name(import.name_offset) >= names_end {
-        return Err(LoaderFault::BadName);
+        return Err(LoaderFault::BadName {
+            of: NamedRow::Import(j),
+        });
     }
     if owner.is_none() {
-        return Err(LoaderFault::OrphanImport);
+        return Err(LoaderFault::OrphanImport { import: j });
     }
     Ok(())
 }

@@ -19,8 +19,8 @@ mod ranges;
 mod reloc;
 mod tables;
 
-pub use fault::LoaderFault;
-pub use header::LoaderHeader;
+pub use fault::{LoaderFault, NamedRow};
+pub use header::{EntryKind, LoaderHeader};
 pub use import_reader::ImportReader;
 pub use library::LibraryView;
 pub use tables::Loader;

@@ -4,13 +4,12 @@ ghost use Rattle.pef_format.specs.Symbols.{options_of};
 ghost use Rattle.pef_loader.specs.Kept.Names.{NamesEndAt};
 ghost use Rattle.pef_loader.specs.Library.{library_at, library_refusal, library_tests};
 
-use crate::fault::LoaderFault;
-use crate::header::LoaderTables;
+use crate::fault::{LoaderFault, NamedRow};
+use crate::header::{LoaderTables, library_place};
 use pef_format::LibraryOptions;
 use pef_format::layout::{
     FIRST_IMPORTED_SYMBOL_AT, IMPORTED_SYMBOL_COUNT_AT, LIBRARY_CURRENT_VERSION_AT,
-    LIBRARY_NAME_OFFSET_AT, LIBRARY_OLD_IMP_VERSION_AT, LIBRARY_OPTIONS_AT, LIBRARY_SIZE,
-    LOADER_HEADER_SIZE,
+    LIBRARY_NAME_OFFSET_AT, LIBRARY_OLD_IMP_VERSION_AT, LIBRARY_OPTIONS_AT,
 };
 use pef_words::Cut;
 
@@ -56,7 +55,7 @@ pub(crate) fn read_library(cut: Cut<'_>, i: usize) -> Option<LibraryEntry>
     requires { i < 2 ^ 32 }
     ensures { result ≡ library_at cut.entry.bytes.now i }
 {
-    let at = LOADER_HEADER_SIZE + LIBRARY_SIZE * i;
+    let at = library_place(i);
     Some(LibraryEntry {
         name_offset: cut.u32_at(at + LIBRARY_NAME_OFFSET_AT)?,
         old_imp: cut.u32_at(at + LIBRARY_OLD_IMP_VERSION_AT)?,
@@ -72,18 +71,19 @@ pub(crate) fn read_library(cut: Cut<'_>, i: usize) -> Option<LibraryEntry>
 pub(crate) fn test_library(
     tables: LoaderTables<'_>,
     names_end: usize,
-    i: usize,
+    i: u32,
 ) -> Result<(), LoaderFault>
-    requires names { NamesEndAt tables.cut.bytes.now names_end }
-    requires place { i < 2 ^ 32 }
+    requires { NamesEndAt tables.cut.bytes.now names_end }
     ensures { result_err result ≡ library_refusal tables.entry.cut.bytes.now tables.entry.header i }
 {
-    let library = read_library(tables.cut, i).ok_or(LoaderFault::BadTableOffset)?;
+    let library = read_library(tables.cut, i as usize).ok_or(LoaderFault::BadTableOffset)?;
     if tables.header.name(library.name_offset) >= names_end {
-        return Err(LoaderFault::BadName);
+        return Err(LoaderFault::BadName {
+            of: NamedRow::Library(i),
+        });
     }
     if u64::from(library.first) + u64::from(library.count) > u64::from(tables.header.import_count) {
-        return Err(LoaderFault::BadLibraryRange);
+        return Err(LoaderFault::BadLibraryRange { library: i });
     }
     Ok(())
 }

@@ -2,11 +2,8 @@ ghost use Rattle.std.specs.Prelude.{◌≡◌, ◌<◌, ◌≤◌, ◌^◌, ◌�
 ghost use Rattle.pef_loader.specs.Library.{library_at};
 ghost use Rattle.pef_loader.specs.Kept.Ranges.{AreInOrder, end_of, first_of};
 
-use crate::header::LoaderTables;
-use pef_format::layout::{
-    FIRST_IMPORTED_SYMBOL_AT, IMPORTED_SYMBOL_COUNT_AT, LIBRARY_OPTIONS_AT, LIBRARY_SIZE,
-    LOADER_HEADER_SIZE,
-};
+use crate::header::{LoaderTables, library_place};
+use pef_format::layout::{FIRST_IMPORTED_SYMBOL_AT, IMPORTED_SYMBOL_COUNT_AT, LIBRARY_OPTIONS_AT};
 use pef_words::Cut;
 use std::ops::Range;
 
@@ -33,7 +30,7 @@ fn read_range(cut: Cut<'_>, i: usize) -> Option<(u32, u32)>
     requires { i < 2 ^ 32 }
     ensures { result ≡ option_map (λ e. (e.first, e.count)) (library_at cut.entry.bytes.now i) }
 {
-    let at = LOADER_HEADER_SIZE + LIBRARY_SIZE * i;
+    let at = library_place(i);
     // If the last field is there, all are.
     cut.u8_at(at + LIBRARY_OPTIONS_AT)?;
     let count = cut.u32_at(at + IMPORTED_SYMBOL_COUNT_AT)?;

@@ -5,9 +5,7 @@ ghost use Rattle.pef_loader.specs.Reloc.{instructions_of, reloc_at, reloc_refusa
 
 use crate::fault::LoaderFault;
 use crate::header::LoaderTables;
-use pef_format::layout::{
-    FIRST_RELOC_OFFSET_AT, HALFWORD_SIZE, RELOC_COUNT_AT, RELOCATION_HEADER_SIZE, SECTION_INDEX_AT,
-};
+use pef_format::layout::{FIRST_RELOC_OFFSET_AT, HALFWORD_SIZE, RELOC_COUNT_AT, SECTION_INDEX_AT};
 use pef_words::Cut;
 
 /// A relocation header, field by field (PEFLoaderRelocationHeader).
@@ -26,7 +24,7 @@ pub(crate) fn read_reloc(tables: LoaderTables<'_>, k: usize) -> Option<RelocEntr
     requires { k < 2 ^ 32 }
     ensures { result ≡ reloc_at tables.entry.cut.bytes.now tables.entry.header k }
 {
-    let at = tables.header.relocs() + RELOCATION_HEADER_SIZE * k;
+    let at = tables.header.reloc(k);
     Some(RelocEntry {
         section: tables.cut.u16_at(at + SECTION_INDEX_AT)?,
         count: tables.cut.u32_at(at + RELOC_COUNT_AT)?,
@@ -36,20 +34,15 @@ pub(crate) fn read_reloc(tables: LoaderTables<'_>, k: usize) -> Option<RelocEntr
 
 /// Reports the first rule that relocation header `k` breaks.
 #[tactic(auto, unfolding(crate::specs::Reloc::reloc_tests, crate::specs::Reloc::instructions_of, pef_words::specs::Bytes::part_of))]
-pub(crate) fn test_reloc(
-    tables: LoaderTables<'_>,
-    sections: u16,
-    k: usize,
-) -> Result<(), LoaderFault>
-    requires { k < 2 ^ 32 }
+pub(crate) fn test_reloc(tables: LoaderTables<'_>, sections: u16, k: u32) -> Result<(), LoaderFault>
     ensures { result_err result ≡ reloc_refusal tables.entry.cut.bytes.now tables.entry.header sections k }
 {
-    let reloc = read_reloc(tables, k).ok_or(LoaderFault::BadTableOffset)?;
+    let reloc = read_reloc(tables, k as usize).ok_or(LoaderFault::BadTableOffset)?;
     if reloc.section >= sections {
-        return Err(LoaderFault::BadRelocSection);
+        return Err(LoaderFault::BadRelocSection { header: k });
     }
     if instructions(tables, reloc).is_none() {
-        return Err(LoaderFault::RelocOutside);
+        return Err(LoaderFault::RelocOutside { header: k });
     }
     Ok(())
 }

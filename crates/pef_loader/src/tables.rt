@@ -1,12 +1,12 @@
 ghost use Rattle.std.specs.Prelude.{◌≡◌, ℕ, ◌+◌, ◌<◌, ◌≤◌, ◌^◌, ◌↔◌, Ok, Some, IfOk, IfSome, IsSome, IsTrue, option_map};
 ghost use Rattle.std.specs.Result.{result_err};
-ghost use Rattle.pef_words.specs.Refusals.{first_among, result_map};
+ghost use Rattle.pef_words.specs.Refusals.{first_among, first_met, result_map};
 ghost use Rattle.pef_hash.specs.Views.{table_of};
 ghost use Rattle.pef_loader.specs.Export.{export_refusal, export_table, has_exports, has_section};
 ghost use Rattle.pef_loader.specs.Header.{entry_of, is_entry};
 ghost use Rattle.pef_loader.specs.Import.{import_refusal, owner_of};
 ghost use Rattle.pef_loader.specs.Library.{library_refusal};
-ghost use Rattle.pef_loader.specs.Loader.{export_of, has_entries, import_of, init_of, library_of, loaded_of, main_of, named_of, reloc_of, term_of};
+ghost use Rattle.pef_loader.specs.Loader.{entry_tests, export_of, import_of, init_of, library_of, loaded_of, main_of, named_of, reloc_of, term_of};
 ghost use Rattle.pef_loader.specs.Kept.Names.{NamesEndAt};
 ghost use Rattle.pef_loader.specs.Kept.Tests.{TestsEach};
 ghost use Rattle.pef_loader.specs.Kept.Ranges.{AreInOrder};
@@ -16,7 +16,7 @@ use crate::block::OwnerBlock;
 use crate::cursor::OwnerCursor;
 use crate::export::{exports, has_exports, test_export};
 use crate::fault::LoaderFault;
-use crate::header::{LoaderHeader, LoaderTables, is_entry, read_header};
+use crate::header::{EntryKind, LoaderHeader, LoaderTables, is_entry, read_header};
 use crate::import::{read_import, test_import};
 use crate::library::{LibraryView, read_library, test_library};
 use crate::names::names_end;
@@ -82,9 +82,7 @@ impl<'a> Loader<'a> {
         test_libraries(tables, names_end)?;
         let in_order = are_in_order(tables);
         test_imports(tables, names_end, in_order)?;
-        if !has_entries(header, sections) {
-            return Err(LoaderFault::BadEntry);
-        }
+        test_entries(header, sections)?;
         test_relocs(tables, sections)?;
         if !has_exports(tables) {
             return Err(LoaderFault::BadExportTable);
@@ -321,8 +319,8 @@ fn test_imports_in_order(tables: LoaderTables<'_>, names_end: usize) -> Result<(
         ≡ first_among (import_refusal tables.entry.cut.bytes.now tables.entry.header) 0 tables.entry.header.import_count }
 {
     let mut owners = OwnerCursor::new(tables.cut);
-    for j in 0..tables.header.import_count as usize {
-        let owner = owners.owner(tables, j);
+    for j in 0..tables.header.import_count {
+        let owner = owners.owner(tables, j as usize);
         test_import(tables, names_end, owner, j)?;
     }
     Ok(())
@@ -336,20 +334,34 @@ fn test_imports_by_blocks(tables: LoaderTables<'_>, names_end: usize) -> Result<
         ≡ first_among (import_refusal tables.entry.cut.bytes.now tables.entry.header) 0 tables.entry.header.import_count }
 {
     let mut owners = OwnerBlock::paint(tables, 0);
-    for j in 0..tables.header.import_count as usize {
-        let owner = owners.owner(tables, j);
+    for j in 0..tables.header.import_count {
+        let owner = owners.owner(tables, j as usize);
         test_import(tables, names_end, owner, j)?;
     }
     Ok(())
 }
 
-/// Returns whether each entry point is missing or is in an instantiated section.
-fn has_entries(header: LoaderHeader, sections: u16) -> bool
-    ensures { result ≡ has_entries sections header }
+/// Reports the first entry point that is neither missing nor in an instantiated section.
+#[tactic(auto, unfolding(crate::specs::Loader::entry_tests))]
+fn test_entries(header: LoaderHeader, sections: u16) -> Result<(), LoaderFault>
+    ensures { result_err result ≡ first_met (entry_tests sections header) }
 {
-    is_entry(header.main_section, sections)
-        && is_entry(header.init_section, sections)
-        && is_entry(header.term_section, sections)
+    if !is_entry(header.main_section, sections) {
+        return Err(LoaderFault::BadEntry {
+            entry: EntryKind::Main,
+        });
+    }
+    if !is_entry(header.init_section, sections) {
+        return Err(LoaderFault::BadEntry {
+            entry: EntryKind::Init,
+        });
+    }
+    if !is_entry(header.term_section, sections) {
+        return Err(LoaderFault::BadEntry {
+            entry: EntryKind::Term,
+        });
+    }
+    Ok(())
 }
 
 /// Reports the first rule that a relocation header breaks, header by header.
@@ -380,14 +392,11 @@ fn test_exports(
 }
 
 /// Reports the first rule that a row of a table breaks, row by row.
-fn test_each<F: Fn(usize) -> Result<(), LoaderFault>>(
-    count: u32,
-    test: F,
-) -> Result<(), LoaderFault>
+fn test_each<F: Fn(u32) -> Result<(), LoaderFault>>(count: u32, test: F) -> Result<(), LoaderFault>
     requires { (i : ℕ) → i < count → F.pre test i }
     ensures { TestsEach (F.post test) count result }
 {
-    for i in 0..count as usize {
+    for i in 0..count {
         test(i)?;
     }
     Ok(())

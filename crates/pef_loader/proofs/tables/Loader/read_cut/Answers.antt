@@ -26,27 +26,28 @@ returns-in_err-test_imports-clause-value c =
     let p = err_from_is_err_and c.from_residual-in_err-test_imports.result c.from_residual-in_err-test_imports.ensures.1 in
     rw (p.1, p.2) (search rules)
 
-pub returns-then-not-has_entries-clause-value : goal.returns-then-not-has_entries-clause-value
+pub returns-in_err-test_entries-clause-value : goal.returns-in_err-test_entries-clause-value
 unfolding loaded_of
-returns-then-not-has_entries-clause-value c =
-    rw (← (sym c.in_ok-header.ensures.ok_part ∙ c.read_header.ensures), le-ltb (length c.args.cut.bytes.now) (tables_end c.in_ok-header.header) (omega arith), ← c.in_ok-test_libraries.ensures, ← c.in_ok-test_imports.ensures, ← c.has_entries.ensures, c.if-not-has_entries.true) refl
+returns-in_err-test_entries-clause-value c =
+    let p = err_from_is_err_and c.from_residual-in_err-test_entries.result c.from_residual-in_err-test_entries.ensures.1 in
+    rw (p.1, p.2, ← (sym c.in_ok-header.ensures.ok_part ∙ c.read_header.ensures), le-ltb (length c.args.cut.bytes.now) (tables_end c.in_ok-header.header) (omega arith), ← c.in_ok-test_libraries.ensures, ← c.in_ok-test_imports.ensures, ← c.in_err-test_entries.ensures) refl
 
 pub returns-in_err-test_relocs-clause-value : goal.returns-in_err-test_relocs-clause-value
 unfolding loaded_of
 returns-in_err-test_relocs-clause-value c =
     let p = err_from_is_err_and c.from_residual-in_err-test_relocs.result c.from_residual-in_err-test_relocs.ensures.1 in
-    rw (p.1, p.2, ← (sym c.in_ok-header.ensures.ok_part ∙ c.read_header.ensures), le-ltb (length c.args.cut.bytes.now) (tables_end c.in_ok-header.header) (omega arith), ← c.in_ok-test_libraries.ensures, ← c.in_ok-test_imports.ensures, ← c.has_entries.ensures, c.if-not-has_entries.false, ← c.in_err-test_relocs.ensures) refl
+    rw (p.1, p.2, ← (sym c.in_ok-header.ensures.ok_part ∙ c.read_header.ensures), le-ltb (length c.args.cut.bytes.now) (tables_end c.in_ok-header.header) (omega arith), ← c.in_ok-test_libraries.ensures, ← c.in_ok-test_imports.ensures, ← c.in_ok-test_entries.ensures, ← c.in_err-test_relocs.ensures) refl
 
 pub returns-then-not-has_exports-clause-value : goal.returns-then-not-has_exports-clause-value
 unfolding loaded_of
 returns-then-not-has_exports-clause-value c =
-    rw (← (sym c.in_ok-header.ensures.ok_part ∙ c.read_header.ensures), le-ltb (length c.args.cut.bytes.now) (tables_end c.in_ok-header.header) (omega arith), ← c.in_ok-test_libraries.ensures, ← c.in_ok-test_imports.ensures, ← c.has_entries.ensures, c.if-not-has_entries.false, ← c.in_ok-test_relocs.ensures, ← c.has_exports.ensures, c.if-not-has_exports.true) refl
+    rw (← (sym c.in_ok-header.ensures.ok_part ∙ c.read_header.ensures), le-ltb (length c.args.cut.bytes.now) (tables_end c.in_ok-header.header) (omega arith), ← c.in_ok-test_libraries.ensures, ← c.in_ok-test_imports.ensures, ← c.in_ok-test_entries.ensures, ← c.in_ok-test_relocs.ensures, ← c.has_exports.ensures, c.if-not-has_exports.true) refl
 
 pub returns-in_err-test_exports-clause-value : goal.returns-in_err-test_exports-clause-value
 unfolding loaded_of
 returns-in_err-test_exports-clause-value c =
     let p = err_from_is_err_and c.from_residual-in_err-test_exports.result c.from_residual-in_err-test_exports.ensures.1 in
-    rw (p.1, p.2, ← (sym c.in_ok-header.ensures.ok_part ∙ c.read_header.ensures), le-ltb (length c.args.cut.bytes.now) (tables_end c.in_ok-header.header) (omega arith), ← c.in_ok-test_libraries.ensures, ← c.in_ok-test_imports.ensures, ← c.has_entries.ensures, c.if-not-has_entries.false, ← c.in_ok-test_relocs.ensures, ← c.has_exports.ensures, c.if-not-has_exports.false, ← c.in_err-test_exports.ensures) refl
+    rw (p.1, p.2, ← (sym c.in_ok-header.ensures.ok_part ∙ c.read_header.ensures), le-ltb (length c.args.cut.bytes.now) (tables_end c.in_ok-header.header) (omega arith), ← c.in_ok-test_libraries.ensures, ← c.in_ok-test_imports.ensures, ← c.in_ok-test_entries.ensures, ← c.in_ok-test_relocs.ensures, ← c.has_exports.ensures, c.if-not-has_exports.false, ← c.in_err-test_exports.ensures) refl
 
 pub returns-clause-order : goal.returns-clause-order
 returns-clause-order c = c.are_in_order-in_order.ensures.1
@@ -60,7 +61,7 @@ invariant_of-result c = record {
     tables = rw (le-ltb (length c.args.cut.bytes.now) (tables_end c.in_ok-header.header) (omega arith)) refl;
     libraries = sym c.in_ok-test_libraries.ensures;
     imports = sym c.in_ok-test_imports.ensures;
-    entries = rw (← c.has_entries.ensures, c.if-not-has_entries.false) refl;
+    entries = sym c.in_ok-test_entries.ensures;
     relocs = sym c.in_ok-test_relocs.ensures;
     table = rw (← c.has_exports.ensures, c.if-not-has_exports.false) refl;
     exports = sym c.in_ok-test_exports.ensures;
