@@ -19,7 +19,7 @@ use Rattle.pef_loader.specs.Export.{export_in, export_refusal, export_table, exp
 use Rattle.pef_loader.specs.Header.{entry_of as header_entry, header_of, is_entry, tables_end}
 use Rattle.pef_loader.specs.Import.{import_at, import_in, import_refusal, import_tests, owner_at, owner_of}
 use Rattle.pef_loader.specs.Library.{Library, library_at, library_in, library_refusal, library_tests}
-use Rattle.pef_loader.specs.Loader.{export_of, import_of, init_of, library_of, loaded_of, main_of, reloc_of, term_of}
+use Rattle.pef_loader.specs.Loader.{entry_tests, export_of, import_of, init_of, library_of, loaded_of, main_of, reloc_of, term_of}
 use Rattle.pef_loader.specs.Reloc.{instructions_of, reloc_at, reloc_in, reloc_refusal, reloc_tests}
 use Rattle.pef_loader.proofs.Laws.{accepts}
 use Rattle.pef_write.specs.declared.field.Field.TheVariants.{Word}
@@ -292,6 +292,7 @@ tables_inside t =
 
 -- the bytes written are a loader section with these tables
 pub tables_loaded : (sections : ℕ) (t : LoaderTables) → AreTables sections t → loaded_of sections (written_loader t) ≡ Ok (loaded_tables sections t)
+unfolding entry_tests
 tables_loaded sections t a = accepts (loaded_tables sections t) (record {
   header = header_there sections t (written_loader t) a (loader_header_reads t a.fit);
   tables = rw (le-ltb (length (written_loader t)) (tables_end (header_read t)) (tables_inside t)) refl;

@@ -94,7 +94,7 @@ record IsSound (bytes : List ℕ) (instantiated : Bool) (s : Section) : Type 0 w
   fields : AllFit (section_fields s.header)
   name : cast_signed w32 (cast_unsigned w32 s.header.name_offset) ≡ s.header.name_offset
   raw : raw_in bytes s.header ≡ s.raw
-  unmet : first_met (section_tests instantiated s.header (length bytes)) ≡ None
+  unmet : (i : ℕ) → first_met (section_tests i instantiated s.header (length bytes)) ≡ None
 
 inside_if : (s : SectionHeader) (len : ℕ) → s.container_offset + s.packed_size ≤ len → IsTrue (is_inside s len)
 inside_if s len inside =
@@ -110,7 +110,7 @@ loader_sound before loader small =
       fields = (omega arith, (omega arith, (omega arith, (omega arith, (omega arith, (omega arith, (omega arith, (omega arith, (omega arith, (omega arith, tt))))))))));
       name = refl;
       raw = ap (take (length loader)) (drop_at before loader (length before) refl) ∙ take_all (length loader) loader (omega arith);
-      unmet = section_tests-unmet false (loader_header (length loader) (length before)) (length (before ++ loader)) (inside_if (loader_header (length loader) (length before)) (length (before ++ loader)) (omega arith)) (λ h. absurd (cc));
+      unmet = λ i. section_tests-unmet i false (loader_header (length loader) (length before)) (length (before ++ loader)) (inside_if (loader_header (length loader) (length before)) (length (before ++ loader)) (omega arith)) (λ h. absurd (cc));
     }
 
 -- the raw bytes are packed, or no fewer than those of the image
@@ -145,7 +145,7 @@ section_sound before rest s writable small =
       fields = (omega arith, (omega arith, (omega arith, (omega arith, (omega arith, (omega arith, (omega arith, (omega arith, (omega arith, (omega arith, tt))))))))));
       name = refl;
       raw = ap (take (length own)) (drop_at before (padded 16 own ++ rest) (length before) refl ∙ append_assoc own zeros rest) ∙ take_at own (zeros ++ rest) (length own) refl;
-      unmet = section_tests-unmet true header len (inside_if header len (omega arith)) (λ h. (kind_if s.header.kind writable.kind, sizes_if s (length before) writable.kind image, align));
+      unmet = λ i. section_tests-unmet i true header len (inside_if header len (omega arith)) (λ h. (kind_if s.header.kind writable.kind, sizes_if s (length before) writable.kind image, align));
     }
 
 -- the facts of each section
@@ -238,7 +238,7 @@ module _ (v : Versions) (sections : List DescribedSection) (loader : List ℕ) (
     header = header_there;
     tests = header_tests-unmet (written_header v (length sections)) (length (written_container v sections loader)) refl refl refl refl (omega arith) (omega (arith, whole));
     sections = section_there;
-    unmet = λ i under. (sound i (nat_lt i (length sections)) under refl).unmet;
+    unmet = λ i under. (sound i (nat_lt i (length sections)) under refl).unmet i;
     more = omega arith;
     loader = (last_is (data_from (length sections)) sections loader).0;
   }
