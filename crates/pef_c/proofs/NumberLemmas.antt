@@ -28,23 +28,23 @@ view_refused view.BadTag = refl
 view_refused view.BadArchitecture = refl
 view_refused view.BadFormatVersion = refl
 view_refused view.BadSectionCounts = refl
-view_refused view.SectionOutside = refl
-view_refused view.BadSectionKind = refl
-view_refused view.BadSizes = refl
-view_refused view.BadAlignment = refl
+view_refused (view.SectionOutside section) = refl
+view_refused (view.BadSectionKind section) = refl
+view_refused (view.BadSizes section) = refl
+view_refused (view.BadAlignment section) = refl
 view_refused view.NoLoader = refl
 
 loader_refused : (f : LoaderFault) → (loader_number f == 0) ≡ false
 loader_refused loader.LoaderShort = refl
 loader_refused loader.BadTableOffset = refl
-loader_refused loader.BadName = refl
-loader_refused loader.BadLibraryRange = refl
-loader_refused loader.OrphanImport = refl
-loader_refused loader.BadEntry = refl
-loader_refused loader.BadRelocSection = refl
-loader_refused loader.RelocOutside = refl
+loader_refused (loader.BadName of) = refl
+loader_refused (loader.BadLibraryRange library) = refl
+loader_refused (loader.OrphanImport import) = refl
+loader_refused (loader.BadEntry entry) = refl
+loader_refused (loader.BadRelocSection k) = refl
+loader_refused (loader.RelocOutside k) = refl
 loader_refused loader.BadExportTable = refl
-loader_refused loader.BadExportSection = refl
+loader_refused (loader.BadExportSection export) = refl
 
 pack_refused : (f : PackFault) → (pack_number f == 0) ≡ false
 pack_refused (pack.Truncated at) = refl
