@@ -4,7 +4,7 @@ use cfm_prepare::{AddFault, CloseFault, FragmentFault, PrepareFault};
 use pef_cert::CertFault;
 use pef_hash::HashFault;
 use pef_listing::ListFault;
-use pef_loader::LoaderFault;
+use pef_loader::{EntryKind, LoaderFault, NamedRow};
 use pef_pidata::PackFault;
 use pef_plan::PlanFault;
 use pef_ports::InputFault;
@@ -23,10 +23,10 @@ const VIEWS: &[(ViewFault, &str)] = &[
     (ViewFault::BadArchitecture, "BadArchitecture"),
     (ViewFault::BadFormatVersion, "BadFormatVersion"),
     (ViewFault::BadSectionCounts, "BadSectionCounts"),
-    (ViewFault::SectionOutside, "SectionOutside"),
-    (ViewFault::BadSectionKind, "BadSectionKind"),
-    (ViewFault::BadSizes, "BadSizes"),
-    (ViewFault::BadAlignment, "BadAlignment"),
+    (ViewFault::SectionOutside { section: 3 }, "SectionOutside"),
+    (ViewFault::BadSectionKind { section: 3 }, "BadSectionKind"),
+    (ViewFault::BadSizes { section: 3 }, "BadSizes"),
+    (ViewFault::BadAlignment { section: 3 }, "BadAlignment"),
     (ViewFault::NoLoader, "NoLoader"),
 ];
 
@@ -34,14 +34,38 @@ const VIEWS: &[(ViewFault, &str)] = &[
 const LOADERS: &[(LoaderFault, &str)] = &[
     (LoaderFault::LoaderShort, "LoaderShort"),
     (LoaderFault::BadTableOffset, "BadTableOffset"),
-    (LoaderFault::BadName, "BadName"),
-    (LoaderFault::BadLibraryRange, "BadLibraryRange"),
-    (LoaderFault::OrphanImport, "OrphanImport"),
-    (LoaderFault::BadEntry, "BadEntry"),
-    (LoaderFault::BadRelocSection, "BadRelocSection"),
-    (LoaderFault::RelocOutside, "RelocOutside"),
+    (
+        LoaderFault::BadName {
+            of: NamedRow::Import(41),
+        },
+        "BadName",
+    ),
+    (
+        LoaderFault::BadLibraryRange { library: 2 },
+        "BadLibraryRange",
+    ),
+    (LoaderFault::OrphanImport { import: 0 }, "OrphanImport"),
+    (
+        LoaderFault::BadEntry {
+            entry: EntryKind::Init,
+        },
+        "BadEntry",
+    ),
+    (
+        LoaderFault::BadRelocSection { header: 1 },
+        "BadRelocSection",
+    ),
+    (
+        LoaderFault::RelocOutside {
+            header: 4_294_967_295,
+        },
+        "RelocOutside",
+    ),
     (LoaderFault::BadExportTable, "BadExportTable"),
-    (LoaderFault::BadExportSection, "BadExportSection"),
+    (
+        LoaderFault::BadExportSection { export: 7 },
+        "BadExportSection",
+    ),
 ];
 
 /// Refusals of packed bytes.
@@ -131,7 +155,12 @@ const MEMORY: &[(MemoryFault, &str)] = &[
 /// Refusals of listings.
 const LISTINGS: &[(ListFault, &str)] = &[
     (ListFault::View(ViewFault::BadTag), "BadTag"),
-    (ListFault::Loader(LoaderFault::BadName), "BadName"),
+    (
+        ListFault::Loader(LoaderFault::BadName {
+            of: NamedRow::Import(41),
+        }),
+        "BadName",
+    ),
     (
         ListFault::Reloc(RelocFault::RepeatCuts { at: 0 }),
         "RepeatCuts",
@@ -150,7 +179,9 @@ const CLOSURES: &[(BindFault<'static>, &str)] = &[
     (
         BindFault::Loader {
             fragment: b"A",
-            fault: LoaderFault::BadEntry,
+            fault: LoaderFault::BadEntry {
+                entry: EntryKind::Init,
+            },
         },
         "BadEntry",
     ),
