@@ -171,8 +171,8 @@ fn refusal(packed: &[u8], out: &mut [u8]) -> Option<(u32, Option<usize>)> {
 fn expand_refused(rt: HostRuntime) {
     for row in REFUSED {
         let (packed, len, number, offset) = *row;
-        let mut buffer = [0xEE; 8];
-        assert!(rt; len <= 8);
+        let mut buffer = [0xEE; 9];
+        assert!(rt; len <= 9);
         let found = refusal(packed, &mut buffer[..len]);
         assert!(rt; found == Some((number, Some(offset))), "{packed:?}");
     }
