@@ -1,22 +1,31 @@
-use pef_loader::Loader;
-use pef_views::Container;
+use pef_loader::{Loader, LoaderFault};
+use pef_views::{Container, ViewFault};
+use std::process::Abort;
 
-/// Returns the number of a container's refusal, or `None` if it is read.
-pub(crate) fn refused_container(bytes: &[u8]) -> Option<u32> {
+/// Returns the fault of a container, or `None` if it is read.
+pub(crate) fn container_fault(bytes: &[u8]) -> Option<ViewFault> {
     match Container::read(bytes) {
         Ok(_) => None,
-        Err(fault) => Some(fault.number()),
+        Err(fault) => Some(fault),
     }
 }
 
-/// Returns the number of the refusal of a container or of its loader section, or `None` if both are
-/// read.
-pub(crate) fn refused_loader(bytes: &[u8]) -> Option<u32> {
-    match Container::read(bytes) {
-        Ok(container) => match Loader::read(&container) {
-            Ok(_) => None,
-            Err(fault) => Some(fault.number()),
-        },
-        Err(fault) => Some(fault.number()),
+/// Returns the fault of a container's loader section, or `None` if it is read.
+pub(crate) fn loader_fault(rt: &impl Abort, bytes: &[u8]) -> Option<LoaderFault> {
+    let container = Container::read(bytes).expect(rt, "a container");
+    match Loader::read(&container) {
+        Ok(_) => None,
+        Err(fault) => Some(fault),
+    }
+}
+
+/// Returns whether a field with these bytes is at an offset. If there is no offset, the field has no bytes.
+pub(crate) fn has_field(bytes: &[u8], offset: Option<usize>, field: &[u8]) -> bool {
+    match offset {
+        Some(at) if at <= bytes.len() && field.len() <= bytes.len() - at => {
+            &bytes[at..at + field.len()] == field
+        }
+        Some(_) => false,
+        None => field.is_empty(),
     }
 }

@@ -1,6 +1,6 @@
-use crate::fixture::refused_loader;
+use crate::fixture::{has_field, loader_fault};
 use pef_format::{ExportValue, ImportView, LibraryOptions, SymbolClass};
-use pef_loader::{ImportReader, Loader, LoaderHeader};
+use pef_loader::{EntryKind, ImportReader, Loader, LoaderFault, LoaderHeader, NamedRow};
 use pef_views::Container;
 use std::alloc::Global;
 use std::process::Abort;
@@ -25,51 +25,129 @@ const LIBRARIES: [u8; 195] = [
     0x78, 0x79, 0x00,
 ];
 
-/// Words at some places, and the number of the refusal.
-type Refused = (&'static [(usize, u32)], Option<u32>);
+/// Words at some places, and the fault.
+type Refused = (&'static [(usize, u32)], Option<LoaderFault>);
 
 /// The loader header is at 160, the relocation header at 216, the slot at 232, the key at 236 and the export at 240.
 const GO_WORDS: &[Refused] = &[
     (&[], None),
-    (&[(112, 0)], Some(11)),
-    (&[(112, 55)], Some(11)),
-    (&[(112, 67)], Some(12)),
-    (&[(184, 0xFFFF_FFFF)], Some(12)),
-    (&[(192, 3)], Some(12)),
-    (&[(184, 0xFFFF_FFFF), (160, 2)], Some(12)),
+    (&[(112, 0)], Some(LoaderFault::LoaderShort)),
+    (&[(112, 55)], Some(LoaderFault::LoaderShort)),
+    (&[(112, 67)], Some(LoaderFault::BadTableOffset)),
+    (&[(184, 0xFFFF_FFFF)], Some(LoaderFault::BadTableOffset)),
+    (&[(192, 3)], Some(LoaderFault::BadTableOffset)),
+    (
+        &[(184, 0xFFFF_FFFF), (160, 2)],
+        Some(LoaderFault::BadTableOffset),
+    ),
     // The entries.
-    (&[(160, 2)], Some(16)),
-    (&[(160, 0xFFFF_FFFE)], Some(16)),
-    (&[(168, 2)], Some(16)),
-    (&[(176, 0x8000_0000)], Some(16)),
+    (
+        &[(160, 2)],
+        Some(LoaderFault::BadEntry {
+            entry: EntryKind::Main,
+        }),
+    ),
+    (
+        &[(160, 0xFFFF_FFFE)],
+        Some(LoaderFault::BadEntry {
+            entry: EntryKind::Main,
+        }),
+    ),
+    (
+        &[(168, 2)],
+        Some(LoaderFault::BadEntry {
+            entry: EntryKind::Init,
+        }),
+    ),
+    (
+        &[(176, 0x8000_0000)],
+        Some(LoaderFault::BadEntry {
+            entry: EntryKind::Term,
+        }),
+    ),
     (&[(160, 0xFFFF_FFFF), (168, 0), (176, 1)], None),
-    (&[(160, 2), (216, 0x0002_0000)], Some(16)),
+    (
+        &[(160, 2), (216, 0x0002_0000)],
+        Some(LoaderFault::BadEntry {
+            entry: EntryKind::Main,
+        }),
+    ),
     // The relocation header.
-    (&[(216, 0x0002_0000)], Some(17)),
-    (&[(216, 0x0002_0000), (220, 0xFFFF_FFFF)], Some(17)),
-    (&[(220, 0xFFFF_FFFF)], Some(18)),
-    (&[(224, 0xFFFF_FFFF)], Some(18)),
-    (&[(220, 0), (224, 0xFFFF_FFFF)], Some(18)),
+    (
+        &[(216, 0x0002_0000)],
+        Some(LoaderFault::BadRelocSection { header: 0 }),
+    ),
+    (
+        &[(216, 0x0002_0000), (220, 0xFFFF_FFFF)],
+        Some(LoaderFault::BadRelocSection { header: 0 }),
+    ),
+    (
+        &[(220, 0xFFFF_FFFF)],
+        Some(LoaderFault::RelocOutside { header: 0 }),
+    ),
+    (
+        &[(224, 0xFFFF_FFFF)],
+        Some(LoaderFault::RelocOutside { header: 0 }),
+    ),
+    (
+        &[(220, 0), (224, 0xFFFF_FFFF)],
+        Some(LoaderFault::RelocOutside { header: 0 }),
+    ),
     (&[(220, 11)], None),
-    (&[(220, 12)], Some(18)),
+    (&[(220, 12)], Some(LoaderFault::RelocOutside { header: 0 })),
     (&[(220, 0), (224, 22)], None),
-    (&[(220, 0), (224, 23)], Some(18)),
-    (&[(220, 12), (208, 31)], Some(18)),
+    (
+        &[(220, 0), (224, 23)],
+        Some(LoaderFault::RelocOutside { header: 0 }),
+    ),
+    (
+        &[(220, 12), (208, 31)],
+        Some(LoaderFault::RelocOutside { header: 0 }),
+    ),
     // The export table.
-    (&[(208, 31)], Some(19)),
-    (&[(208, 30)], Some(19)),
-    (&[(208, 1)], Some(19)),
-    (&[(212, 2)], Some(19)),
+    (&[(208, 31)], Some(LoaderFault::BadExportTable)),
+    (&[(208, 30)], Some(LoaderFault::BadExportTable)),
+    (&[(208, 1)], Some(LoaderFault::BadExportTable)),
+    (&[(212, 2)], Some(LoaderFault::BadExportTable)),
     (&[(212, 0), (208, 31), (204, 0xFFFF_FFFF)], None),
     // The export.
-    (&[(200, 0xFFFF_FFFF)], Some(13)),
-    (&[(200, 0xFFFF_FFFF), (236, 0)], Some(13)),
+    (
+        &[(200, 0xFFFF_FFFF)],
+        Some(LoaderFault::BadName {
+            of: NamedRow::Export(0),
+        }),
+    ),
+    (
+        &[(200, 0xFFFF_FFFF), (236, 0)],
+        Some(LoaderFault::BadName {
+            of: NamedRow::Export(0),
+        }),
+    ),
     (&[(236, 0x0014_0000)], None),
-    (&[(236, 0x0015_0000)], Some(13)),
-    (&[(236, 0x0015_0000), (246, 0xFFFF)], Some(13)),
-    (&[(246, 0xFFFF)], Some(20)),
-    (&[(246, 0xFFFC)], Some(20)),
-    (&[(246, 0xFFFD)], Some(20)),
+    (
+        &[(236, 0x0015_0000)],
+        Some(LoaderFault::BadName {
+            of: NamedRow::Export(0),
+        }),
+    ),
+    (
+        &[(236, 0x0015_0000), (246, 0xFFFF)],
+        Some(LoaderFault::BadName {
+            of: NamedRow::Export(0),
+        }),
+    ),
+    (
+        &[(246, 0xFFFF)],
+        Some(LoaderFault::BadExportSection { export: 0 }),
+    ),
+    (
+        &[(246, 0xFFFC)],
+        Some(LoaderFault::BadExportSection { export: 0 }),
+    ),
+    (
+        &[(246, 0xFFFD)],
+        Some(LoaderFault::BadExportSection { export: 0 }),
+    ),
     (&[(246, 0xFFFE)], None),
 ];
 
@@ -77,25 +155,84 @@ const GO_WORDS: &[Refused] = &[
 const LIBRARY_WORDS: &[Refused] = &[
     (&[], None),
     (&[(124, 10)], None),
-    (&[(124, 11)], Some(13)),
-    (&[(124, 0xFFFF_FFFF)], Some(13)),
-    (&[(164, 2)], Some(14)),
-    (&[(164, 0xFFFF_FFFF)], Some(14)),
-    (&[(160, 0), (164, 4)], Some(14)),
-    (&[(136, 4), (148, 11)], Some(14)),
-    (&[(148, 11), (164, 2)], Some(13)),
+    (
+        &[(124, 11)],
+        Some(LoaderFault::BadName {
+            of: NamedRow::Library(0),
+        }),
+    ),
+    (
+        &[(124, 0xFFFF_FFFF)],
+        Some(LoaderFault::BadName {
+            of: NamedRow::Library(0),
+        }),
+    ),
+    (
+        &[(164, 2)],
+        Some(LoaderFault::BadLibraryRange { library: 1 }),
+    ),
+    (
+        &[(164, 0xFFFF_FFFF)],
+        Some(LoaderFault::BadLibraryRange { library: 1 }),
+    ),
+    (
+        &[(160, 0), (164, 4)],
+        Some(LoaderFault::BadLibraryRange { library: 1 }),
+    ),
+    (
+        &[(136, 4), (148, 11)],
+        Some(LoaderFault::BadLibraryRange { library: 0 }),
+    ),
+    (
+        &[(148, 11), (164, 2)],
+        Some(LoaderFault::BadName {
+            of: NamedRow::Library(1),
+        }),
+    ),
     (&[(172, 0x0100_000A)], None),
-    (&[(172, 0x0100_000B)], Some(13)),
-    (&[(160, 1)], Some(15)),
-    (&[(160, 1), (180, 0x0100_000B)], Some(13)),
-    (&[(140, 1), (176, 0x0100_000B)], Some(15)),
-    (&[(191, 0x0078_7901)], Some(13)),
-    (&[(136, 4), (172, 0x0100_000B)], Some(14)),
-    (&[(160, 1), (68, 0)], Some(15)),
+    (
+        &[(172, 0x0100_000B)],
+        Some(LoaderFault::BadName {
+            of: NamedRow::Import(0),
+        }),
+    ),
+    (&[(160, 1)], Some(LoaderFault::OrphanImport { import: 2 })),
+    (
+        &[(160, 1), (180, 0x0100_000B)],
+        Some(LoaderFault::BadName {
+            of: NamedRow::Import(2),
+        }),
+    ),
+    (
+        &[(140, 1), (176, 0x0100_000B)],
+        Some(LoaderFault::OrphanImport { import: 0 }),
+    ),
+    (
+        &[(191, 0x0078_7901)],
+        Some(LoaderFault::BadName {
+            of: NamedRow::Import(2),
+        }),
+    ),
+    (
+        &[(136, 4), (172, 0x0100_000B)],
+        Some(LoaderFault::BadLibraryRange { library: 0 }),
+    ),
+    (
+        &[(160, 1), (68, 0)],
+        Some(LoaderFault::OrphanImport { import: 2 }),
+    ),
     // Ranges that follow one another, without and with a gap, and none.
     (&[(160, 1), (164, 2)], None),
-    (&[(136, 1), (160, 1), (164, 2)], Some(15)),
-    (&[(96, 0), (124, 11)], Some(13)),
+    (
+        &[(136, 1), (160, 1), (164, 2)],
+        Some(LoaderFault::OrphanImport { import: 1 }),
+    ),
+    (
+        &[(96, 0), (124, 11)],
+        Some(LoaderFault::BadName {
+            of: NamedRow::Library(0),
+        }),
+    ),
 ];
 
 fn test_refused(rt: &impl Abort, alloc: Global, container: &[u8], rows: &[Refused]) {
@@ -103,7 +240,7 @@ fn test_refused(rt: &impl Abort, alloc: Global, container: &[u8], rows: &[Refuse
     for (i, (words, want)) in rows.iter().enumerate() {
         let bytes = with_words(alloc, container, words).expect(rt, "a changed container");
         assert!(rt;
-            refused_loader(&bytes) == *want,
+            loader_fault(rt, &bytes) == *want,
             "row {i} of {length} bytes"
         );
     }
@@ -113,6 +250,241 @@ fn test_refused(rt: &impl Abort, alloc: Global, container: &[u8], rows: &[Refuse
 fn read(rt: HostRuntime) {
     test_refused(&rt, rt.alloc(), &GO, GO_WORDS);
     test_refused(&rt, rt.alloc(), &LIBRARIES, LIBRARY_WORDS);
+}
+
+/// A container of 158 bytes, whose loader section begins at 68. It has two absolute exports, `a` and `b`: the slot is at
+/// 124, the keys at 128 and 132, the exports at 136 and 146, and the strings at 156.
+const TWO_EXPORTS: &[(usize, u32)] = &[
+    (0, 0x4A6F_7921),
+    (4, 0x7065_6666),
+    (8, 0x7077_7063),
+    (12, 1),
+    (32, 0x0001_0000),
+    (40, 0xFFFF_FFFF),
+    (56, 90),
+    (60, 68),
+    (64, 0x0404_0400),
+    // No entries.
+    (68, 0xFFFF_FFFF),
+    (76, 0xFFFF_FFFF),
+    (84, 0xFFFF_FFFF),
+    // Where instructions, strings and slots begin, a slot, and two exports.
+    (104, 56),
+    (108, 88),
+    (112, 56),
+    (120, 2),
+    (124, 0x0008_0000),
+    (128, 0x0001_0000),
+    (132, 0x0001_0000),
+    (142, 0x0000_FFFE),
+    (146, 1),
+    (154, 0xFFFE_6162),
+];
+
+/// A damaged loader section: words at some places, the fault, its number, its offset in the loader section, and the bytes
+/// of the field there.
+type Damaged = (
+    &'static [(usize, u32)],
+    LoaderFault,
+    u32,
+    Option<usize>,
+    &'static [u8],
+);
+
+/// Offsets are relative to byte 160.
+const GO_DAMAGED: &[Damaged] = &[
+    (&[(112, 55)], LoaderFault::LoaderShort, 11, None, b""),
+    (
+        &[(184, 0xFFFF_FFFF)],
+        LoaderFault::BadTableOffset,
+        12,
+        Some(24),
+        b"\xFF\xFF\xFF\xFF",
+    ),
+    (
+        &[(160, 2)],
+        LoaderFault::BadEntry {
+            entry: EntryKind::Main,
+        },
+        16,
+        Some(0),
+        b"\x00\x00\x00\x02",
+    ),
+    (
+        &[(168, 3)],
+        LoaderFault::BadEntry {
+            entry: EntryKind::Init,
+        },
+        16,
+        Some(8),
+        b"\x00\x00\x00\x03",
+    ),
+    (
+        &[(176, 4)],
+        LoaderFault::BadEntry {
+            entry: EntryKind::Term,
+        },
+        16,
+        Some(16),
+        b"\x00\x00\x00\x04",
+    ),
+    (
+        &[(216, 0x0002_0000)],
+        LoaderFault::BadRelocSection { header: 0 },
+        17,
+        Some(56),
+        b"\x00\x02",
+    ),
+    (
+        &[(220, 12)],
+        LoaderFault::RelocOutside { header: 0 },
+        18,
+        Some(60),
+        b"\x00\x00\x00\x0C",
+    ),
+    // Relocation header 1 is at 228.
+    (
+        &[(192, 2), (228, 0x0007_0000)],
+        LoaderFault::BadRelocSection { header: 1 },
+        17,
+        Some(68),
+        b"\x00\x07",
+    ),
+    (
+        &[(192, 2), (228, 0x0001_0000), (232, 13)],
+        LoaderFault::RelocOutside { header: 1 },
+        18,
+        Some(72),
+        b"\x00\x00\x00\x0D",
+    ),
+    (
+        &[(204, 0xFFFF_FFFF)],
+        LoaderFault::BadExportTable,
+        19,
+        Some(44),
+        b"\xFF\xFF\xFF\xFF",
+    ),
+];
+
+/// Offsets are relative to byte 68.
+const LIBRARY_DAMAGED: &[Damaged] = &[
+    (
+        &[(124, 11)],
+        LoaderFault::BadName {
+            of: NamedRow::Library(0),
+        },
+        13,
+        Some(56),
+        b"\x00\x00\x00\x0B",
+    ),
+    (
+        &[(148, 12)],
+        LoaderFault::BadName {
+            of: NamedRow::Library(1),
+        },
+        13,
+        Some(80),
+        b"\x00\x00\x00\x0C",
+    ),
+    (
+        &[(176, 0x8200_000D)],
+        LoaderFault::BadName {
+            of: NamedRow::Import(1),
+        },
+        13,
+        Some(108),
+        b"\x82\x00\x00\x0D",
+    ),
+    (
+        &[(164, 2)],
+        LoaderFault::BadLibraryRange { library: 1 },
+        14,
+        Some(96),
+        b"\x00\x00\x00\x02",
+    ),
+    // Import 2 is in no range.
+    (
+        &[(160, 1)],
+        LoaderFault::OrphanImport { import: 2 },
+        15,
+        Some(112),
+        b"\x14\x00\x00\x08",
+    ),
+    // Without imports, the relocation headers are at 172 and 184. There is no section for them.
+    (
+        &[(136, 0), (140, 0), (160, 0), (164, 0), (96, 0), (100, 1)],
+        LoaderFault::BadRelocSection { header: 0 },
+        17,
+        Some(104),
+        b"\x01\x00",
+    ),
+];
+
+/// Offsets are relative to byte 68.
+const EXPORT_DAMAGED: &[Damaged] = &[
+    (
+        &[(146, 2)],
+        LoaderFault::BadName {
+            of: NamedRow::Export(1),
+        },
+        13,
+        Some(78),
+        b"\x00\x00\x00\x02",
+    ),
+    (
+        &[(154, 0x0003_6162)],
+        LoaderFault::BadExportSection { export: 1 },
+        20,
+        Some(86),
+        b"\x00\x03",
+    ),
+    (
+        &[(142, 0x0000_0005)],
+        LoaderFault::BadExportSection { export: 0 },
+        20,
+        Some(76),
+        b"\x00\x05",
+    ),
+];
+
+/// Tests the fault of a damaged loader section, and that the field at its offset is the damaged one.
+fn test_damaged(rt: &impl Abort, bytes: &[u8], row: &Damaged) {
+    let (_, want, number, offset, field) = *row;
+    let loader = Container::read(bytes).expect(rt, "a container").loader();
+    assert!(rt; loader_fault(rt, bytes) == Some(want), "fault {number}");
+    assert!(rt; want.number() == number, "fault {number}");
+    assert!(rt; want.offset(loader) == offset, "fault {number}");
+    assert!(rt; has_field(loader, offset, field), "fault {number}");
+}
+
+/// Tests damaged copies of a container.
+fn test_all_damaged(rt: &impl Abort, alloc: Global, container: &[u8], rows: &[Damaged]) {
+    for row in rows {
+        let bytes = with_words(alloc, container, row.0).expect(rt, "a changed container");
+        test_damaged(rt, &bytes, row);
+    }
+}
+
+#[test]
+fn offsets(rt: HostRuntime) {
+    test_all_damaged(&rt, rt.alloc(), &GO, GO_DAMAGED);
+    test_all_damaged(&rt, rt.alloc(), &LIBRARIES, LIBRARY_DAMAGED);
+    let mut bytes = vec![in rt.alloc(); 0; 158].expect(&rt, "memory");
+    change_words(&mut bytes, TWO_EXPORTS).expect(&rt, "places in the container");
+    assert!(rt; loader_fault(&rt, &bytes).is_none());
+    test_all_damaged(&rt, rt.alloc(), &bytes, EXPORT_DAMAGED);
+}
+
+/// An export in a table of 2^31 slots, which no table has.
+#[test]
+fn no_offset(rt: HostRuntime) {
+    let bytes = with_words(rt.alloc(), &GO, &[(208, 31)]).expect(&rt, "a changed container");
+    let loader = Container::read(&bytes).expect(&rt, "a container").loader();
+    let name = LoaderFault::BadName {
+        of: NamedRow::Export(0),
+    };
+    assert!(rt; name.offset(loader).is_none());
+    assert!(rt; LoaderFault::BadExportTable.offset(loader) == Some(44));
 }
 
 /// Returns how many libraries, imports, relocation headers and exports there are.

@@ -1,6 +1,6 @@
-use crate::fixture::refused_container;
+use crate::fixture::{container_fault, has_field};
 use pef_format::SectionKind;
-use pef_views::{Container, Header, SectionHeader};
+use pef_views::{Container, Header, SectionHeader, ViewFault};
 use std::process::Abort;
 use test_data::changes::with_words;
 use test_data::containers::VECTORS_BYTES as BYTES;
@@ -9,69 +9,205 @@ use test_data::containers::VECTORS_BYTES as BYTES;
 fn read_beginnings(rt: HostRuntime) {
     for len in 0..=BYTES.len() {
         let want = match len {
-            0..124 => Some(1),
-            124..250 => Some(6),
+            0..124 => Some(ViewFault::TooShort),
+            124..136 => Some(ViewFault::SectionOutside { section: 0 }),
+            136..160 => Some(ViewFault::SectionOutside { section: 1 }),
+            160..250 => Some(ViewFault::SectionOutside { section: 2 }),
             _ => None,
         };
         assert!(rt;
-            refused_container(&BYTES[..len]) == want,
+            container_fault(&BYTES[..len]) == want,
             "the first {len} bytes"
         );
     }
 }
 
-/// Words at some places, and the number of the refusal.
-const WORDS: &[(&[(usize, u32)], Option<u32>)] = &[
-    (&[(0, 0x4A6F_7920)], Some(2)),
-    (&[(4, 0x7065_6667)], Some(2)),
-    (&[(0, 0), (8, 0)], Some(2)),
-    (&[(8, 0x6D36_386B)], Some(3)),
-    (&[(8, 0), (12, 0)], Some(3)),
-    (&[(12, 0)], Some(4)),
-    (&[(12, 2), (32, 0x0003_0004)], Some(4)),
-    (&[(32, 0x0003_0004)], Some(5)),
-    (&[(32, 0x0008_0009)], Some(5)),
+/// Words at some places, and the fault.
+const WORDS: &[(&[(usize, u32)], Option<ViewFault>)] = &[
+    (&[(0, 0x4A6F_7920)], Some(ViewFault::BadTag)),
+    (&[(4, 0x7065_6667)], Some(ViewFault::BadTag)),
+    (&[(0, 0), (8, 0)], Some(ViewFault::BadTag)),
+    (&[(8, 0x6D36_386B)], Some(ViewFault::BadArchitecture)),
+    (&[(8, 0), (12, 0)], Some(ViewFault::BadArchitecture)),
+    (&[(12, 0)], Some(ViewFault::BadFormatVersion)),
+    (
+        &[(12, 2), (32, 0x0003_0004)],
+        Some(ViewFault::BadFormatVersion),
+    ),
+    (&[(32, 0x0003_0004)], Some(ViewFault::BadSectionCounts)),
+    (&[(32, 0x0008_0009)], Some(ViewFault::BadSectionCounts)),
     // Eight headers end at 264, seven at 236.
-    (&[(32, 0x0008_0002)], Some(1)),
-    (&[(32, 0x0007_0002)], Some(6)),
+    (&[(32, 0x0008_0002)], Some(ViewFault::TooShort)),
+    (
+        &[(32, 0x0007_0002)],
+        Some(ViewFault::SectionOutside { section: 4 }),
+    ),
     (&[(32, 0x0004_0002)], None),
     // Sections that aren't instantiated may have any kind, share kind and alignment.
     (&[(32, 0x0004_0002), (148, 0x09FF_FFFF)], None),
     // Raw bytes past the end, and no raw bytes.
-    (&[(60, 0xFFFF_FFFF)], Some(6)),
-    (&[(112, 0x0000_005B)], Some(6)),
+    (
+        &[(60, 0xFFFF_FFFF)],
+        Some(ViewFault::SectionOutside { section: 0 }),
+    ),
+    (
+        &[(112, 0x0000_005B)],
+        Some(ViewFault::SectionOutside { section: 2 }),
+    ),
     (&[(112, 0)], None),
     (&[(52, 0), (56, 0), (60, 0xFFFF_FFFF)], None),
     // Kinds of instantiated sections.
     (&[(64, 0x0304_0400)], None),
     (&[(64, 0x0604_0400)], None),
-    (&[(64, 0x0404_0400)], Some(7)),
-    (&[(64, 0x0504_0400)], Some(7)),
-    (&[(64, 0x0704_0400)], Some(7)),
-    (&[(32, 0x0003_0003)], Some(7)),
+    (
+        &[(64, 0x0404_0400)],
+        Some(ViewFault::BadSectionKind { section: 0 }),
+    ),
+    (
+        &[(64, 0x0504_0400)],
+        Some(ViewFault::BadSectionKind { section: 0 }),
+    ),
+    (
+        &[(64, 0x0704_0400)],
+        Some(ViewFault::BadSectionKind { section: 0 }),
+    ),
+    (
+        &[(32, 0x0003_0003)],
+        Some(ViewFault::BadSectionKind { section: 2 }),
+    ),
     // Sizes, and those of pattern-initialized data.
-    (&[(80, 17)], Some(8)),
-    (&[(84, 15)], Some(8)),
+    (&[(80, 17)], Some(ViewFault::BadSizes { section: 1 })),
+    (&[(84, 15)], Some(ViewFault::BadSizes { section: 1 })),
     (&[(84, 17)], None),
     (&[(92, 0x0201_0400)], None),
-    (&[(92, 0x0201_0400), (80, 17)], Some(8)),
+    (
+        &[(92, 0x0201_0400), (80, 17)],
+        Some(ViewFault::BadSizes { section: 1 }),
+    ),
     (&[(92, 0x0201_0400), (84, 0)], None),
     (&[(92, 0x0101_1F00)], None),
-    (&[(92, 0x0101_2000)], Some(9)),
+    (
+        &[(92, 0x0101_2000)],
+        Some(ViewFault::BadAlignment { section: 1 }),
+    ),
     // All tests of a section come before those of the next.
-    (&[(64, 0x0004_2000), (92, 0x0401_0400)], Some(9)),
-    (&[(64, 0x0404_2000)], Some(7)),
-    (&[(60, 0xFFFF_FFFF), (64, 0x0404_2000)], Some(6)),
-    (&[(80, 17), (92, 0x0101_2000)], Some(8)),
-    (&[(92, 0x0101_2000), (120, 0x0504_0400)], Some(9)),
-    (&[(120, 0x0504_0400)], Some(10)),
+    (
+        &[(64, 0x0004_2000), (92, 0x0401_0400)],
+        Some(ViewFault::BadAlignment { section: 0 }),
+    ),
+    (
+        &[(64, 0x0404_2000)],
+        Some(ViewFault::BadSectionKind { section: 0 }),
+    ),
+    (
+        &[(60, 0xFFFF_FFFF), (64, 0x0404_2000)],
+        Some(ViewFault::SectionOutside { section: 0 }),
+    ),
+    (
+        &[(80, 17), (92, 0x0101_2000)],
+        Some(ViewFault::BadSizes { section: 1 }),
+    ),
+    (
+        &[(92, 0x0101_2000), (120, 0x0504_0400)],
+        Some(ViewFault::BadAlignment { section: 1 }),
+    ),
+    (&[(120, 0x0504_0400)], Some(ViewFault::NoLoader)),
 ];
 
 #[test]
 fn read(rt: HostRuntime) {
     for (i, (words, want)) in WORDS.iter().enumerate() {
         let bytes = with_words(rt.alloc(), &BYTES, words).expect(&rt, "a changed container");
-        assert!(rt; refused_container(&bytes) == *want, "row {i}");
+        assert!(rt; container_fault(&bytes) == *want, "row {i}");
+    }
+}
+
+/// A damaged container: words at some places, the fault, its number, its offset in the container, and the bytes of the
+/// field there.
+type Damaged = (
+    &'static [(usize, u32)],
+    ViewFault,
+    u32,
+    Option<usize>,
+    &'static [u8],
+);
+
+/// The section headers are at 40, 68 and 96.
+const DAMAGED: &[Damaged] = &[
+    (&[(32, 0x0008_0002)], ViewFault::TooShort, 1, None, b""),
+    (
+        &[(4, 0x7065_6667)],
+        ViewFault::BadTag,
+        2,
+        Some(0),
+        b"\x4A\x6F\x79\x21\x70\x65\x66\x67",
+    ),
+    (
+        &[(8, 0x6D36_386B)],
+        ViewFault::BadArchitecture,
+        3,
+        Some(8),
+        b"\x6D\x36\x38\x6B",
+    ),
+    (
+        &[(12, 2)],
+        ViewFault::BadFormatVersion,
+        4,
+        Some(12),
+        b"\x00\x00\x00\x02",
+    ),
+    (
+        &[(32, 0x0003_0004)],
+        ViewFault::BadSectionCounts,
+        5,
+        Some(34),
+        b"\x00\x04",
+    ),
+    (
+        &[(116, 0xA1)],
+        ViewFault::SectionOutside { section: 2 },
+        6,
+        Some(116),
+        b"\x00\x00\x00\xA1",
+    ),
+    (
+        &[(92, 0x0401_0400)],
+        ViewFault::BadSectionKind { section: 1 },
+        7,
+        Some(92),
+        b"\x04",
+    ),
+    (
+        &[(80, 17)],
+        ViewFault::BadSizes { section: 1 },
+        8,
+        Some(80),
+        b"\x00\x00\x00\x11",
+    ),
+    (
+        &[(92, 0x0101_2000)],
+        ViewFault::BadAlignment { section: 1 },
+        9,
+        Some(94),
+        b"\x20",
+    ),
+    (&[(120, 0x0504_0400)], ViewFault::NoLoader, 10, None, b""),
+];
+
+/// Tests the fault of a damaged container, and that the field at its offset is the damaged one.
+fn test_damaged(rt: &impl Abort, bytes: &[u8], row: &Damaged) {
+    let (_, want, number, offset, field) = *row;
+    assert!(rt; container_fault(bytes) == Some(want), "fault {number}");
+    assert!(rt; want.number() == number, "fault {number}");
+    assert!(rt; want.offset() == offset, "fault {number}");
+    assert!(rt; has_field(bytes, offset, field), "fault {number}");
+}
+
+#[test]
+fn offsets(rt: HostRuntime) {
+    for row in DAMAGED {
+        let bytes = with_words(rt.alloc(), &BYTES, row.0).expect(&rt, "a changed container");
+        test_damaged(&rt, &bytes, row);
     }
 }
 
@@ -188,7 +324,8 @@ fn not_instantiated(rt: HostRuntime) {
             &rt,
             "a changed container",
         );
-        assert!(rt; refused_container(&bytes) == Some(7), "word {word}");
+        let want = ViewFault::BadSectionKind { section: 0 };
+        assert!(rt; container_fault(&bytes) == Some(want), "word {word}");
     }
 }
 
