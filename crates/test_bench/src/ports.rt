@@ -58,6 +58,20 @@ impl<'a> Source for Text<'a> {
     }
 }
 
+/// An input without end, which gives as many bytes a call as are taken.
+#[derive(Drop)]
+pub struct Endless;
+
+impl Source for Endless {
+    ghost use Rattle.std.specs.Prelude.{None, false};
+
+    ghost stream = { λ _. record { bytes = None; failures = 0; failed = false } };
+
+    fn read(&mut self, buffer: &mut [u8]) -> Result<usize, StreamFault> {
+        Ok(buffer.len())
+    }
+}
+
 /// The initial capacity of an output in bytes.
 const ROOM: usize = 4096;
 

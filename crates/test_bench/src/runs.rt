@@ -2,7 +2,7 @@
 
 ghost use Rattle.std.specs.Prelude.{◌<◌};
 
-use crate::ports::{Papers, Sheet, Slip, Text};
+use crate::ports::{Endless, Papers, Sheet, Slip, Text};
 use pef_tool::{FileFault, explain, perform, run};
 use std::alloc::{AllocError, Global};
 use std::test::Fail;
@@ -185,6 +185,18 @@ pub fn run_explained(
         left: input.rest().len(),
     };
     Ok((outcome, notes.into_bytes()))
+}
+
+/// Runs `show` on an input without end, and explains the outcome. Returns the text that is printed, and the
+/// explanation.
+pub fn show_endless(alloc: Global) -> Result<(Vec<u8>, Vec<u8>), Fail> {
+    let mut papers = Papers::new(alloc, 0, FileFault::Failed);
+    let line = line_of(alloc, &["show"])?;
+    let mut out = Sheet::new(alloc, 1000, 0)?;
+    let mut notes = Sheet::new(alloc, 1000, 0)?;
+    let ended = perform(alloc, line.as_slice(), &mut papers, &mut Endless, &mut out);
+    explain(alloc, line.as_slice(), ended, &mut notes);
+    Ok((out.into_bytes(), notes.into_bytes()))
 }
 
 /// Runs the tool, which must print this and end with this status. Its explanation must begin with this text. If the
