@@ -1,7 +1,9 @@
 //! Tests the explanation of an outcome, on an output of its own.
 use pef_tool::FileFault;
 use std::test::Fail;
-use test_bench::runs::{Handed, assert_explains, run_explained};
+use test_bench::changes::{At, changed};
+use test_bench::containers::{SPELLED, VECTORS_LEAST};
+use test_bench::runs::{Handed, assert_explains, run_explained, show_endless};
 use test_bench::scripts::{EXAMPLE, EXAMPLE_SHOWN, USER, VECTORS, VECTORS_CERTIFIED};
 
 /// Invalid command lines, and the start and a part of their explanation.
@@ -141,6 +143,56 @@ fn refusals(rt: HostRuntime) -> Result<(), Fail> {
     for (handed, printed, begins) in rows {
         assert_explains(rt.alloc(), handed, printed, 1, begins)?;
     }
+    Ok(())
+}
+
+/// Damaged containers: the offset and the changed bytes, the text that `load` prints, and the sentence that its
+/// explanation begins with (docs/ERRORS.md).
+const LOADED: &[(&[u8], usize, &[u8], &[u8], &[u8])] = &[
+    // pattern-initialized data that begins with a count of 35 bits
+    (
+        SPELLED,
+        64,
+        b"\x02",
+        b"refused 23 CountTooLarge in x\n",
+        b"A section's packed data has a count that doesn't fit 32 bits. ",
+    ),
+    // a third transition vector, past the end of the section
+    (
+        VECTORS_LEAST,
+        229,
+        b"\x02",
+        b"refused 37 WordOutside in x\n",
+        b"A relocation program changes a word that passes the end of its section's memory. ",
+    ),
+    // a section of more than 256 megabytes
+    (
+        SPELLED,
+        48,
+        b"\x0F\xFF\x00\x01",
+        b"refused 67 NoRoom in x\n",
+        b"No address below the limit has room for the next section. ",
+    ),
+];
+
+#[test]
+fn fragments(rt: HostRuntime) -> Result<(), Fail> {
+    for row in LOADED {
+        let (container, at, other, printed, begins) = *row;
+        let bytes = changed(rt.alloc(), container, At::Front(at), other).ok_or("no such place")?;
+        let handed = Handed::file(&["load", "x=a"], bytes.as_slice());
+        assert_explains(rt.alloc(), handed, printed, 1, begins)?;
+    }
+    Ok(())
+}
+
+/// An input that is longer than the limit.
+#[test]
+fn long_input(rt: HostRuntime) -> Result<(), Fail> {
+    let (printed, explained) = show_endless(rt.alloc())?;
+    assert!(rt; printed.as_slice() == b"refused 74 InputTooLong\n".as_slice());
+    let begins = b"The standard input has more than 536,870,912 bytes. ";
+    assert!(rt; explained.as_slice().starts_with(begins));
     Ok(())
 }
 
