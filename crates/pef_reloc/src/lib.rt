@@ -27,6 +27,7 @@ pub use instr::{Instr, Repeat};
 pub use program::{Instrs, Program};
 pub use recent::MAX_STEPS;
 pub use relocate::apply;
+pub use stop::Stop;
 pub use theorems::{
     acts_in_turn, additions_inside, readable_programs, refusals_have_places, spelled_programs,
 };

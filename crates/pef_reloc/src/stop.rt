@@ -4,8 +4,8 @@ ghost use Rattle.pef_reloc.specs.Applied.{fault_at};
 use crate::fault::RelocFault;
 
 /// Why an instruction is stopped, with the offset in the section of the word that it asks to add to.
-#[derive(Clone, Copy)]
-pub(crate) enum Stop {
+#[derive(Clone, Copy, Debug, PartialEq, Eq)]
+pub enum Stop {
     /// The word would pass the end of the section.
     PastEnd(u64),
     /// The import to be added to it doesn't exist.
