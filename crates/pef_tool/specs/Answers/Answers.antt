@@ -52,7 +52,7 @@ abbrev pub answer_usage : Answer
 answer_usage = record { text = codes "usage\n"; outcome = Usage }
 
 -- the whole answer is written, and the run has its outcome, with a detail if one is known. Or a prefix of it is written,
--- and the output fails at its last call.
+-- the output fails at its last call, and the outcome says so.
 abbrev pub IsDelivered : Stream → Stream → Answer → Outcome → Type 0
 IsDelivered before after answer outcome =
     (Grows before.bytes after.bytes answer.text × NoneFailed before after × (undetailed outcome ≡ answer.outcome))
