@@ -259,7 +259,7 @@ uint32_t pef_section_name(const uint8_t *container, size_t container_length, siz
 
 /*
  * Expands the raw bytes of a section of kind PEF_KIND_PACKED, until `out` is full: its length is the section's
- * unpacked_size. Refusals are 21 to 25, after which `out` has any bytes.
+ * unpacked_size. Refusals are 21 to 25, after which the contents of `out` are unspecified.
  */
 uint32_t pef_expand(const uint8_t *packed, size_t packed_length, uint8_t *out, size_t out_length);
 
