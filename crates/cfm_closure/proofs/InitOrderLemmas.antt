@@ -108,7 +108,7 @@ module _ (pairs : List Pair) (s : Walked) where
     pub ready : is_ready pairs s p ≡ true
     pub passed : (q : ℕ) → Contains front q → (is_marked s q ≡ true) ⊎ (is_ready pairs s q ≡ false)
 
-  -- one that is passed by stands before it
+  -- one that is passed by comes before it
   picked-later : (x : ℕ) (order : List ℕ) (p : ℕ) → (is_marked s x ≡ true) ⊎ (is_ready pairs s x ≡ false) → IsPicked order p → IsPicked (x ∷ order) p
   picked-later x order p passed later = record {
     front = x ∷ later.front;

@@ -63,7 +63,7 @@ const READ: &[(&[u8], u32, Option<usize>)] = &[
         0,
         None,
     ),
-    // The offset is that of the instruction, behind others of one and two halfwords.
+    // The offset is that of the instruction, after others of one and two halfwords.
     (&[0x42, 0x00, 0x4C, 0x00], 31, Some(2)),
     (
         &[0xA0, 0x00, 0x00, 0x00, 0x42, 0x00, 0xC0, 0x00],

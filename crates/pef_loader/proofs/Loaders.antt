@@ -1,9 +1,9 @@
 -- What the acceptance of a loader section says, and what it takes.
 use Rattle.std.proofs.Common.{◌≡◌, ℕ, ◌+◌, ◌*◌, ◌<◌, ◌≤◌, Bool, true, false, not, List, Option, None, Some, length, drop, take, refl, sym, ◌∙◌, ap, subst, arith}
-use Rattle.std.specs.Prelude.{◌&&◌, ◌||◌, Ok, Err, IsTrue, IfSome, nat_lt, nat_le}
+use Rattle.std.specs.Prelude.{◌||◌, Ok, Err, IsTrue, IfSome, nat_lt, nat_le}
 use Rattle.std.specs.Option.{is_none, option_map_or}
 use Rattle.std.proofs.lemmas.Option.{cond_some, same_Some}
-use Rattle.std.proofs.lemmas.Bool.{not-false, and_parts, le-leb, leb-false, ltb-false}
+use Rattle.std.proofs.lemmas.Bool.{not-false, le-leb, leb-false, ltb-false}
 use Rattle.pef_words.specs.Bytes.{name_at, part_of}
 use Rattle.pef_words.specs.Refusals.{first_among, first_met}
 use Rattle.pef_words.proofs.Laws.Refusals.{first_unmet, none_among, some_among, unless_ok}

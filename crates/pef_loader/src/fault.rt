@@ -105,7 +105,7 @@ impl LoaderFault {
         self.offset_in(header)
     }
 
-    /// Does the same if the header is there.
+    /// Returns the offset of the field, from what the header of the loader section says.
     fn offset_in(&self, header: LoaderHeader) -> Option<usize>
         ensures { result ≡ offset_in header self.now }
     {

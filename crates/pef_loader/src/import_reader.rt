@@ -72,7 +72,8 @@ impl<'a> ImportReader<'a> {
         }
     }
 
-    /// Does the same if no block was painted yet. Inside `owner`, each call would pay for the locals of a block.
+    /// Returns the first library of import `j` if no block was painted yet. Inside `owner`, each call would pay for the
+    /// locals of a block.
     #[inline(never)]
     fn first_owner(&mut self, j: usize) -> Option<usize>
         ensures value { result ≡ owner_of self.old.loader.tables.cut.bytes.now self.old.loader.tables.header j }

@@ -311,7 +311,7 @@ fn test_imports(
     }
 }
 
-/// Does the same if the libraries are in the order of their imports.
+/// Tests the imports of libraries that are in the order of their imports.
 fn test_imports_in_order(tables: LoaderTables<'_>, names_end: usize) -> Result<(), LoaderFault>
     requires names { NamesEndAt tables.cut.bytes.now names_end }
     requires order { AreInOrder tables.cut.bytes.now tables.header.library_count }
@@ -326,7 +326,7 @@ fn test_imports_in_order(tables: LoaderTables<'_>, names_end: usize) -> Result<(
     Ok(())
 }
 
-/// Does the same for libraries in any order. Inside `test_imports`, each call would pay for the locals.
+/// Tests the imports of libraries in any order. Inside `test_imports`, each call would pay for the locals.
 #[inline(never)]
 fn test_imports_by_blocks(tables: LoaderTables<'_>, names_end: usize) -> Result<(), LoaderFault>
     requires { NamesEndAt tables.cut.bytes.now names_end }
