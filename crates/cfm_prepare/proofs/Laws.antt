@@ -3,7 +3,6 @@
 -- a fragment that is present is prepared with the present addresses; so is each of a closure that was
 -- prepared
 pub use Rattle.cfm_prepare.proofs.NowLemmas.{run-now, run-prepares}
-
 -- fragments after others; a closing keeps those that are needed; a fragment that stays present keeps its places
 pub use Rattle.cfm_prepare.proofs.SlotLemmas.{places-append, present-append}
 pub use Rattle.cfm_prepare.proofs.RunLemmas.{present-needed}
