@@ -8,9 +8,9 @@ use Rattle.cfm_prepare.specs.Addresses.{section_of}
 use Rattle.cfm_prepare.specs.Fragments.{extents_in, places_of, present_of}
 use Rattle.cfm_prepare.specs.Contexts.{ContextState}
 
--- a fragment's sections were placed, as its container says, in some memory. `Prepares` says in which one, and the law
--- `kept_fragments` that they stay. In the memory of now each has its prepared bytes, with the addresses that its
--- sections and its imports' targets have now
+-- a fragment's sections were placed, as its container says, in some memory `before`, which is left open here: for linked
+-- fragments the headline says which one. The law `kept_fragments` says that they stay. In the memory of now each has its
+-- prepared bytes, with the addresses that its sections and its imports' targets have now
 pub record IsPreparedNow (pairs : List Pair) (s : ContextState) (p : ℕ) : Type 0 where
   pub before : Layout
   pub empty : Layout
