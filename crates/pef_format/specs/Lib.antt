@@ -2,3 +2,4 @@ pub mod Sections
 pub mod Symbols
 pub mod Exports
 pub mod Entries
+pub mod Places

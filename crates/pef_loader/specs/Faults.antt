@@ -1,16 +1,17 @@
 -- The errors of a loader section, their numbers, and the fields that they are about.
-use Rattle.std.specs.Prelude.{ℕ, ◌+◌, List, Option, None, Some, codes, nat_le, if◌then◌else◌}
-use Rattle.pef_words.specs.Refusals.{◌>>=◌}
-use Rattle.pef_hash.specs.Exports.{export_place}
-use Rattle.pef_hash.specs.Limits.{most_power}
+use Rattle.std.specs.Prelude.{ℕ, List, Option, codes}
+use Rattle.pef_format.specs.Places.{field_from}
+use Rattle.pef_format.specs.declared.place.Part.{Part}
+use Rattle.pef_format.specs.declared.place.Part.TheVariants as part
+use Rattle.pef_format.specs.declared.place.Place.{Place}
+use Rattle.pef_views.specs.Container.{Contained}
 use Rattle.pef_loader.specs.declared.header.EntryKind.{EntryKind}
 use Rattle.pef_loader.specs.declared.header.EntryKind.TheVariants.{Main, Init, Term}
-use Rattle.pef_loader.specs.declared.header.LoaderHeader.{LoaderHeader}
 use Rattle.pef_loader.specs.declared.fault.NamedRow.{NamedRow}
 use Rattle.pef_loader.specs.declared.fault.NamedRow.TheVariants.{Library, Import, Export}
 use Rattle.pef_loader.specs.declared.fault.LoaderFault.{LoaderFault}
 use Rattle.pef_loader.specs.declared.fault.LoaderFault.TheVariants.{LoaderShort, BadTableOffset, BadName, BadLibraryRange, OrphanImport, BadEntry, BadRelocSection, RelocOutside, BadExportTable, BadExportSection}
-use Rattle.pef_loader.specs.Header.{header_of, import_place, library_place, reloc_place}
+use Rattle.pef_loader.specs.Places.{place_of, start_in}
 
 abbrev pub fault_number : LoaderFault → ℕ
 fault_number LoaderShort = 11
@@ -37,41 +38,46 @@ fault_name (RelocOutside k) = codes "RelocOutside"
 fault_name BadExportTable = codes "BadExportTable"
 fault_name (BadExportSection export) = codes "BadExportSection"
 
--- the offset of an entry point's section number: mainSection, initSection or termSection
-abbrev pub entry_field : EntryKind → ℕ
-entry_field Main = 0
-entry_field Init = 8
-entry_field Term = 16
+-- a row of a loader section, and the offset of a field in it
+pub record RowField : Type 0 where
+  pub part : Part
+  pub row : ℕ
+  pub field : ℕ
 
--- the offset of a field of export e, or none if there would be more slots than a table may have
-abbrev pub export_field : LoaderHeader → ℕ → ℕ → Option ℕ
-export_field h e field =
-    if nat_le h.export_power most_power
-    then Some (h.export_hash_offset + export_place h.export_power h.export_count e + field)
-    else None
+abbrev pub field_of : Part → ℕ → ℕ → RowField
+field_of kind row field = record { part = kind; row = row; field = field }
 
--- the offset of the field that says where a row's name begins: nameOffset of a library, classAndName of an import and
--- of an export
-abbrev pub name_field : LoaderHeader → NamedRow → Option ℕ
-name_field h (Library i) = Some (library_place i)
-name_field h (Import j) = Some (import_place h j)
-name_field h (Export e) = export_field h e 0
+-- the part that an entry point is
+abbrev pub entry_part : EntryKind → Part
+entry_part Main = part.Main
+entry_part Init = part.Init
+entry_part Term = part.Term
 
--- the offset of the field that an error is about, in a loader section with this header: importedLibraryCount,
--- firstImportedSymbol of a library, classAndName of an import, sectionIndex and relocCount of a relocation header,
--- exportHashOffset, and sectionIndex of an export
-abbrev pub offset_in : LoaderHeader → LoaderFault → Option ℕ
-offset_in h LoaderShort = None
-offset_in h BadTableOffset = Some 24
-offset_in h (BadName of) = name_field h of
-offset_in h (BadLibraryRange library) = Some (library_place library + 16)
-offset_in h (OrphanImport import) = Some (import_place h import)
-offset_in h (BadEntry entry) = Some (entry_field entry)
-offset_in h (BadRelocSection k) = Some (reloc_place h k)
-offset_in h (RelocOutside k) = Some (reloc_place h k + 4)
-offset_in h BadExportTable = Some 44
-offset_in h (BadExportSection export) = export_field h export 8
+-- the field that says where a row's name begins: nameOffset of a library, classAndName of an import and of an export
+abbrev pub name_field : NamedRow → RowField
+name_field (Library i) = field_of part.Library i 0
+name_field (Import j) = field_of part.Import j 0
+name_field (Export e) = field_of part.Export e 0
 
--- the same in a loader section of these bytes
-unfoldable pub fault_offset : List ℕ → LoaderFault → Option ℕ
-fault_offset bytes fault = header_of bytes >>= (λ h. offset_in h fault)
+-- the field that an error is about: importedLibraryCount and exportHashOffset of the loader header, firstImportedSymbol
+-- of a library, classAndName of an import, sectionIndex and relocCount of a relocation header, sectionIndex of an export,
+-- and mainSection, initSection or termSection of an entry point
+abbrev pub fault_field : LoaderFault → RowField
+fault_field LoaderShort = field_of part.LoaderHeader 0 0
+fault_field BadTableOffset = field_of part.LoaderHeader 0 24
+fault_field (BadName of) = name_field of
+fault_field (BadLibraryRange library) = field_of part.Library library 16
+fault_field (OrphanImport import) = field_of part.Import import 0
+fault_field (BadEntry entry) = field_of (entry_part entry) 0 0
+fault_field (BadRelocSection k) = field_of part.Relocation k 0
+fault_field (RelocOutside k) = field_of part.Relocation k 4
+fault_field BadExportTable = field_of part.LoaderHeader 0 44
+fault_field (BadExportSection export) = field_of part.Export export 8
+
+-- the offset of that field in a loader section of these bytes
+abbrev pub fault_offset : List ℕ → LoaderFault → Option ℕ
+fault_offset bytes fault = let f = fault_field fault in field_from (start_in bytes f.part f.row) f.field
+
+-- the place of an error of a container's loader section
+abbrev pub fault_place : Contained → LoaderFault → Place
+fault_place c fault = let f = fault_field fault in place_of c f.part f.row f.field

@@ -2,6 +2,7 @@
 pub mod Accepted
 pub mod Blocks
 pub mod Cursors
+pub mod Fields
 pub mod Names
 pub mod Ranges
 pub mod Tests

@@ -5,5 +5,7 @@ pub mod Import
 pub mod Kept
 pub mod Library
 pub mod Loader
+pub mod Places
+pub mod Programs
 pub mod Reloc
 pub mod Views

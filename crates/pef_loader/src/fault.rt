@@ -1,14 +1,17 @@
-ghost use Rattle.std.specs.Prelude.{◌≡◌, ◌<◌};
-ghost use Rattle.pef_loader.specs.Faults.{export_field, fault_name, fault_number, fault_offset, name_field, offset_in};
+ghost use Rattle.std.specs.Prelude.{◌≡◌};
+ghost use Rattle.pef_format.specs.declared.place.Part.TheVariants.{LoaderHeader};
+ghost use Rattle.pef_views.specs.Views.{contained};
+ghost use Rattle.pef_loader.specs.Faults.{fault_field, fault_name, fault_number, fault_offset, fault_place, field_of, name_field};
+ghost use Rattle.pef_loader.specs.Kept.Fields.{field_seen};
 
-use crate::header::{EntryKind, LoaderHeader, library_place, read_header};
+use crate::header::EntryKind;
+use crate::place::{field_from, place_in, start_in};
 use pef_format::layout::{
     EXPORT_CLASS_AND_NAME_AT, EXPORT_HASH_OFFSET_AT, EXPORT_SECTION_AT, FIRST_IMPORTED_SYMBOL_AT,
-    IMPORTED_LIBRARY_COUNT_AT, LIBRARY_NAME_OFFSET_AT, MAX_HASH_TABLE_POWER, RELOC_COUNT_AT,
-    SECTION_INDEX_AT,
+    IMPORTED_LIBRARY_COUNT_AT, LIBRARY_NAME_OFFSET_AT, RELOC_COUNT_AT, SECTION_INDEX_AT,
 };
-use pef_hash::export_place;
-use pef_words::Cut;
+use pef_format::{Part, Place};
+use pef_views::Container;
 use std::fmt;
 use thiserror::Error;
 
@@ -94,65 +97,82 @@ impl LoaderFault {
 
     /// Returns the offset in the loader section of the field that the broken rule is about.
     ///
-    /// `loader` has the bytes of the loader section. `None` if its header passes the end, and so for
-    /// [`LoaderFault::LoaderShort`]. An export has no offset if there would be more than 2^30 slots.
-    /// [`Loader::read`](crate::Loader::read) never reports a fault of such an export.
-    #[tactic(auto, unfolding(crate::specs::Faults::fault_offset))]
+    /// `loader` has the bytes of the loader section. `None` if the header passes the end and the field is after the
+    /// libraries. An export has no offset if there would be more than 2^30 slots.
+    /// [`Loader::read`](crate::Loader::read) reports no such fault.
     pub fn offset(&self, loader: &[u8]) -> Option<usize>
         ensures { result ≡ fault_offset loader.now self.now }
     {
-        let header = read_header(Cut::new(loader))?;
-        self.offset_in(header)
+        let of = self.field();
+        field_from(start_in(loader, of.part, of.row), of.field)
     }
 
-    /// Returns the offset of the field, from what the header of the loader section says.
-    fn offset_in(&self, header: LoaderHeader) -> Option<usize>
-        ensures { result ≡ offset_in header self.now }
+    /// Returns the place of that field in the container whose loader section it is.
+    pub fn place(&self, container: &Container<'_>) -> Place
+        ensures { result ≡ fault_place (contained container.now) self.now }
+    {
+        let of = self.field();
+        place_in(container, of.part, of.row, of.field)
+    }
+
+    /// Returns the field that the broken rule is about.
+    fn field(&self) -> RowField
+        ensures { field_seen result ≡ fault_field self.now }
     {
         match *self {
-            LoaderFault::LoaderShort => None,
-            LoaderFault::BadTableOffset => Some(IMPORTED_LIBRARY_COUNT_AT),
-            LoaderFault::BadName { of } => name_field(header, of),
+            LoaderFault::LoaderShort => loader_field(0),
+            LoaderFault::BadTableOffset => loader_field(IMPORTED_LIBRARY_COUNT_AT),
+            LoaderFault::BadName { of } => name_field(of),
             LoaderFault::BadLibraryRange { library } => {
-                Some(library_place(library as usize) + FIRST_IMPORTED_SYMBOL_AT)
+                row_field(Part::Library, library, FIRST_IMPORTED_SYMBOL_AT)
             }
-            LoaderFault::OrphanImport { import } => Some(header.import(import as usize)),
-            LoaderFault::BadEntry { entry } => Some(entry.section_field()),
-            LoaderFault::BadRelocSection { header: k } => {
-                Some(header.reloc(k as usize) + SECTION_INDEX_AT)
+            LoaderFault::OrphanImport { import } => row_field(Part::Import, import, 0),
+            LoaderFault::BadEntry { entry } => row_field(entry.part(), 0, 0),
+            LoaderFault::BadRelocSection { header } => {
+                row_field(Part::Relocation, header, SECTION_INDEX_AT)
             }
-            LoaderFault::RelocOutside { header: k } => {
-                Some(header.reloc(k as usize) + RELOC_COUNT_AT)
+            LoaderFault::RelocOutside { header } => {
+                row_field(Part::Relocation, header, RELOC_COUNT_AT)
             }
-            LoaderFault::BadExportTable => Some(EXPORT_HASH_OFFSET_AT),
+            LoaderFault::BadExportTable => loader_field(EXPORT_HASH_OFFSET_AT),
             LoaderFault::BadExportSection { export } => {
-                export_field(header, export, EXPORT_SECTION_AT)
+                row_field(Part::Export, export, EXPORT_SECTION_AT)
             }
         }
     }
 }
 
-/// Returns the offset of the field that says where a row's name begins.
-fn name_field(header: LoaderHeader, of: NamedRow) -> Option<usize>
-    ensures { result ≡ name_field header of }
-{
-    match of {
-        NamedRow::Library(i) => Some(library_place(i as usize) + LIBRARY_NAME_OFFSET_AT),
-        NamedRow::Import(j) => Some(header.import(j as usize)),
-        NamedRow::Export(e) => export_field(header, e, EXPORT_CLASS_AND_NAME_AT),
-    }
+/// A row of a loader section, and the offset of a field in it.
+#[derive(Clone, Copy)]
+struct RowField {
+    part: Part,
+    row: u32,
+    field: usize,
 }
 
-/// Returns the offset of a field of export `e`, or `None` if the table would have more than 2^30 slots.
-fn export_field(header: LoaderHeader, e: u32, field: usize) -> Option<usize>
-    requires { field < 10 }
-    ensures { result ≡ export_field header e field }
+/// Returns a field of a row.
+fn row_field(part: Part, row: u32, field: usize) -> RowField
+    ensures { field_seen result ≡ field_of part row field }
 {
-    if header.export_power > MAX_HASH_TABLE_POWER {
-        return None;
+    RowField { part, row, field }
+}
+
+/// Returns a field of the loader header.
+fn loader_field(field: usize) -> RowField
+    ensures { field_seen result ≡ field_of LoaderHeader 0 field }
+{
+    row_field(Part::LoaderHeader, 0, field)
+}
+
+/// Returns the field that says where a row's name begins.
+fn name_field(of: NamedRow) -> RowField
+    ensures { field_seen result ≡ name_field of }
+{
+    match of {
+        NamedRow::Library(i) => row_field(Part::Library, i, LIBRARY_NAME_OFFSET_AT),
+        NamedRow::Import(j) => row_field(Part::Import, j, 0),
+        NamedRow::Export(e) => row_field(Part::Export, e, EXPORT_CLASS_AND_NAME_AT),
     }
-    let place = export_place(header.export_power, header.export_count, e as usize);
-    Some(header.export_hash_offset as usize + place + field)
 }
 
 impl fmt::Display for LoaderFault {

@@ -1,5 +1,5 @@
 ghost use Rattle.std.specs.Prelude.{◌≡◌, ◌+◌, ◌<◌, ◌^◌};
-ghost use Rattle.pef_loader.specs.Faults.{entry_field};
+ghost use Rattle.pef_loader.specs.Faults.{entry_part};
 ghost use Rattle.pef_loader.specs.Header.{header_of, import_place, is_entry, library_place, reloc_place, tables_end};
 
 use pef_format::layout::{
@@ -9,7 +9,7 @@ use pef_format::layout::{
     RELOC_SECTION_COUNT_AT, RELOCATION_HEADER_SIZE, TERM_OFFSET_AT, TERM_SECTION_AT,
     TOTAL_IMPORTED_SYMBOL_COUNT_AT,
 };
-use pef_format::{EntryPoint, is_entry_section};
+use pef_format::{EntryPoint, Part, is_entry_section};
 use pef_words::Cut;
 
 /// The loader header, field by field (PEFLoaderInfoHeader). Offsets are relative to the first byte of the loader
@@ -87,14 +87,14 @@ pub enum EntryKind {
 }
 
 impl EntryKind {
-    /// Returns the offset in the loader section of the entry point's section number.
-    pub(crate) fn section_field(self) -> usize
-        ensures { result ≡ entry_field self }
+    /// Returns the part of a container that the entry point is.
+    pub(crate) fn part(self) -> Part
+        ensures { result ≡ entry_part self }
     {
         match self {
-            EntryKind::Main => MAIN_SECTION_AT,
-            EntryKind::Init => INIT_SECTION_AT,
-            EntryKind::Term => TERM_SECTION_AT,
+            EntryKind::Main => Part::Main,
+            EntryKind::Init => Part::Init,
+            EntryKind::Term => Part::Term,
         }
     }
 }

@@ -37,6 +37,12 @@ loader_here bytes h i =
 abbrev pub loader_of : List ℕ → Header → Option (List ℕ)
 loader_of bytes h = first_among (loader_here bytes h) 0 h.section_count
 
+-- where the raw bytes of section i begin, if it is such a section
+abbrev pub loader_offset_here : List ℕ → Header → ℕ → Option ℕ
+loader_offset_here bytes h i =
+    if is_instantiated h i then None
+    else section_at bytes i >>= (λ s. if is_loader (kind_of s.section_kind) then Some s.container_offset else None)
+
 -- what the container consists of, if it has a loader section
 abbrev pub with_loader : List ℕ → Header → Option (List ℕ) → Result Contained ViewFault
 with_loader bytes h None = Err NoLoader
@@ -56,6 +62,10 @@ container_of bytes = option_map_or (judged bytes) (header_of bytes) (Err TooShor
 -- the container is what its own bytes are read as
 abbrev pub IsContainer : Contained → Type 0
 IsContainer c = container_of c.bytes ≡ Ok c
+
+-- where the loader section begins
+unfoldable pub loader_offset_of : Contained → Option ℕ
+loader_offset_of c = first_among (loader_offset_here c.bytes c.header) 0 c.header.section_count
 
 -- a section: its header and its raw bytes
 pub record Section : Type 0 where

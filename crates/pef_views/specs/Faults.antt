@@ -1,5 +1,9 @@
 -- The refusals of a container, with their numbers and names. They are this project's own.
-use Rattle.std.specs.Prelude.{ℕ, List, Option, None, Some, ◌+◌, codes}
+use Rattle.std.specs.Prelude.{ℕ, List, Option, None, Some, codes}
+use Rattle.std.specs.Option.{option_and_then}
+use Rattle.pef_format.specs.Places.{placed_from}
+use Rattle.pef_format.specs.declared.place.Part.TheVariants as part
+use Rattle.pef_format.specs.declared.place.Place.{Place}
 use Rattle.pef_views.specs.Header.{section_header_from}
 use Rattle.pef_views.specs.declared.fault.ViewFault.{ViewFault}
 use Rattle.pef_views.specs.declared.fault.ViewFault.TheVariants.{TooShort, BadTag, BadArchitecture, BadFormatVersion, BadSectionCounts, SectionOutside, BadSectionKind, BadSizes, BadAlignment, NoLoader}
@@ -30,16 +34,26 @@ fault_name (BadSizes section) = codes "BadSizes"
 fault_name (BadAlignment section) = codes "BadAlignment"
 fault_name NoLoader = codes "NoLoader"
 
--- the offset in a container of the field that a fault is about: tag1, architecture, formatVersion and
--- instSectionCount of the container header; containerOffset, sectionKind, unpackedSize and alignment of a section's
+-- where a fault is: tag1, architecture, formatVersion and instSectionCount of the container header; containerOffset,
+-- sectionKind, unpackedSize and alignment of a section's
+abbrev pub header_place : ℕ → Option Place
+header_place field = Some (placed_from (Some 0) part.Header 0 field)
+
+abbrev pub section_place : ℕ → ℕ → Option Place
+section_place section field = Some (placed_from (Some (section_header_from section)) part.Section section field)
+
+abbrev pub fault_place : ViewFault → Option Place
+fault_place TooShort = None
+fault_place BadTag = header_place 0
+fault_place BadArchitecture = header_place 8
+fault_place BadFormatVersion = header_place 12
+fault_place BadSectionCounts = header_place 34
+fault_place (SectionOutside section) = section_place section 20
+fault_place (BadSectionKind section) = section_place section 24
+fault_place (BadSizes section) = section_place section 12
+fault_place (BadAlignment section) = section_place section 26
+fault_place NoLoader = None
+
+-- the offset in a container of the field that it is about
 abbrev pub fault_offset : ViewFault → Option ℕ
-fault_offset TooShort = None
-fault_offset BadTag = Some 0
-fault_offset BadArchitecture = Some 8
-fault_offset BadFormatVersion = Some 12
-fault_offset BadSectionCounts = Some 34
-fault_offset (SectionOutside section) = Some (section_header_from section + 20)
-fault_offset (BadSectionKind section) = Some (section_header_from section + 24)
-fault_offset (BadSizes section) = Some (section_header_from section + 12)
-fault_offset (BadAlignment section) = Some (section_header_from section + 26)
-fault_offset NoLoader = None
+fault_offset fault = option_and_then (λ (place : Place). place.offset) (fault_place fault)

@@ -1,8 +1,8 @@
-ghost use Rattle.std.specs.Prelude.{◌≡◌, ◌<◌, ◌≤◌, ◌↔◌, None, Ok, IsSome, IfSome, option_map, length};
+ghost use Rattle.std.specs.Prelude.{◌≡◌, ◌<◌, ◌≤◌, ◌↔◌, ◌^◌, None, Ok, IsSome, IfSome, option_map, length};
 ghost use Rattle.std.specs.Result.{result_err};
 ghost use Rattle.std.specs.Option.{option_copied};
 ghost use Rattle.pef_words.specs.Refusals.{first_among, result_map};
-ghost use Rattle.pef_views.specs.Container.{IsInstantiable, container_of, loader_here, loader_of, section_refusal, section_name_of, section_of};
+ghost use Rattle.pef_views.specs.Container.{IsInstantiable, container_of, loader_here, loader_of, loader_offset_here, loader_offset_of, section_refusal, section_name_of, section_of};
 
 use crate::fault::ViewFault;
 use crate::header::{Header, names_at, read_header, test_header};
@@ -93,6 +93,17 @@ impl<'a> Container<'a> {
         self.loader
     }
 
+    /// Returns the offset in the container of the first byte of the loader section.
+    ///
+    /// It is looked for among the section headers.
+    #[tactic(auto, unfolding(crate::specs::Container::loader_offset_of))]
+    pub fn loader_offset(&self) -> Option<usize>
+        ensures value { result ≡ loader_offset_of (contained self.now) }
+        ensures small { IfSome result (λ offset. offset < 2 ^ 32) }
+    {
+        loader_offset(self.cut, self.header)
+    }
+
     /// Returns the name of section `i`, without the zero byte at its end.
     ///
     /// `None` past the last section, at a negative name offset, and if no zero byte follows in the
@@ -155,4 +166,34 @@ fn loader_at<'a>(cut: Cut<'a>, header: Header, i: usize) -> Option<&'a [u8]>
         return None;
     }
     Some(raw_bytes(cut, section))
+}
+
+/// Returns where the first loader section that isn't instantiated begins.
+fn loader_offset(cut: Cut<'_>, header: Header) -> Option<usize>
+    ensures value { result ≡ first_among (loader_offset_here cut.entry.bytes.now header) 0 header.section_count }
+    ensures small { IfSome result (λ offset. offset < 2 ^ 32) }
+{
+    for i in 0..usize::from(header.section_count) {
+        match loader_offset_at(cut, header, i) {
+            Some(offset) => return Some(offset),
+            None => {}
+        }
+    }
+    None
+}
+
+/// Returns where section `i` begins, if it is a loader section that isn't instantiated.
+fn loader_offset_at(cut: Cut<'_>, header: Header, i: usize) -> Option<usize>
+    requires { i < 2 ^ 16 }
+    ensures value { result ≡ loader_offset_here cut.entry.bytes.now header i }
+    ensures small { IfSome result (λ offset. offset < 2 ^ 32) }
+{
+    if i < usize::from(header.instantiated_section_count) {
+        return None;
+    }
+    let section = read_section(cut, i)?;
+    if !section.kind().is_loader() {
+        return None;
+    }
+    Some(section.container_offset as usize)
 }

@@ -1,12 +1,12 @@
-ghost use Rattle.std.specs.Prelude.{◌≡◌, ◌<◌, ◌+◌};
-ghost use Rattle.pef_views.specs.Faults.{fault_name, fault_number, fault_offset};
-ghost use Rattle.pef_views.specs.Header.{section_header_from};
+ghost use Rattle.std.specs.Prelude.{◌≡◌, ◌<◌};
+ghost use Rattle.pef_views.specs.Faults.{fault_name, fault_number, fault_offset, fault_place, header_place, section_place};
 
 use crate::header::section_header_at;
 use pef_format::layout::{
     ALIGNMENT_AT, ARCHITECTURE_AT, CONTAINER_OFFSET_AT, FORMAT_VERSION_AT,
     INSTANTIATED_SECTION_COUNT_AT, SECTION_KIND_AT, TAG_1_AT, UNPACKED_SIZE_AT,
 };
+use pef_format::{Part, Place};
 use std::fmt;
 use thiserror::Error;
 
@@ -64,23 +64,32 @@ impl ViewFault {
         }
     }
 
-    /// Returns the offset in the container of the field that the broken rule is about.
+    /// Returns the place in the container of the field that the broken rule is about.
     ///
     /// `None` if the rule is about no field: the bytes are too short, or no section is the loader section.
-    pub fn offset(&self) -> Option<usize>
-        ensures { result ≡ fault_offset self.now }
+    pub fn place(&self) -> Option<Place>
+        ensures { result ≡ fault_place self.now }
     {
         match self {
             ViewFault::TooShort | ViewFault::NoLoader => None,
-            ViewFault::BadTag => Some(TAG_1_AT),
-            ViewFault::BadArchitecture => Some(ARCHITECTURE_AT),
-            ViewFault::BadFormatVersion => Some(FORMAT_VERSION_AT),
-            ViewFault::BadSectionCounts => Some(INSTANTIATED_SECTION_COUNT_AT),
-            ViewFault::SectionOutside { section } => Some(field_at(*section, CONTAINER_OFFSET_AT)),
-            ViewFault::BadSectionKind { section } => Some(field_at(*section, SECTION_KIND_AT)),
-            ViewFault::BadSizes { section } => Some(field_at(*section, UNPACKED_SIZE_AT)),
-            ViewFault::BadAlignment { section } => Some(field_at(*section, ALIGNMENT_AT)),
+            ViewFault::BadTag => Some(header_place(TAG_1_AT)),
+            ViewFault::BadArchitecture => Some(header_place(ARCHITECTURE_AT)),
+            ViewFault::BadFormatVersion => Some(header_place(FORMAT_VERSION_AT)),
+            ViewFault::BadSectionCounts => Some(header_place(INSTANTIATED_SECTION_COUNT_AT)),
+            ViewFault::SectionOutside { section } => {
+                Some(section_place(*section, CONTAINER_OFFSET_AT))
+            }
+            ViewFault::BadSectionKind { section } => Some(section_place(*section, SECTION_KIND_AT)),
+            ViewFault::BadSizes { section } => Some(section_place(*section, UNPACKED_SIZE_AT)),
+            ViewFault::BadAlignment { section } => Some(section_place(*section, ALIGNMENT_AT)),
         }
+    }
+
+    /// Returns the offset in the container of that field.
+    pub fn offset(&self) -> Option<usize>
+        ensures { result ≡ fault_offset self.now }
+    {
+        self.place()?.offset
     }
 
     /// Returns the refusal's name, which is its text.
@@ -102,12 +111,31 @@ impl ViewFault {
     }
 }
 
-/// Returns the offset in the container of a field of a section header.
-fn field_at(section: u16, field: usize) -> usize
-    requires { field < 28 }
-    ensures { result ≡ section_header_from section + field }
+/// Returns the place of a field of the container header.
+fn header_place(field: usize) -> Place
+    requires { field < 40 }
+    ensures { Some result ≡ header_place field }
 {
-    section_header_at(usize::from(section)) + field
+    Place {
+        part: Part::Header,
+        row: 0,
+        field,
+        offset: Some(field),
+    }
+}
+
+/// Returns the place of a field of a section header.
+fn section_place(section: u16, field: usize) -> Place
+    requires { field < 28 }
+    ensures { Some result ≡ section_place section field }
+{
+    let row = usize::from(section);
+    Place {
+        part: Part::Section,
+        row,
+        field,
+        offset: Some(section_header_at(row) + field),
+    }
 }
 
 impl fmt::Display for ViewFault {
