@@ -1,5 +1,5 @@
 -- How numbers and memory are printed (README, `pef show`): upper-case hex, sixteen bytes a line. Our own form.
-use Rattle.std.specs.Prelude.{ℕ, zero, suc, ◌+◌, ◌/◌, ◌%◌, List, [], ◌∷◌, ◌++◌, nat_lt, length, take, drop, if◌then◌else◌}
+use Rattle.std.specs.Prelude.{ℕ, zero, suc, ◌+◌, ◌/◌, ◌%◌, ◌==◌, List, [], ◌∷◌, ◌++◌, codes, nat_lt, length, take, drop, if◌then◌else◌}
 use Rattle.byteorder.specs.Endian.{big_bytes}
 
 -- an upper-case hexadecimal digit
@@ -14,6 +14,20 @@ hex_text (b ∷ bytes) = hex_digit (b / 16) ∷ hex_digit (b % 16) ∷ hex_text 
 -- the eight digits of a number of 32 bits
 abbrev pub word_text : ℕ → List ℕ
 word_text n = hex_text (big_bytes 4 n)
+
+-- digits without the zeros at their start, but for the last digit
+abbrev pub without_zeros : List ℕ → List ℕ
+without_zeros [] = []
+without_zeros (d ∷ []) = d ∷ []
+without_zeros (d ∷ e ∷ digits) = if d == 48 then without_zeros (e ∷ digits) else d ∷ e ∷ digits
+
+-- the digits of a number of 64 bits, without such zeros
+unfoldable pub digits_text : ℕ → List ℕ
+digits_text n = without_zeros (hex_text (big_bytes 8 n))
+
+-- an offset: `0x` and its digits
+abbrev pub offset_text : ℕ → List ℕ
+offset_text n = codes "0x" ++ digits_text n
 
 -- n groups of four bytes, each after a space
 unfoldable pub groups : ℕ → List ℕ → List ℕ

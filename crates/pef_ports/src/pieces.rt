@@ -1,7 +1,7 @@
-ghost use Rattle.std.specs.Prelude.{◌≤◌, length};
+ghost use Rattle.std.specs.Prelude.{◌≡◌, ◌≤◌, length};
 ghost use Rattle.pef_ports.specs.Pieces.{piece_text, pieces_text};
 ghost use Rattle.pef_ports.specs.Sent.{Sends};
-ghost use Rattle.pef_ports.specs.Text.{hex_text};
+ghost use Rattle.pef_ports.specs.Text.{digits_text, hex_text, offset_text, without_zeros};
 
 use crate::line::{Line, push_hex};
 use crate::name::print_name;
@@ -24,6 +24,8 @@ pub enum Piece<'a> {
     Halfword(u16),
     /// A number of 8 bits in two hex digits.
     Byte(u8),
+    /// A number as `0x` and its hex digits, without leading zeros.
+    Offset(u64),
 }
 
 /// Prints pieces one after the other.
@@ -54,6 +56,35 @@ fn print_piece<W: Sink>(out: &mut W, page: &mut Page, piece: Piece<'_>) -> Resul
         Piece::Word(n) => print_hex(out, page, &n.to_be_bytes()),
         Piece::Halfword(n) => print_hex(out, page, &n.to_be_bytes()),
         Piece::Byte(n) => print_hex(out, page, &[n]),
+        Piece::Offset(n) => print_offset(out, page, n),
+    }
+}
+
+/// Prints `0x` and the digits of a number.
+fn print_offset<W: Sink>(out: &mut W, page: &mut Page, n: u64) -> Result<(), StreamFault>
+    ensures { Sends result (W.stream out.old) (W.stream out.new) page.old.items page.new.items (offset_text n) }
+{
+    send(out, page, b"0x")?;
+    print_digits(out, page, n)
+}
+
+/// Prints the hex digits of a number, without leading zeros.
+#[tactic(auto, unfolding(crate::specs::Text::digits_text))]
+fn print_digits<W: Sink>(out: &mut W, page: &mut Page, n: u64) -> Result<(), StreamFault>
+    ensures { Sends result (W.stream out.old) (W.stream out.new) page.old.items page.new.items (digits_text n) }
+{
+    let mut digits = Line::new();
+    push_hex(&mut digits, &n.to_be_bytes());
+    send(out, page, without_zeros(digits.as_slice()))
+}
+
+/// Returns digits without the zeros at their start, but for the last digit.
+fn without_zeros(digits: &[u8]) -> &[u8]
+    ensures { result.now ≡ without_zeros digits.now }
+{
+    match digits {
+        [b'0', rest @ ..] if !rest.is_empty() => without_zeros(rest),
+        _ => digits,
     }
 }
 

@@ -1,0 +1,6 @@
+-- The digits that are left.
+use Rattle.std.proofs.Common.{length}
+use Rattle.pef_ports.proofs.pieces.+without_zeros.Given as goal
+
+abbrev pub decreases-without_zeros : goal.decreases-without_zeros
+decreases-without_zeros l = length l.digits.now
