@@ -5,6 +5,7 @@ pub mod Leads
 pub mod LineLemmas
 pub mod ListLemmas
 pub mod Offsets
+pub mod PlaceLemmas
 pub mod Placing
 pub mod Rising
 pub mod TableLemmas

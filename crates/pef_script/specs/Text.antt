@@ -1,9 +1,14 @@
 pub mod Contents
 pub mod Declarations
+pub mod Earlier
 pub mod Exports
 pub mod Faults
+pub mod Forms
 pub mod Grammar
 pub mod Kept
+pub mod Near
+pub mod Oddities
+pub mod Places
 pub mod Reads
 pub mod SoFar
 pub mod Words

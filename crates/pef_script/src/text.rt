@@ -4,11 +4,16 @@
 
 mod contents;
 mod declarations;
+mod earlier;
 mod exports;
 mod fault;
+mod form;
 mod kinds;
 mod limits;
+mod near;
 mod numbers;
+mod oddity;
+mod places;
 mod reader;
 mod script;
 mod sections;
@@ -16,5 +21,9 @@ mod tables;
 mod theorems;
 mod words;
 
+pub use earlier::{form_in, kind_in};
 pub use fault::{LineFault, ScriptFault};
-pub use theorems::scripts_hold;
+pub use form::{Form, Names, WordKind};
+pub use oddity::{Oddity, oddity_of};
+pub use places::{Word, line_at, line_in, word_range};
+pub use theorems::{places_are_inside, scripts_hold};

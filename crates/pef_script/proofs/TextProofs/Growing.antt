@@ -58,8 +58,8 @@ pub record NameRoom (names : List (List ℕ)) (limit : ℕ) (name : List ℕ) : 
 
 pub name_tests-unmet : (names : List (List ℕ)) (limit : ℕ) (name : List ℕ) (others : List (Bool × LineFault)) → first_met (name_tests names limit name ++ others) ≡ None → NameRoom names limit name × (first_met others ≡ None)
 name_tests-unmet names limit name others unmet =
-    let a = first_unmet (is_repeated names name) RepeatedName (first_met ((not (nat_lt (length names) limit), TooMany) ∷ others)) unmet in
-    let b = first_unmet (not (nat_lt (length names) limit)) TooMany (first_met others) a.1 in
+    let a = first_unmet (is_repeated names name) (RepeatedName 1) (first_met ((not (nat_lt (length names) limit), TooMany 1) ∷ others)) unmet in
+    let b = first_unmet (not (nat_lt (length names) limit)) (TooMany 1) (first_met others) a.1 in
     (record { new = new_name names name a.0; room = below_limit (length names) limit b.0 }, b.1)
 
 -- .. and whose bytes count
@@ -70,14 +70,14 @@ pub record CountedRoom (s : ScriptSoFar) (names : List (List ℕ)) (limit : ℕ)
 
 pub counted_tests-unmet : (s : ScriptSoFar) (names : List (List ℕ)) (limit : ℕ) (name : List ℕ) (others : List (Bool × LineFault)) → first_met (counted_name_tests s names limit name ++ others) ≡ None → CountedRoom s names limit name × (first_met others ≡ None)
 counted_tests-unmet s names limit name others unmet =
-    let a = name_tests-unmet names limit name ((has_no_room s name, TooMany) ∷ others) unmet in
-    let b = first_unmet (has_no_room s name) TooMany (first_met others) a.1 in
+    let a = name_tests-unmet names limit name ((has_no_room s name, TooMany 1) ∷ others) unmet in
+    let b = first_unmet (has_no_room s name) (TooMany 1) (first_met others) a.1 in
     (record { new = a.0.new; room = a.0.room; bytes = ltb-false _ _ b.0 }, b.1)
 
 pub bytes_tests-unmet : (s : ScriptSoFar) (k count : ℕ) → first_met (bytes_tests s k count) ≡ None → length (section_so_far s k).image + count ≤ (section_so_far s k).header.total
 bytes_tests-unmet s k count unmet =
     let section = section_so_far s k in
-    ltb-false _ _ (first_unmet (nat_lt section.header.total (length section.image + count)) OutsideSection None unmet).0
+    ltb-false _ _ (first_unmet (nat_lt section.header.total (length section.image + count)) (OutsideSection 2) None unmet).0
 
 -- room for more fixups
 pub record FixupRoom (section : DescribedSection) (offset count : ℕ) : Type 0 where
@@ -88,10 +88,10 @@ pub record FixupRoom (section : DescribedSection) (offset count : ℕ) : Type 0 
 pub fixup_tests-unmet : (s : ScriptSoFar) (k offset count : ℕ) → first_met (fixup_tests s k offset count) ≡ None → FixupRoom (section_so_far s k) offset count
 fixup_tests-unmet s k offset count unmet =
     let section = section_so_far s k in
-    let last = (overlaps section.fixups offset count, Overlap) ∷ [] in
-    let a = first_unmet (nat_lt most_fixups (length section.fixups + count)) TooMany (first_met ((nat_lt section.header.total (offset + 4 * count), OutsideSection) ∷ last)) unmet in
-    let b = first_unmet (nat_lt section.header.total (offset + 4 * count)) OutsideSection (first_met last) a.1 in
-    let c = first_unmet (overlaps section.fixups offset count) Overlap None b.1 in
+    let last = (overlaps section.fixups offset count, Overlap 2) ∷ [] in
+    let a = first_unmet (nat_lt most_fixups (length section.fixups + count)) (TooMany 1) (first_met ((nat_lt section.header.total (offset + 4 * count), OutsideSection 2) ∷ last)) unmet in
+    let b = first_unmet (nat_lt section.header.total (offset + 4 * count)) (OutsideSection 2) (first_met last) a.1 in
+    let c = first_unmet (overlaps section.fixups offset count) (Overlap 2) None b.1 in
     record { room = ltb-false _ _ a.0; inside = ltb-false _ _ b.0; free = c.0 }
 
 -- places, entries and exports, with more sections and imports
@@ -171,12 +171,12 @@ entered_import-is s library is =
     let n = length s.script.libraries in
     led (λ m. m + 1 ≡ n) (entered_import s) library is (last (late || (n == 0)) n (some late s.script.libraries is))
   where
-    some : (late : Bool) (libraries : List DescribedLibrary) → cond (late || (length libraries == 0)) (Err OutOfOrder) (Ok (length libraries - 1)) ≡ Ok library → 1 ≤ length libraries
+    some : (late : Bool) (libraries : List DescribedLibrary) → cond (late || (length libraries == 0)) (Err (OutOfOrder 0)) (Ok (length libraries - 1)) ≡ Ok library → 1 ≤ length libraries
     some true libraries is = absurd (cc)
     some false [] is = absurd (cc)
     some false (l ∷ libraries) is = omega arith
 
-    last : (refused : Bool) (n : ℕ) → 1 ≤ n → Leads (λ m. m + 1 ≡ n) (cond refused (Err OutOfOrder) (Ok (n - 1)))
+    last : (refused : Bool) (n : ℕ) → 1 ≤ n → Leads (λ m. m + 1 ≡ n) (cond refused (Err (OutOfOrder 0)) (Ok (n - 1)))
     last true n some = tt
     last false n some = omega (arith, some)
 

@@ -9,6 +9,7 @@ use Rattle.pef_words.specs.Results.{◌>>=◌}
 use Rattle.pef_script.specs.declared.text.fault.LineFault.{LineFault}
 use Rattle.pef_script.specs.declared.text.fault.Stop.{Stop}
 use Rattle.pef_script.specs.Text.Contents.{fix_line, fixup_in, is_section_word}
+use Rattle.pef_script.specs.Text.Forms.{form_of}
 use Rattle.pef_script.specs.Text.Grammar.{line_by_word, line_of}
 use Rattle.pef_script.specs.Text.Kept.Kinds.{fixup_by_kind, fixup_for, kind_before, next_kind}
 use Rattle.pef_script.specs.Text.Kept.Steps.{Steps}
@@ -20,7 +21,7 @@ pub begins_so : (text line : List ℕ) (n : ℕ) → bytes_eq (take n line) text
 begins_so text line n is = sym (take-append-drop n line) ∙ ap (λ front. front ++ drop n line) ((bytes_eq-Decides (take n line) text).0 is)
 
 fix_line_begins : (s : ScriptSoFar) (rest : List ℕ) → line_of s (codes "fix " ++ rest) ≡ fix_line s rest
-unfolding line_of line_by_word next_word words.next_word
+unfolding line_of line_by_word form_of words.next_word
 fix_line_begins s rest = refl
 
 -- a line `fix` begins with this word and a space
@@ -48,11 +49,11 @@ then_same (Ok x) f g same = same x
 then_same (Err fault) f g same = refl
 
 then_kind : {B : Type 0} (step : Result (List ℕ × List ℕ) LineFault) (f : List ℕ → Result Bool LineFault → Result B LineFault)
-    → (step >>= λ word. f word.1 (is_section_word word.0)) ≡ ((step >>= λ word. Ok (kind_before word)) >>= λ kind. f kind.1 kind.0)
+    → (step >>= λ word. f word.1 (is_section_word 3 word.0)) ≡ ((step >>= λ word. Ok (kind_before word)) >>= λ kind. f kind.1 kind.0)
 then_kind (Ok word) f = refl
 then_kind (Err fault) f = refl
 
 -- the kind of a base may be looked at before the name
 pub fixup_in_is : (s : ScriptSoFar) (line : List ℕ) → fixup_in s line ≡ fixup_by_kind s line
 unfolding fixup_in fixup_by_kind next_kind
-fixup_in_is s line = then_same (next_name_and_word line) _ _ (λ place. then_kind (next_word place.2) (fixup_for s place))
+fixup_in_is s line = then_same (next_name_and_word 1 line) _ _ (λ place. then_kind (next_word 3 place.2) (fixup_for s place))

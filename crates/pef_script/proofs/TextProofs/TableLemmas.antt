@@ -1,5 +1,5 @@
 -- Names and their numbers in a table.
-use Rattle.std.proofs.Common.{◌≡◌, ℕ, ◌+◌, Bool, true, false, cond, List, [], ◌∷◌, map, length, None, Some, position, refl, sym, ap, ◌∙◌, Bor}
+use Rattle.std.proofs.Common.{◌≡◌, ℕ, zero, suc, ◌+◌, ◌<◌, Bool, true, false, cond, List, [], ◌∷◌, map, drop, get_or, length, None, Some, position, refl, sym, ap, ◌∙◌, Bor, arith}
 use Rattle.std.specs.List.{position_from}
 use Rattle.std.specs.Map.{keys_of, lookup}
 use Rattle.std.specs.Str.{bytes_eq}
@@ -9,7 +9,8 @@ use Rattle.pef_script.specs.declared.parts.ExportData.{ExportData}
 use Rattle.pef_script.specs.declared.parts.ImportData.{ImportData}
 use Rattle.pef_script.specs.declared.parts.LibraryData.{LibraryData}
 use Rattle.pef_script.specs.Parts.{export_of, import_of, library_of}
-use Rattle.pef_script.specs.Text.SoFar.{number_of_name}
+use Rattle.pef_script.specs.Text.Kept.Kinds.{paired}
+use Rattle.pef_script.specs.Text.SoFar.{number_of_name, word_in}
 
 -- a place in a list is that in the mapped list
 position_from-map : {A B : Type 0} (f : A → B) (test : B → Bool) (at : ℕ) (xs : List A) → position_from test at (map f xs) ≡ position_from (λ x. test (f x)) at xs
@@ -63,3 +64,13 @@ pub count_of_exports : (entries : List (Bor (List ℕ) × ExportData)) → lengt
 count_of_exports entries = simp length-map
 
 pub ruleset exports_seen = (names_of_exports, count_of_exports)
+
+-- a word that isn't the next one is among those after it, if it is there
+pub paired_more : {T : Type 0} (words : List (Bor (List ℕ))) (values : List T) (i : ℕ) (d : Bor (List ℕ)) (word : List ℕ) → length words ≡ length values → i < length words → bytes_eq word (get_or words i d).now ≡ false
+    → word_in (paired (map (λ text. text.now) (drop i words)) (drop i values)) word ≡ word_in (paired (map (λ text. text.now) (drop (i + 1) words)) (drop (i + 1) values)) word
+paired_more [] values i d word same under unlike = absurd (omega (arith, under))
+paired_more (w ∷ words) [] i d word same under unlike = absurd (omega (arith, same))
+paired_more (w ∷ words) (v ∷ values) zero d word same under unlike = rw unlike refl
+paired_more (w ∷ words) (v ∷ values) (suc i) d word same under unlike =
+    let next : suc i + 1 ≡ suc (i + 1) = omega arith in
+    rw next (paired_more words values i d word (omega (arith, same)) (omega (arith, under)) unlike)

@@ -14,9 +14,9 @@ use Rattle.pef_script.specs.Text.Declarations.{symbol_class_of}
 use Rattle.pef_script.specs.Text.SoFar.{ScriptSoFar, counted_name_tests, entered, entered_once, export_group, init_group, main_group, section_named, section_so_far, term_group, with_script}
 use Rattle.pef_script.specs.Text.Words.{last_name, last_name_and_word, last_word, next_name_and_word, number_up_to}
 
--- the test of an offset in section k, which may be its end
-abbrev pub place_tests : ScriptSoFar → ℕ → ℕ → List (Bool × LineFault)
-place_tests s k offset = (nat_lt (section_so_far s k).header.total offset, OutsideSection) ∷ []
+-- the test of an offset in section k, which may be its end, by the number of its word
+abbrev pub place_tests : ScriptSoFar → ℕ → ℕ → ℕ → List (Bool × LineFault)
+place_tests s k at offset = (nat_lt (section_so_far s k).header.total offset, OutsideSection at) ∷ []
 
 -- one more export
 abbrev pub and_export : ScriptSoFar → Export → ScriptSoFar
@@ -31,26 +31,26 @@ with_export s tests symbol = unless (first_met (counted_name_tests s (export_nam
 -- the export that a line declares after the number of its section, if it is allowed
 unfoldable pub export_in : ScriptSoFar → List ℕ → Result (ℕ × Export) LineFault
 export_in s line = do
-  symbol ← next_name_and_word line
-  place ← last_name_and_word symbol.2
+  symbol ← next_name_and_word 1 line
+  place ← last_name_and_word 3 symbol.2
   group ← entered s export_group
-  class ← symbol_class_of symbol.1
-  offset ← number_up_to greatest_number place.1
-  k ← section_named s place.0
+  class ← symbol_class_of 2 symbol.1
+  offset ← number_up_to greatest_number 4 place.1
+  k ← section_named s 3 place.0
   Ok (k, record { name = symbol.0; class = class_code class; section = pos k; value = offset })
 
 abbrev pub export_line : ScriptSoFar → List ℕ → Result ScriptSoFar LineFault
-export_line s line = export_in s line >>= λ e. with_export s (place_tests s e.0 e.1.value) e.1
+export_line s line = export_in s line >>= λ e. with_export s (place_tests s e.0 4 e.1.value) e.1
 
 -- `reexport NAME CLASS IMPORT`: an import that is passed on under a name of its own
 
 unfoldable pub reexport_in : ScriptSoFar → List ℕ → Result Export LineFault
 reexport_in s line = do
-  symbol ← next_name_and_word line
-  import_name ← last_name symbol.2
+  symbol ← next_name_and_word 1 line
+  import_name ← last_name 3 symbol.2
   group ← entered s export_group
-  class ← symbol_class_of symbol.1
-  j ← import_named s import_name
+  class ← symbol_class_of 2 symbol.1
+  j ← import_named s 3 import_name
   Ok (record { name = symbol.0; class = class_code class; section = reexported_import; value = j })
 
 abbrev pub reexport_line : ScriptSoFar → List ℕ → Result ScriptSoFar LineFault
@@ -60,11 +60,11 @@ reexport_line s line = reexport_in s line >>= with_export s []
 
 unfoldable pub absolute_in : ScriptSoFar → List ℕ → Result Export LineFault
 absolute_in s line = do
-  symbol ← next_name_and_word line
-  number ← last_word symbol.2
+  symbol ← next_name_and_word 1 line
+  number ← last_word 3 symbol.2
   group ← entered s export_group
-  class ← symbol_class_of symbol.1
-  value ← number_up_to greatest_number number
+  class ← symbol_class_of 2 symbol.1
+  value ← number_up_to greatest_number 3 number
   Ok (record { name = symbol.0; class = class_code class; section = absolute_export; value = value })
 
 abbrev pub absolute_line : ScriptSoFar → List ℕ → Result ScriptSoFar LineFault
@@ -74,11 +74,11 @@ absolute_line s line = absolute_in s line >>= with_export s []
 
 unfoldable pub entry_in : ScriptSoFar → ℕ → List ℕ → Result (ℕ × ℕ) LineFault
 entry_in s group line = do
-  place ← last_name_and_word line
+  place ← last_name_and_word 1 line
   group ← entered_once s group
-  offset ← number_up_to greatest_number place.1
-  k ← section_named s place.0
-  unless (first_met (place_tests s k offset)) (Ok (k, offset))
+  offset ← number_up_to greatest_number 2 place.1
+  k ← section_named s 1 place.0
+  unless (first_met (place_tests s k 2 offset)) (Ok (k, offset))
 
 abbrev pub main_line : ScriptSoFar → List ℕ → Result ScriptSoFar LineFault
 main_line s line = entry_in s main_group line >>= λ entry. Ok (record s { reached = main_group; script = record s.script { main = Some entry } })

@@ -9,7 +9,7 @@ use Rattle.pef_script.specs.Text.Grammar.{LineRefusal}
 -- a result is the expected one, unless an allocation failed
 
 abbrev pub FailsAs : ScriptFault → Result DescribedScript LineRefusal → Type 0
-FailsAs (fault.Refused what line) wanted = wanted ≡ Err (record { fault = what; line = line })
+FailsAs (fault.Refused what line word earlier) wanted = wanted ≡ Err (record { fault = what; line = line; word = word; earlier = earlier })
 FailsAs fault.OutOfMemory wanted = Unit {0}
 
 abbrev pub ReadsAs : Result DescribedScript ScriptFault → Result DescribedScript LineRefusal → Type 0

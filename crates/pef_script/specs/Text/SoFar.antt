@@ -42,13 +42,13 @@ init_group = 7
 abbrev pub term_group : ℕ
 term_group = 8
 
--- no line of a group is after one of a later group
+-- no line of a group is after one of a later group; the fault is that of the line's first word
 abbrev pub entered : ScriptSoFar → ℕ → Result (Unit {0}) LineFault
-entered s group = if nat_lt group s.reached then Err OutOfOrder else Ok tt
+entered s group = if nat_lt group s.reached then Err (OutOfOrder 0) else Ok tt
 
 -- and one that is allowed once isn't after one of its own group
 abbrev pub entered_once : ScriptSoFar → ℕ → Result (Unit {0}) LineFault
-entered_once s group = if nat_le group s.reached then Err OutOfOrder else Ok tt
+entered_once s group = if nat_le group s.reached then Err (OutOfOrder 0) else Ok tt
 
 -- what a table has for a word
 abbrev pub word_in : {T : Type 0} → List (List ℕ × T) → List ℕ → Option T
@@ -56,16 +56,16 @@ word_in [] word = None
 word_in (entry ∷ table) word = if bytes_eq word entry.0 then Some entry.1 else word_in table word
 
 -- what a table has for a word that must be one of its words
-abbrev pub word_of : {T : Type 0} → List (List ℕ × T) → List ℕ → Result T LineFault
-word_of table word = ok_or (word_in table word) BadKind
+abbrev pub word_of : {T : Type 0} → List (List ℕ × T) → ℕ → List ℕ → Result T LineFault
+word_of table at word = ok_or (word_in table word) (BadKind at)
 
 -- the number of the first entry with a name
 abbrev pub number_of_name : List (List ℕ) → List ℕ → Option ℕ
 number_of_name names name = position_from (bytes_eq name) 0 names
 
 -- the number of the section with a name
-abbrev pub section_named : ScriptSoFar → List ℕ → Result ℕ LineFault
-section_named s name = ok_or (number_of_name (section_names s.script) name) UnknownName
+abbrev pub section_named : ScriptSoFar → ℕ → List ℕ → Result ℕ LineFault
+section_named s at name = ok_or (number_of_name (section_names s.script) name) (UnknownName at)
 
 -- a section without contents
 abbrev pub no_section : DescribedSection
@@ -83,13 +83,13 @@ is_repeated names name = is_some (number_of_name names name)
 abbrev pub has_no_room : ScriptSoFar → List ℕ → Bool
 has_no_room s name = nat_lt most_name_bytes (name_bytes s.script + (length name + 1))
 
--- the tests of a new name after others of its kind, with this limit on their number
+-- the tests of a new name after others of its kind, with this limit on their number; the name is word 1 of its line
 abbrev pub name_tests : List (List ℕ) → ℕ → List ℕ → List (Bool × LineFault)
-name_tests names limit name = (is_repeated names name, RepeatedName) ∷ (not (nat_lt (length names) limit), TooMany) ∷ []
+name_tests names limit name = (is_repeated names name, RepeatedName 1) ∷ (not (nat_lt (length names) limit), TooMany 1) ∷ []
 
 -- and of one whose bytes count
 abbrev pub counted_name_tests : ScriptSoFar → List (List ℕ) → ℕ → List ℕ → List (Bool × LineFault)
-counted_name_tests s names limit name = name_tests names limit name ++ (has_no_room s name, TooMany) ∷ []
+counted_name_tests s names limit name = name_tests names limit name ++ (has_no_room s name, TooMany 1) ∷ []
 
 -- the script so far after a line of a group
 abbrev pub with_script : ScriptSoFar → ℕ → DescribedScript → ScriptSoFar

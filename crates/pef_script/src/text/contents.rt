@@ -62,10 +62,10 @@ impl<'a> Reader<'a> {
         ensures bytes { result ≡ bytes_in (so_far self.now) line.now }
         ensures below { IfOk result (λ b. b.0 < vec_len self.now.sections) }
     {
-        let (name, digits) = last_name_and_word(line)?;
-        let pairs = read_pairs(digits)?;
+        let (name, digits) = last_name_and_word(1, line)?;
+        let pairs = read_pairs(2, digits)?;
         self.enter(CONTENT_GROUP)?;
-        let k = self.section_named(self.place, name)?;
+        let k = self.section_named(self.place, 1, name)?;
         self.test_bytes(k, pairs.count())?;
         Ok((k, pairs))
     }
@@ -77,14 +77,14 @@ impl<'a> Reader<'a> {
         ensures below { IfOk result (λ f. f.0 < vec_len self.now.sections) }
         ensures apart { IfOk result (λ f. AreApart (section_so_far (so_far self.now) f.0).fixups (f.1 ∷ [])) }
     {
-        let (name, offset, rest) = next_name_and_word(line)?;
+        let (name, offset, rest) = next_name_and_word(1, line)?;
         let (kind, rest) = next_kind(rest)?;
-        let target = last_name(rest)?;
+        let target = last_name(4, rest)?;
         self.enter(CONTENT_GROUP)?;
         let is_section = kind?;
-        let offset = read_number(MAX_NUMBER, offset)?;
-        let k = self.section_named(self.place, name)?;
-        let base = self.base_named(is_section, target)?;
+        let offset = read_number(MAX_NUMBER, 2, offset)?;
+        let k = self.section_named(self.place, 1, name)?;
+        let base = self.base_named(is_section, 4, target)?;
         self.test_fixups(k, offset, 1)?;
         Ok((k, Fixup { offset, base }))
     }
@@ -97,14 +97,14 @@ impl<'a> Reader<'a> {
         ensures below { IfOk result (λ v. v.0 < vec_len self.now.sections) }
         ensures apart { IfOk result (λ v. AreApart (section_so_far (so_far self.now) v.0).fixups v.1) }
     {
-        let (name, offset, rest) = next_name_and_word(line)?;
-        let (code, rest) = next_name(rest)?;
-        let data = last_name(rest)?;
+        let (name, offset, rest) = next_name_and_word(1, line)?;
+        let (code, rest) = next_name(3, rest)?;
+        let data = last_name(4, rest)?;
         self.enter(CONTENT_GROUP)?;
-        let offset = read_number(MAX_NUMBER, offset)?;
-        let k = self.section_named(self.place, name)?;
-        let code = self.section_base(code)?;
-        let data = self.section_base(data)?;
+        let offset = read_number(MAX_NUMBER, 2, offset)?;
+        let k = self.section_named(self.place, 1, name)?;
+        let code = self.section_base(3, code)?;
+        let data = self.section_base(4, data)?;
         self.test_fixups(k, offset, 2)?;
         Ok((k, vector_fixups(offset, code, data)))
     }
@@ -124,33 +124,33 @@ impl<'a> Reader<'a> {
         Ok(())
     }
 
-    /// Returns the section with a name, as a base.
+    /// Returns the section with a name, a line's word `at`, as a base.
     #[inline(always)]
-    fn section_base(&self, name: &[u8]) -> Result<Base, LineFault>
-        ensures { result ≡ base_named (so_far self.now) true name.now }
+    fn section_base(&self, at: u8, name: &[u8]) -> Result<Base, LineFault>
+        ensures { result ≡ base_named (so_far self.now) true at name.now }
     {
-        let k = self.section_named(self.target, name)?;
+        let k = self.section_named(self.target, at, name)?;
         Ok(Base::Section(k as u32))
     }
 
-    /// Returns the number of the import with a name.
+    /// Returns the number of the import with a name, a line's word `at`.
     #[tactic(auto, using(crate::proofs::TextProofs::TableLemmas::imports_seen))]
-    pub fn import_named(&self, name: &[u8]) -> Result<usize, LineFault>
-        ensures found { result ≡ import_named (so_far self.now) name.now }
+    pub fn import_named(&self, at: u8, name: &[u8]) -> Result<usize, LineFault>
+        ensures found { result ≡ import_named (so_far self.now) at name.now }
         ensures below { IfOk result (λ j. j < 2 ^ 32) }
     {
-        number_of_name(&self.parts.imports, name).ok_or(LineFault::UnknownName)
+        number_of_name(&self.parts.imports, name).ok_or(LineFault::UnknownName { word: at })
     }
 
-    /// Returns the section or the import with a name, as a base.
+    /// Returns the section or the import with a name, a line's word `at`, as a base.
     #[inline(always)]
-    fn base_named(&self, is_section: bool, name: &[u8]) -> Result<Base, LineFault>
-        ensures { result ≡ base_named (so_far self.now) is_section name.now }
+    fn base_named(&self, is_section: bool, at: u8, name: &[u8]) -> Result<Base, LineFault>
+        ensures { result ≡ base_named (so_far self.now) is_section at name.now }
     {
         if is_section {
-            return self.section_base(name);
+            return self.section_base(at, name);
         }
-        let j = self.import_named(name)?;
+        let j = self.import_named(at, name)?;
         Ok(Base::Import(j as u32))
     }
 
@@ -163,7 +163,7 @@ impl<'a> Reader<'a> {
         let total = section.header.total as usize;
         let filled = section.image.len();
         if filled > total || count > total - filled {
-            return Err(LineFault::OutsideSection);
+            return Err(LineFault::OutsideSection { word: 2 });
         }
         Ok(())
     }
@@ -177,14 +177,14 @@ impl<'a> Reader<'a> {
     {
         let section = &self.sections[k];
         if section.fixups.len() + usize::from(count) > MAX_FIXUPS {
-            return Err(LineFault::TooMany);
+            return Err(LineFault::TooMany { word: 1 });
         }
         let total = section.header.total;
         if u64::from(offset) + u64::from(WORD) * u64::from(count) > u64::from(total) {
-            return Err(LineFault::OutsideSection);
+            return Err(LineFault::OutsideSection { word: 2 });
         }
         if section.fixups.overlaps(offset, count) {
-            return Err(LineFault::Overlap);
+            return Err(LineFault::Overlap { word: 2 });
         }
         Ok(())
     }
@@ -209,8 +209,8 @@ fn next_kind(line: &[u8]) -> Result<(Result<bool, LineFault>, &[u8]), LineFault>
 fn kind_by_word(line: &[u8]) -> Result<(Result<bool, LineFault>, &[u8]), LineFault>
     ensures { result_map (λ p. (p.0, p.1.now)) result ≡ next_kind line.now }
 {
-    let (word, rest) = next_word(line)?;
-    Ok((is_section_word(word), rest))
+    let (word, rest) = next_word(3, line)?;
+    Ok((is_section_word(3, word), rest))
 }
 
 /// Returns the fixups of a transition vector at an offset: its data word follows its code word.

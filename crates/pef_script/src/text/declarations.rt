@@ -60,12 +60,12 @@ impl<'a> Reader<'a> {
     fn versions_in(&self, line: &[u8]) -> Result<Versions, LineFault>
         ensures { result ≡ versions_in (so_far self.now) line.now }
     {
-        let (current, rest) = next_word(line)?;
-        let (old_def, old_imp) = last_two_words(rest)?;
+        let (current, rest) = next_word(1, line)?;
+        let (old_def, old_imp) = last_two_words(2, rest)?;
         self.enter_once(VERSIONS_GROUP)?;
-        let current = read_number(MAX_NUMBER, current)?;
-        let old_def = read_number(MAX_NUMBER, old_def)?;
-        let old_imp = read_number(MAX_NUMBER, old_imp)?;
+        let current = read_number(MAX_NUMBER, 1, current)?;
+        let old_def = read_number(MAX_NUMBER, 2, old_def)?;
+        let old_imp = read_number(MAX_NUMBER, 3, old_imp)?;
         Ok(Versions {
             current,
             old_def,
@@ -78,12 +78,12 @@ impl<'a> Reader<'a> {
     fn library_in(&self, line: &'a [u8]) -> Result<(&'a [u8], LibraryData), LineFault>
         ensures { result_map library_of result ≡ library_in (so_far self.now) line.entry.now }
     {
-        let (name, current, rest) = next_name_and_word(line)?;
-        let (old_imp, option) = last_two_words(rest)?;
+        let (name, current, rest) = next_name_and_word(1, line)?;
+        let (old_imp, option) = last_two_words(3, rest)?;
         self.enter(LIBRARY_GROUP)?;
-        let options = options_of(option)?;
-        let current = read_number(MAX_NUMBER, current)?;
-        let old_imp = read_number(MAX_NUMBER, old_imp)?;
+        let options = options_of(4, option)?;
+        let current = read_number(MAX_NUMBER, 2, current)?;
+        let old_imp = read_number(MAX_NUMBER, 3, old_imp)?;
         let library = LibraryData {
             current,
             old_imp,
@@ -97,11 +97,11 @@ impl<'a> Reader<'a> {
     fn import_in(&self, line: &'a [u8]) -> Result<(&'a [u8], ImportData), LineFault>
         ensures { result_map import_of result ≡ import_in (so_far self.now) line.entry.now }
     {
-        let (name, class, rest) = next_name_and_word(line)?;
-        let strength = last_word(rest)?;
+        let (name, class, rest) = next_name_and_word(1, line)?;
+        let strength = last_word(3, rest)?;
         let library = self.enter_import()?;
-        let class = class_of(class)?;
-        let weak = is_weak_word(strength)?;
+        let class = class_of(2, class)?;
+        let weak = is_weak_word(3, strength)?;
         let import = ImportData {
             class,
             weak,
@@ -115,14 +115,14 @@ impl<'a> Reader<'a> {
     fn section_in(&self, line: &'a [u8]) -> Result<SectionHeader<'a>, LineFault>
         ensures { result_map header_in result ≡ section_in (so_far self.now) line.entry.now }
     {
-        let (name, kind, rest) = next_name_and_word(line)?;
-        let (share, rest) = next_word(rest)?;
-        let (align, total) = last_two_words(rest)?;
+        let (name, kind, rest) = next_name_and_word(1, line)?;
+        let (share, rest) = next_word(3, rest)?;
+        let (align, total) = last_two_words(4, rest)?;
         self.enter(SECTION_GROUP)?;
-        let kind = kind_of(kind)?;
-        let share = share_of(share)?;
-        let align = read_number(MAX_ALIGN, align)? as u8;
-        let total = read_number(MAX_TOTAL, total)?;
+        let kind = kind_of(2, kind)?;
+        let share = share_of(3, share)?;
+        let align = read_number(MAX_ALIGN, 4, align)? as u8;
+        let total = read_number(MAX_TOTAL, 5, total)?;
         Ok(SectionHeader {
             name,
             kind,
@@ -163,10 +163,10 @@ impl<'a> Reader<'a> {
         ensures { Steps result (so_far self.new) (with_section (so_far self.old) (header_in header.entry)) }
     {
         if section_number(&self.sections, header.name).is_some() {
-            return Err(Stop::Refused(LineFault::RepeatedName));
+            return Err(Stop::Refused(LineFault::RepeatedName { word: 1 }));
         }
         if self.sections.len() >= MAX_SECTIONS {
-            return Err(Stop::Refused(LineFault::TooMany));
+            return Err(Stop::Refused(LineFault::TooMany { word: 1 }));
         }
         let section = SectionSoFar::new(self.alloc, header);
         self.sections.push(section)?;
@@ -182,7 +182,7 @@ impl<'a> Reader<'a> {
         self.enter(LIBRARY_GROUP)?;
         match self.parts.libraries.len().checked_sub(1) {
             Some(library) => Ok(library as u32),
-            None => Err(LineFault::OutOfOrder),
+            None => Err(LineFault::OutOfOrder { word: 0 }),
         }
     }
 }

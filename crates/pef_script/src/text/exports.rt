@@ -36,12 +36,12 @@ impl<'a> Reader<'a> {
         ensures export { result_map (λ e. (e.1, export_of (e.0, e.2))) result ≡ export_in (so_far self.now) line.entry.now }
         ensures below { IfOk result (λ e. e.1 < vec_len self.now.sections) }
     {
-        let (name, class, rest) = next_name_and_word(line)?;
-        let (section, offset) = last_name_and_word(rest)?;
+        let (name, class, rest) = next_name_and_word(1, line)?;
+        let (section, offset) = last_name_and_word(3, rest)?;
         self.enter(EXPORT_GROUP)?;
-        let class = class_of(class)?;
-        let value = read_number(MAX_NUMBER, offset)?;
-        let k = self.section_named(self.place, section)?;
+        let class = class_of(2, class)?;
+        let value = read_number(MAX_NUMBER, 4, offset)?;
+        let k = self.section_named(self.place, 3, section)?;
         let export = ExportData {
             class,
             section: k as i32,
@@ -63,11 +63,11 @@ impl<'a> Reader<'a> {
     fn reexport_in(&self, line: &'a [u8]) -> Result<(&'a [u8], ExportData), LineFault>
         ensures { result_map export_of result ≡ reexport_in (so_far self.now) line.entry.now }
     {
-        let (name, class, rest) = next_name_and_word(line)?;
-        let import = last_name(rest)?;
+        let (name, class, rest) = next_name_and_word(1, line)?;
+        let import = last_name(3, rest)?;
         self.enter(EXPORT_GROUP)?;
-        let class = class_of(class)?;
-        let j = self.import_named(import)?;
+        let class = class_of(2, class)?;
+        let j = self.import_named(3, import)?;
         let export = ExportData {
             class,
             section: REEXPORTED_IMPORT,
@@ -89,11 +89,11 @@ impl<'a> Reader<'a> {
     fn absolute_in(&self, line: &'a [u8]) -> Result<(&'a [u8], ExportData), LineFault>
         ensures { result_map export_of result ≡ absolute_in (so_far self.now) line.entry.now }
     {
-        let (name, class, rest) = next_name_and_word(line)?;
-        let value = last_word(rest)?;
+        let (name, class, rest) = next_name_and_word(1, line)?;
+        let value = last_word(3, rest)?;
         self.enter(EXPORT_GROUP)?;
-        let class = class_of(class)?;
-        let value = read_number(MAX_NUMBER, value)?;
+        let class = class_of(2, class)?;
+        let value = read_number(MAX_NUMBER, 3, value)?;
         let export = ExportData {
             class,
             section: ABSOLUTE_EXPORT,
@@ -137,11 +137,11 @@ impl<'a> Reader<'a> {
     fn read_entry(&self, group: u8, line: &[u8]) -> Result<(u32, u32), LineFault>
         ensures { result ≡ entry_in (so_far self.now) group line.now }
     {
-        let (section, offset) = last_name_and_word(line)?;
+        let (section, offset) = last_name_and_word(1, line)?;
         self.enter_once(group)?;
-        let offset = read_number(MAX_NUMBER, offset)?;
-        let k = self.section_named(self.place, section)?;
-        self.test_place(k, offset)?;
+        let offset = read_number(MAX_NUMBER, 2, offset)?;
+        let k = self.section_named(self.place, 1, section)?;
+        self.test_place(k, 2, offset)?;
         Ok((k as u32, offset))
     }
 
@@ -155,10 +155,10 @@ impl<'a> Reader<'a> {
         export: ExportData,
     ) -> Result<(), Stop>
         requires { k < vec_len self.old.sections }
-        ensures { Steps result (so_far self.new) (with_export (so_far self.old) (place_tests (so_far self.old) k export.value) (export_of (name.entry, export))) }
+        ensures { Steps result (so_far self.new) (with_export (so_far self.old) (place_tests (so_far self.old) k 4 export.value) (export_of (name.entry, export))) }
     {
         self.test_name(&self.parts.exports, MAX_EXPORTS, name)?;
-        self.test_place(k, export.value)?;
+        self.test_place(k, 4, export.value)?;
         self.put_export(name, export)
     }
 
@@ -185,14 +185,14 @@ impl<'a> Reader<'a> {
         Ok(())
     }
 
-    /// Refuses an offset past the end of section `k`.
-    fn test_place(&self, k: usize, offset: u32) -> Result<(), LineFault>
+    /// Refuses an offset, a line's word `at`, past the end of section `k`.
+    fn test_place(&self, k: usize, at: u8, offset: u32) -> Result<(), LineFault>
         requires { k < vec_len self.now.sections }
-        ensures { result_err result ≡ first_met (place_tests (so_far self.now) k offset) }
+        ensures { result_err result ≡ first_met (place_tests (so_far self.now) k at offset) }
     {
         let section = &self.sections[k];
         if offset > section.header.total {
-            return Err(LineFault::OutsideSection);
+            return Err(LineFault::OutsideSection { word: at });
         }
         Ok(())
     }

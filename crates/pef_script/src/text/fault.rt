@@ -1,32 +1,37 @@
 ghost use Rattle.std.specs.Prelude.{◌≡◌};
-ghost use Rattle.pef_script.specs.Text.Faults.{fault_name, fault_number, script_fault_line, script_fault_name, script_fault_number};
-ghost use Rattle.pef_script.specs.Text.Kept.Steps.{stopped_at};
+ghost use Rattle.pef_script.specs.Text.Faults.{fault_name, fault_number, fault_word, script_fault_earlier, script_fault_line, script_fault_name, script_fault_number, script_fault_word};
+ghost use Rattle.pef_script.specs.Text.Kept.Steps.{placed_in, stopped_at};
 
+use crate::text::earlier::earlier_of;
+use crate::text::places::{Word, word_at};
 use std::alloc::{AllocError, AllocFailed};
 use std::fmt;
 use thiserror::Error;
 
-/// What is wrong with a line of a script.
+/// What is wrong with a line of a script, and the number of the word that is at fault. The first word of a line, such as
+/// `section`, is word 0.
 #[derive(Clone, Copy, Debug, PartialEq, Eq, Error)]
 pub enum LineFault {
-    /// No line of the grammar has this form: its words, their bytes, a name or hex digits are wrong.
-    BadLine,
+    /// No line of the grammar has this form: its words, their bytes, a name or hex digits are wrong. The word is the
+    /// first that can't be read, a missing one, or the last one that is allowed if there are more.
+    BadLine { word: u8 },
     /// A number is spelled in another way, or is too large here.
-    BadNumber,
+    BadNumber { word: u8 },
     /// A section or an import has not been declared.
-    UnknownName,
+    UnknownName { word: u8 },
     /// Another one of its kind has the name already.
-    RepeatedName,
-    /// The line comes after a line that must follow it.
-    OutOfOrder,
-    /// A fixup's word overlaps that of an earlier line.
-    Overlap,
-    /// An image, a fixup's word or an offset passes the end of its section.
-    OutsideSection,
-    /// There are already as many of these as a script may have.
-    TooMany,
+    RepeatedName { word: u8 },
+    /// The line comes after a line that must follow it. The word is the line's first.
+    OutOfOrder { word: u8 },
+    /// A fixup's word overlaps that of an earlier line. The word is the offset.
+    Overlap { word: u8 },
+    /// An image, a fixup's word or an offset passes the end of its section. The word is the hex digits or the offset.
+    OutsideSection { word: u8 },
+    /// There are already as many of these as a script may have. The word is the new name, or that of the section that
+    /// has too many fixups.
+    TooMany { word: u8 },
     /// A word isn't one of those that are allowed in its place.
-    BadKind,
+    BadKind { word: u8 },
 }
 
 impl LineFault {
@@ -35,15 +40,15 @@ impl LineFault {
         ensures { result ≡ fault_number self.now }
     {
         match self {
-            LineFault::BadLine => 41,
-            LineFault::BadNumber => 42,
-            LineFault::UnknownName => 43,
-            LineFault::RepeatedName => 44,
-            LineFault::OutOfOrder => 45,
-            LineFault::Overlap => 46,
-            LineFault::OutsideSection => 47,
-            LineFault::TooMany => 48,
-            LineFault::BadKind => 49,
+            LineFault::BadLine { .. } => 41,
+            LineFault::BadNumber { .. } => 42,
+            LineFault::UnknownName { .. } => 43,
+            LineFault::RepeatedName { .. } => 44,
+            LineFault::OutOfOrder { .. } => 45,
+            LineFault::Overlap { .. } => 46,
+            LineFault::OutsideSection { .. } => 47,
+            LineFault::TooMany { .. } => 48,
+            LineFault::BadKind { .. } => 49,
         }
     }
 
@@ -52,15 +57,32 @@ impl LineFault {
         ensures { result.now ≡ fault_name self.now }
     {
         match self {
-            LineFault::BadLine => "BadLine",
-            LineFault::BadNumber => "BadNumber",
-            LineFault::UnknownName => "UnknownName",
-            LineFault::RepeatedName => "RepeatedName",
-            LineFault::OutOfOrder => "OutOfOrder",
-            LineFault::Overlap => "Overlap",
-            LineFault::OutsideSection => "OutsideSection",
-            LineFault::TooMany => "TooMany",
-            LineFault::BadKind => "BadKind",
+            LineFault::BadLine { .. } => "BadLine",
+            LineFault::BadNumber { .. } => "BadNumber",
+            LineFault::UnknownName { .. } => "UnknownName",
+            LineFault::RepeatedName { .. } => "RepeatedName",
+            LineFault::OutOfOrder { .. } => "OutOfOrder",
+            LineFault::Overlap { .. } => "Overlap",
+            LineFault::OutsideSection { .. } => "OutsideSection",
+            LineFault::TooMany { .. } => "TooMany",
+            LineFault::BadKind { .. } => "BadKind",
+        }
+    }
+
+    /// Returns the number of the word that is at fault. The first word of the line is word 0.
+    pub fn word(&self) -> u8
+        ensures { result ≡ fault_word self.now }
+    {
+        match self {
+            LineFault::BadLine { word }
+            | LineFault::BadNumber { word }
+            | LineFault::UnknownName { word }
+            | LineFault::RepeatedName { word }
+            | LineFault::OutOfOrder { word }
+            | LineFault::Overlap { word }
+            | LineFault::OutsideSection { word }
+            | LineFault::TooMany { word }
+            | LineFault::BadKind { word } => *word,
         }
     }
 }
@@ -79,8 +101,16 @@ impl fmt::Display for LineFault {
 /// Why a text isn't a script.
 #[derive(Clone, Copy, Debug, PartialEq, Eq, Error)]
 pub enum ScriptFault {
-    /// The first fault of the first line that has one; lines count from 1.
-    Refused { fault: LineFault, line: usize },
+    /// The first fault of the first line that has one.
+    Refused {
+        fault: LineFault,
+        /// The number of the line, from 1.
+        line: usize,
+        /// The word that is at fault.
+        word: Word,
+        /// The number of the earlier line that the fault is about, if there is one.
+        earlier: Option<usize>,
+    },
     /// An allocation failed.
     OutOfMemory,
 }
@@ -115,6 +145,28 @@ impl ScriptFault {
             ScriptFault::OutOfMemory => None,
         }
     }
+
+    /// Returns the word that is at fault, with its bytes in the text.
+    pub fn word(&self) -> Option<Word>
+        ensures { result ≡ script_fault_word self.now }
+    {
+        match self {
+            ScriptFault::Refused { word, .. } => Some(*word),
+            ScriptFault::OutOfMemory => None,
+        }
+    }
+
+    /// Returns the number of the earlier line that the fault is about, if there is one. For `Overlap` it has the fixup
+    /// that is overlapped, for `OutOfOrder` it must not come first, for `RepeatedName` it declares the name, and for
+    /// `UnknownName` it declares nearly the name.
+    pub fn earlier(&self) -> Option<usize>
+        ensures { result ≡ script_fault_earlier self.now }
+    {
+        match self {
+            ScriptFault::Refused { earlier, .. } => *earlier,
+            ScriptFault::OutOfMemory => None,
+        }
+    }
 }
 
 impl fmt::Display for ScriptFault {
@@ -125,7 +177,7 @@ impl fmt::Display for ScriptFault {
 
     fn fmt<W: fmt::Write>(&self, f: &mut fmt::Formatter<W>) -> fmt::Result {
         match self {
-            ScriptFault::Refused { fault, line } => write!(f, "{fault} line {line}"),
+            ScriptFault::Refused { fault, line, .. } => write!(f, "{fault} line {line}"),
             ScriptFault::OutOfMemory => f.write_str(self.name()),
         }
     }
@@ -151,12 +203,36 @@ pub enum Stop {
 
 impl Stop {
     /// Returns the same, for the line with this number.
-    pub fn at(self, line: usize) -> ScriptFault
+    pub fn at(self, line: usize) -> Stopped
         ensures { result ≡ stopped_at line self }
     {
         match self {
-            Stop::Refused(fault) => ScriptFault::Refused { fault, line },
-            Stop::OutOfMemory => ScriptFault::OutOfMemory,
+            Stop::Refused(fault) => Stopped::Refused { fault, line },
+            Stop::OutOfMemory => Stopped::OutOfMemory,
+        }
+    }
+}
+
+/// Why lines were not read: one was refused, or an allocation failed.
+#[derive(Clone, Copy)]
+pub enum Stopped {
+    Refused { fault: LineFault, line: usize },
+    OutOfMemory,
+}
+
+impl Stopped {
+    /// Returns the same, with its places in the text of these lines.
+    pub fn in_text(self, text: &[u8]) -> ScriptFault
+        ensures { result ≡ placed_in text.now self }
+    {
+        match self {
+            Stopped::Refused { fault, line } => ScriptFault::Refused {
+                fault,
+                line,
+                word: word_at(text, line, fault.word()),
+                earlier: earlier_of(text, line, fault),
+            },
+            Stopped::OutOfMemory => ScriptFault::OutOfMemory,
         }
     }
 }

@@ -1,7 +1,8 @@
-ghost use Rattle.std.specs.Prelude.{◌≡◌, map};
+ghost use Rattle.std.specs.Prelude.{◌≡◌, length, map};
 ghost use Rattle.std.specs.Str.{bytes_eq};
 ghost use Rattle.pef_script.specs.Text.Contents.{is_section_word};
 ghost use Rattle.pef_script.specs.Text.Declarations.{is_weak_word, kind_of, options_of, share_of, symbol_class_of};
+ghost use Rattle.pef_script.specs.Text.Kept.Kinds.{paired};
 ghost use Rattle.pef_script.specs.Text.SoFar.{word_of};
 
 use crate::text::LineFault;
@@ -14,101 +15,108 @@ pub fn spells(word: &[u8], text: &str) -> bool
     word == text.as_bytes()
 }
 
-/// Returns what a table has for a word.
-fn word_of<T: Copy>(table: &[(&str, T)], word: &[u8]) -> Result<T, LineFault>
-    ensures { result ≡ word_of (map (λ entry. (entry.0.now, entry.1)) table.now) word.now }
+/// Returns the value of a word among some words, each with a value. The word has the number `at` in its line.
+fn word_of<T: Copy>(words: &[&str], values: &[T], at: u8, word: &[u8]) -> Result<T, LineFault>
+    requires { length words.now ≡ length values.now }
+    ensures { result ≡ word_of (paired (map (λ text. text.now) words.now) values.now) at word.now }
 {
-    for (text, value) in table {
+    for (place, text) in words.iter().enumerate() {
         if spells(word, text) {
-            return Ok(*value);
+            return Ok(values[place]);
         }
     }
-    Err(LineFault::BadKind)
+    Err(LineFault::BadKind { word: at })
 }
+
+// Each kind of word is a row of words and a row of what they mean, in the same order.
+
+pub const OPTION_WORDS: &[&str] = &["-", "weak", "before", "weak,before"];
+
+const OPTIONS: &[LibraryOptions] = &[
+    LibraryOptions {
+        init_before: false,
+        weak: false,
+    },
+    LibraryOptions {
+        init_before: false,
+        weak: true,
+    },
+    LibraryOptions {
+        init_before: true,
+        weak: false,
+    },
+    LibraryOptions {
+        init_before: true,
+        weak: true,
+    },
+];
 
 /// Returns a library's options.
-pub fn options_of(word: &[u8]) -> Result<LibraryOptions, LineFault>
-    ensures { result ≡ options_of word.now }
+pub fn options_of(at: u8, word: &[u8]) -> Result<LibraryOptions, LineFault>
+    ensures { result ≡ options_of at word.now }
 {
-    let options = [
-        ("-", options(false, false)),
-        ("weak", options(false, true)),
-        ("before", options(true, false)),
-        ("weak,before", options(true, true)),
-    ];
-    word_of(&options, word)
+    word_of(OPTION_WORDS, OPTIONS, at, word)
 }
 
-/// Returns options, by whether the library is initialized before the fragment, and whether it may be
-/// missing.
-fn options(init_before: bool, weak: bool) -> LibraryOptions
-    ensures { result ≡ record { init_before = init_before; weak = weak } }
-{
-    LibraryOptions { init_before, weak }
-}
+pub const CLASS_WORDS: &[&str] = &["code", "data", "tvector", "toc", "glue"];
+
+const CLASSES: &[SymbolClass] = &[
+    SymbolClass::Code,
+    SymbolClass::Data,
+    SymbolClass::TransitionVector,
+    SymbolClass::Toc,
+    SymbolClass::Glue,
+];
 
 /// Returns the class of a symbol.
-pub fn class_of(word: &[u8]) -> Result<SymbolClass, LineFault>
-    ensures { result ≡ symbol_class_of word.now }
+pub fn class_of(at: u8, word: &[u8]) -> Result<SymbolClass, LineFault>
+    ensures { result ≡ symbol_class_of at word.now }
 {
-    let classes = [
-        ("code", SymbolClass::Code),
-        ("data", SymbolClass::Data),
-        ("tvector", SymbolClass::TransitionVector),
-        ("toc", SymbolClass::Toc),
-        ("glue", SymbolClass::Glue),
-    ];
-    word_of(&classes, word)
+    word_of(CLASS_WORDS, CLASSES, at, word)
 }
+
+pub const STRENGTH_WORDS: &[&str] = &["strong", "weak"];
 
 /// Returns whether an import is weak. Otherwise it is strong.
-pub fn is_weak_word(word: &[u8]) -> Result<bool, LineFault>
-    ensures { result ≡ is_weak_word word.now }
+pub fn is_weak_word(at: u8, word: &[u8]) -> Result<bool, LineFault>
+    ensures { result ≡ is_weak_word at word.now }
 {
-    if spells(word, "strong") {
-        Ok(false)
-    } else if spells(word, "weak") {
-        Ok(true)
-    } else {
-        Err(LineFault::BadKind)
-    }
+    word_of(STRENGTH_WORDS, &[false, true], at, word)
 }
+
+pub const KIND_WORDS: &[&str] = &["code", "data", "pattern", "const", "exec"];
+
+const KINDS: &[SectionKind] = &[
+    SectionKind::Code,
+    SectionKind::UnpackedData,
+    SectionKind::PatternData,
+    SectionKind::Constant,
+    SectionKind::ExecutableData,
+];
 
 /// Returns the kind of a section.
-pub fn kind_of(word: &[u8]) -> Result<SectionKind, LineFault>
-    ensures { result ≡ kind_of word.now }
+pub fn kind_of(at: u8, word: &[u8]) -> Result<SectionKind, LineFault>
+    ensures { result ≡ kind_of at word.now }
 {
-    let kinds = [
-        ("code", SectionKind::Code),
-        ("data", SectionKind::UnpackedData),
-        ("pattern", SectionKind::PatternData),
-        ("const", SectionKind::Constant),
-        ("exec", SectionKind::ExecutableData),
-    ];
-    word_of(&kinds, word)
+    word_of(KIND_WORDS, KINDS, at, word)
 }
+
+pub const SHARE_WORDS: &[&str] = &["process", "global", "protected"];
+
+const SHARES: &[Share] = &[Share::Process, Share::Global, Share::Protected];
 
 /// Returns how a section is shared.
-pub fn share_of(word: &[u8]) -> Result<Share, LineFault>
-    ensures { result ≡ share_of word.now }
+pub fn share_of(at: u8, word: &[u8]) -> Result<Share, LineFault>
+    ensures { result ≡ share_of at word.now }
 {
-    let shares = [
-        ("process", Share::Process),
-        ("global", Share::Global),
-        ("protected", Share::Protected),
-    ];
-    word_of(&shares, word)
+    word_of(SHARE_WORDS, SHARES, at, word)
 }
 
+pub const BASE_WORDS: &[&str] = &["section", "import"];
+
 /// Returns whether the base of a fixup is a section. Otherwise it is an import.
-pub fn is_section_word(word: &[u8]) -> Result<bool, LineFault>
-    ensures { result ≡ is_section_word word.now }
+pub fn is_section_word(at: u8, word: &[u8]) -> Result<bool, LineFault>
+    ensures { result ≡ is_section_word at word.now }
 {
-    if spells(word, "section") {
-        Ok(true)
-    } else if spells(word, "import") {
-        Ok(false)
-    } else {
-        Err(LineFault::BadKind)
-    }
+    word_of(BASE_WORDS, &[true, false], at, word)
 }

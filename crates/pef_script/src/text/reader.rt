@@ -5,6 +5,10 @@ ghost use Rattle.std.specs.Result.{result_err};
 ghost use Rattle.std.specs.Str.{bytes_eq};
 ghost use Rattle.indexmap.specs.IndexMap.{index_map_len};
 ghost use Rattle.pef_words.specs.Refusals.{first_met};
+ghost use Rattle.std.specs.Bool.{if◌then◌else◌};
+ghost use Rattle.std.specs.Option.{is_some};
+ghost use Rattle.pef_script.specs.declared.text.fault.LineFault.TheVariants.{BadLine};
+ghost use Rattle.pef_script.specs.Text.Forms.{form_of};
 ghost use Rattle.pef_script.specs.Text.Grammar.{is_skipped, line_by_word, line_of, no_lines};
 ghost use Rattle.pef_script.specs.Parts.{script_in};
 ghost use Rattle.pef_script.specs.Script.{name_bytes};
@@ -13,13 +17,13 @@ ghost use Rattle.pef_reloc.specs.Limits.{most_sections};
 ghost use Rattle.pef_script.specs.Limits.{most_name_bytes};
 ghost use Rattle.pef_script.specs.Text.SoFar.{counted_name_tests, entered, entered_once, number_of_name, section_named};
 
-use crate::text::fault::Stop;
-use crate::text::kinds::spells;
+use crate::text::LineFault;
+use crate::text::fault::{Stop, Stopped};
+use crate::text::form::Form;
 use crate::text::limits::MAX_NAME_BYTES;
 use crate::text::sections::{SectionSoFar, is_named, section_number, to_sections};
 use crate::text::tables::number_of_name;
-use crate::text::words::{next_word, rest_after};
-use crate::text::{LineFault, ScriptFault};
+use crate::text::words::rest_after;
 use crate::{Parts, Versions};
 use indexmap::IndexMap;
 use std::alloc::{AllocError, Global};
@@ -49,6 +53,17 @@ fn is_skipped(line: &[u8]) -> bool
     ensures { result ≡ is_skipped line.now }
 {
     matches!(line, [] | [b'#', ..])
+}
+
+/// Returns the fault of a line whose first word has no space after it.
+fn without_words(line: &[u8]) -> LineFault
+    ensures { result ≡ BadLine (if is_some (form_of line.now) then 1 else 0) }
+{
+    if Form::of(line).is_some() {
+        LineFault::BadLine { word: 1 }
+    } else {
+        LineFault::BadLine { word: 0 }
+    }
 }
 
 impl<'a> Reader<'a> {
@@ -92,7 +107,7 @@ impl<'a> Reader<'a> {
     }
 
     /// Reads the line with this number.
-    pub fn read_numbered(&mut self, line: &'a [u8], number: usize) -> Result<(), ScriptFault>
+    pub fn read_numbered(&mut self, line: &'a [u8], number: usize) -> Result<(), Stopped>
         ensures { NumberedSteps result (so_far self.new) number (line_of (so_far self.old) line.entry.now) }
     {
         match self.read_line(line) {
@@ -113,8 +128,10 @@ impl<'a> Reader<'a> {
         if let Some(rest) = rest_after("fix ", line) {
             return self.read_fix(rest);
         }
-        let (word, rest) = next_word(line)?;
-        self.read_by_word(word, rest)
+        match pef_lines::next_word(line) {
+            Some((word, rest)) => self.read_by_word(word, rest),
+            None => Err(Stop::Refused(without_words(line))),
+        }
     }
 
     /// Reads a line by its first word and the rest after it.
@@ -122,34 +139,21 @@ impl<'a> Reader<'a> {
     fn read_by_word(&mut self, word: &[u8], rest: &'a [u8]) -> Result<(), Stop>
         ensures { Steps result (so_far self.new) (line_by_word (so_far self.old) (word.now, rest.entry.now)) }
     {
-        if spells(word, "versions") {
-            self.read_versions(rest)
-        } else if spells(word, "library") {
-            self.read_library(rest)
-        } else if spells(word, "import") {
-            self.read_import(rest)
-        } else if spells(word, "section") {
-            self.read_section(rest)
-        } else if spells(word, "bytes") {
-            self.read_bytes(rest)
-        } else if spells(word, "fix") {
-            self.read_fix(rest)
-        } else if spells(word, "tvector") {
-            self.read_tvector(rest)
-        } else if spells(word, "export") {
-            self.read_export(rest)
-        } else if spells(word, "reexport") {
-            self.read_reexport(rest)
-        } else if spells(word, "absolute") {
-            self.read_absolute(rest)
-        } else if spells(word, "main") {
-            self.read_main(rest)
-        } else if spells(word, "init") {
-            self.read_init(rest)
-        } else if spells(word, "term") {
-            self.read_term(rest)
-        } else {
-            Err(Stop::Refused(LineFault::BadLine))
+        match Form::of(word) {
+            Some(Form::Versions) => self.read_versions(rest),
+            Some(Form::Library) => self.read_library(rest),
+            Some(Form::Import) => self.read_import(rest),
+            Some(Form::Section) => self.read_section(rest),
+            Some(Form::Bytes) => self.read_bytes(rest),
+            Some(Form::Fix) => self.read_fix(rest),
+            Some(Form::Tvector) => self.read_tvector(rest),
+            Some(Form::Export) => self.read_export(rest),
+            Some(Form::Reexport) => self.read_reexport(rest),
+            Some(Form::Absolute) => self.read_absolute(rest),
+            Some(Form::Main) => self.read_main(rest),
+            Some(Form::Init) => self.read_init(rest),
+            Some(Form::Term) => self.read_term(rest),
+            None => Err(Stop::Refused(LineFault::BadLine { word: 0 })),
         }
     }
 
@@ -158,7 +162,7 @@ impl<'a> Reader<'a> {
         ensures { result ≡ entered (so_far self.now) group }
     {
         if group < self.reached {
-            return Err(LineFault::OutOfOrder);
+            return Err(LineFault::OutOfOrder { word: 0 });
         }
         Ok(())
     }
@@ -168,21 +172,22 @@ impl<'a> Reader<'a> {
         ensures { result ≡ entered_once (so_far self.now) group }
     {
         if group <= self.reached {
-            return Err(LineFault::OutOfOrder);
+            return Err(LineFault::OutOfOrder { word: 0 });
         }
         Ok(())
     }
 
-    /// Returns the number of the section with a name. A section that likely has it is tested first.
+    /// Returns the number of the section with a name, which is a line's word `at`. A section that likely has it is tested
+    /// first.
     #[inline(always)]
-    pub fn section_named(&self, likely: usize, name: &[u8]) -> Result<usize, LineFault>
-        ensures found { result ≡ section_named (so_far self.now) name.now }
+    pub fn section_named(&self, likely: usize, at: u8, name: &[u8]) -> Result<usize, LineFault>
+        ensures found { result ≡ section_named (so_far self.now) at name.now }
         ensures below { IfOk result (λ k. k < vec_len self.now.sections) }
     {
         if is_named(&self.sections, likely, name) {
             return Ok(likely);
         }
-        section_number(&self.sections, name).ok_or(LineFault::UnknownName)
+        section_number(&self.sections, name).ok_or(LineFault::UnknownName { word: at })
     }
 
     /// Refuses a name that another entry of a table has, or that exceeds the limits.
@@ -198,13 +203,13 @@ impl<'a> Reader<'a> {
         ensures bytes { OnOk result (self.now.names + (length name.now + 1) ≤ most_name_bytes) }
     {
         if number_of_name(table, name).is_some() {
-            return Err(LineFault::RepeatedName);
+            return Err(LineFault::RepeatedName { word: 1 });
         }
         if table.len() >= limit {
-            return Err(LineFault::TooMany);
+            return Err(LineFault::TooMany { word: 1 });
         }
         if self.names > MAX_NAME_BYTES || name.len() + 1 > MAX_NAME_BYTES - self.names {
-            return Err(LineFault::TooMany);
+            return Err(LineFault::TooMany { word: 1 });
         }
         Ok(())
     }

@@ -3,9 +3,8 @@ use Rattle.std.proofs.Common.{◌≡◌, ◌+◌, [], ◌∷◌, subst, sym, ap,
 use Rattle.std.proofs.lemmas.Result.{err_from_is_err_and}
 use Rattle.pef_lines.specs.Lines.{lines_of}
 use Rattle.pef_script.specs.Text.Grammar.{after_line, read_lines}
-use Rattle.pef_script.specs.Text.Reads.{FailsAs}
 use Rattle.pef_script.specs.Text.Kept.Reader.{so_far}
-use Rattle.pef_script.specs.Text.Kept.Steps.{ReadsLines}
+use Rattle.pef_script.specs.Text.Kept.Steps.{FailsIn, ReadsLines}
 use Rattle.pef_lines.proofs.Laws.{lines_of-last, lines_of-cut, cut_at-shorter}
 use Rattle.pef_script.proofs.TextProofs.LineLemmas.{last_line, read_lines-fails}
 use Rattle.pef_script.proofs.text.script.read_lines.Goals as goal
@@ -19,7 +18,7 @@ returns-in_err-read_numbered c =
     let cut = lines_of-cut c.lines.rest.now c.in-Some.line.now c.in-Some.behind.now (sym c.in-Some.ensures) in
     let whole : read_lines (so_far c.lines.reader) c.lines.number (c.in-Some.line.now ∷ lines_of c.in-Some.behind.now) ≡ read_lines (so_far c.args.reader.now) 1 (lines_of c.args.text.now) =
     ap (read_lines (so_far c.lines.reader) c.lines.number) (sym cut) ∙ c.lines.invariant.whole in
-    rw (p.1, p.2) (subst (FailsAs c.in_err-read_numbered.field-0.0) whole (read_lines-fails c.in_err-read_numbered.field-0.0 (so_far c.lines.reader) c.lines.number c.in-Some.line.now (lines_of c.in-Some.behind.now) c.in_err-read_numbered.ensures))
+    rw (p.1, p.2) (subst (FailsIn c.in_err-read_numbered.field-0.0) whole (read_lines-fails c.in_err-read_numbered.field-0.0 (so_far c.lines.reader) c.lines.number c.in-Some.line.now (lines_of c.in-Some.behind.now) c.in_err-read_numbered.ensures))
 
 pub lines-smaller : goal.lines-smaller
 lines-smaller c =

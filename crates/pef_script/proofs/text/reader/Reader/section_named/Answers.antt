@@ -11,7 +11,7 @@ returns-then-is_named-clause-found c =
     let sections = c.args.self.now.sections.items in
     let named : is_named sections c.args.likely c.args.name.now ≡ true =
     ap (λ (s : List DescribedSection). is_named s c.args.likely c.args.name.now) (sym c.deref.ensures.value) ∙ sym c.is_named.ensures ∙ c.if-is_named.true in
-    sym (ap (λ found. ok_or found UnknownName) (named_is_number sections c.args.likely c.args.name.now c.args.self.now.distinct named))
+    sym (ap (λ found. ok_or found (UnknownName c.args.at)) (named_is_number sections c.args.likely c.args.name.now c.args.self.now.distinct named))
 
 pub returns-then-is_named-clause-below : goal.returns-then-is_named-clause-below
 returns-then-is_named-clause-below c =
