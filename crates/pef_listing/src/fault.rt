@@ -1,8 +1,8 @@
 ghost use Rattle.std.specs.Prelude.{◌≡◌};
-ghost use Rattle.pef_listing.specs.Faults.{fault_name, fault_number};
+ghost use Rattle.pef_listing.specs.Faults.{fault_name, fault_number, fault_place};
 
-use pef_loader::LoaderFault;
-use pef_reloc::RelocFault;
+use pef_format::Place;
+use pef_loader::{LoaderFault, ProgramFault};
 use pef_views::ViewFault;
 use std::fmt;
 use thiserror::Error;
@@ -13,9 +13,9 @@ pub enum ListFault {
     /// They aren't a container.
     View(ViewFault),
     /// The container's loader section breaks a rule.
-    Loader(LoaderFault),
+    Loader { fault: LoaderFault, place: Place },
     /// A relocation program isn't readable.
-    Reloc(RelocFault),
+    Reloc(ProgramFault),
 }
 
 impl ListFault {
@@ -25,8 +25,8 @@ impl ListFault {
     {
         match self {
             ListFault::View(fault) => fault.number(),
-            ListFault::Loader(fault) => fault.number(),
-            ListFault::Reloc(fault) => fault.number(),
+            ListFault::Loader { fault, .. } => fault.number(),
+            ListFault::Reloc(program) => program.fault.number(),
         }
     }
 
@@ -36,8 +36,19 @@ impl ListFault {
     {
         match self {
             ListFault::View(fault) => fault.name(),
-            ListFault::Loader(fault) => fault.name(),
-            ListFault::Reloc(fault) => fault.name(),
+            ListFault::Loader { fault, .. } => fault.name(),
+            ListFault::Reloc(program) => program.fault.name(),
+        }
+    }
+
+    /// Returns the place of the refusal in the container, if it is about a field.
+    pub fn place(&self) -> Option<Place>
+        ensures { result ≡ fault_place self.now }
+    {
+        match self {
+            ListFault::View(fault) => fault.place(),
+            ListFault::Loader { place, .. } => Some(*place),
+            ListFault::Reloc(program) => Some(program.place),
         }
     }
 }

@@ -5,7 +5,7 @@ ghost use Rattle.pef_format.specs.Symbols.{import_seen};
 ghost use Rattle.pef_loader.specs.Loader.{import_of};
 ghost use Rattle.pef_loader.specs.Views.{loaded};
 ghost use Rattle.pef_ports.specs.Sent.{Sends};
-ghost use Rattle.pef_listing.specs.Listed.{programs_fault};
+ghost use Rattle.pef_listing.specs.Listed.{AreReadable};
 ghost use Rattle.pef_listing.specs.Listing.{container_text, each_text, entry_text, export_lines, import_lines, library_lines, magnitude, reloc_lines, section_lines, section_name_text, sign_text, strength_text};
 ghost use Rattle.pef_ports.specs.Pieces.{piece_text};
 
@@ -267,7 +267,7 @@ impl<'a> Lines for Exported<'a> {
 #[derive(Clone, Copy)]
 pub struct Relocations<'a> {
     pub loader: Loader<'a>,
-    pub ghost readable: { programs_fault (loaded loader) ≡ None },
+    pub ghost readable: { AreReadable (loaded loader) },
 }
 
 impl<'a> Lines for Relocations<'a> {

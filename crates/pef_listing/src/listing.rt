@@ -1,20 +1,20 @@
-ghost use Rattle.std.specs.Prelude.{◌≡◌, None};
+ghost use Rattle.std.specs.Prelude.{◌≡◌, IfOk};
 ghost use Rattle.std.specs.Result.{result_err};
 ghost use Rattle.pef_words.specs.Refusals.{result_map};
 ghost use Rattle.pef_views.specs.Views.{contained};
 ghost use Rattle.pef_loader.specs.Views.{loaded};
 ghost use Rattle.pef_ports.specs.Sent.{Sends};
 ghost use Rattle.pef_listing.specs.Listing.{container_lines, entries_lines, imported_lines};
-ghost use Rattle.pef_listing.specs.Listed.{listed_of, program_refusal, programs_fault};
+ghost use Rattle.pef_listing.specs.Listed.{AreReadable, listed_of, program_refusal, programs_fault};
 
 use crate::fault::ListFault;
 use crate::lines::{
     Exported, Libraries, Relocations, Sections, print_each, print_entry, print_header,
     print_imports,
 };
-use pef_loader::Loader;
+use pef_loader::{Loader, ProgramFault};
 use pef_ports::{Page, Sink, StreamFault};
-use pef_reloc::{Program, RelocFault};
+use pef_reloc::Program;
 use pef_views::Container;
 
 /// A container whose parts were all read, so that all of it can be listed.
@@ -22,7 +22,7 @@ use pef_views::Container;
 pub struct Listing<'a> {
     container: Container<'a>,
     loader: Loader<'a>,
-    ghost readable: { programs_fault (loaded loader) ≡ None },
+    ghost readable: { AreReadable (loaded loader) },
 }
 
 impl<'a> Listing<'a> {
@@ -46,11 +46,14 @@ impl<'a> Listing<'a> {
         };
         let loader = match Loader::read(&container) {
             Ok(loader) => loader,
-            Err(fault) => return Err(ListFault::Loader(fault)),
+            Err(fault) => {
+                let place = fault.place(&container);
+                return Err(ListFault::Loader { fault, place });
+            }
         };
-        match test_programs(&loader) {
+        match test_programs(&container, &loader) {
             Ok(()) => Ok(Listing { container, loader }),
-            Err(fault) => Err(ListFault::Reloc(fault)),
+            Err(program) => Err(ListFault::Reloc(program)),
         }
     }
 
@@ -109,21 +112,25 @@ fn print_entries<W: Sink>(
 }
 
 /// Tests the relocation programs, header by header, and reports the first refusal.
-fn test_programs(loader: &Loader<'_>) -> Result<(), RelocFault>
-    ensures { result_err result ≡ programs_fault (loaded loader.now) }
+fn test_programs(container: &Container<'_>, loader: &Loader<'_>) -> Result<(), ProgramFault>
+    ensures refused { result_err result ≡ programs_fault (contained container.now) (loaded loader.now) }
+    ensures readable { IfOk result (λ _. AreReadable (loaded loader.now)) }
 {
     for k in 0..loader.relocs() {
-        test_program(loader, k)?;
+        test_program(container, loader, k as u32)?;
     }
     Ok(())
 }
 
 /// Tests the program of relocation header `k`.
-fn test_program(loader: &Loader<'_>, k: usize) -> Result<(), RelocFault>
-    ensures { result_err result ≡ program_refusal (loaded loader.now) k }
+fn test_program(container: &Container<'_>, loader: &Loader<'_>, k: u32) -> Result<(), ProgramFault>
+    ensures { result_err result ≡ program_refusal (contained container.now) (loaded loader.now) k }
 {
-    if let Some((_, instructions)) = loader.reloc(k) {
-        Program::read(instructions)?;
+    let Some((section, instructions)) = loader.reloc(k as usize) else {
+        return Ok(());
+    };
+    match Program::read(instructions) {
+        Ok(_) => Ok(()),
+        Err(fault) => Err(ProgramFault::new(container, k, section, fault)),
     }
-    Ok(())
 }

@@ -1,11 +1,9 @@
 -- The line of the header and the program, which is readable.
-use Rattle.std.proofs.Common.{◌≡◌, ℕ, List, None, subst, arith}
-use Rattle.pef_words.proofs.Laws.Refusals.{none_among}
+use Rattle.std.proofs.Common.{◌≡◌, ℕ, List, None, subst}
 use Rattle.pef_loader.specs.Views.{loaded}
 use Rattle.pef_reloc.specs.Unrolled.{instrs_of, program_fault}
 use Rattle.pef_reloc.specs.Views.{program_bytes}
 use Rattle.pef_listing.specs.Instructions.{program_text}
-use Rattle.pef_listing.specs.Listed.{program_refusal}
 use Rattle.pef_listing.specs.Listing.{reloc_lines, reloc_text}
 use Rattle.pef_ports.specs.Sent.{Sends}
 use Rattle.pef_ports.proofs.Laws.Sending.{Sends-short, Sends-then, StopsShort-longer}
@@ -15,7 +13,7 @@ use Rattle.pef_listing.proofs.lines.RelocationsLines.print_at.Goals as goal
 pub unreachable-requires-in_default-read : goal.unreachable-requires-in_default-read
 unreachable-requires-in_default-read g c =
     let l = loaded c.args.self.now.loader in
-    let none = none_among (program_refusal l) 0 l.header.reloc_count c.args.i c.args.self.now.readable (omega arith) (omega (arith, c.requires)) in
+    let none = c.args.self.now.readable c.args.i c.requires in
     let here : program_fault c.in-Some.instructions.now ≡ None = rw (← c.in-Some.ensures.value) at none in
     c.in_default-read.not-Ok _ (reads_program _ c.in-Some.instructions.now here c.read.ensures).1
 
@@ -29,7 +27,7 @@ pub returns : goal.returns
 unfolding reloc_lines reloc_text
 returns g c =
     let l = loaded c.args.self.now.loader in
-    let none = none_among (program_refusal l) 0 l.header.reloc_count c.args.i c.args.self.now.readable (omega arith) (omega (arith, c.requires)) in
+    let none = c.args.self.now.readable c.args.i c.requires in
     let here : program_fault c.in-Some.instructions.now ≡ None = rw (← c.in-Some.ensures.value) at none in
     let bytes : program_bytes c.in-Ok.program ≡ c.in-Some.instructions.now = reads_program_bytes c.in-Ok.program c.in-Some.instructions.now here c.in-Ok.ensures in
     let P : List ℕ → Type 0 = λ b. Sends c.print_program.result (g.W.Sink.stream c.print_pieces.new.out) (g.W.Sink.stream c.print_program.new.out) c.print_pieces.new.page.items c.print_program.new.page.items (program_text (instrs_of b)) in
