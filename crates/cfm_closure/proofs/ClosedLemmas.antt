@@ -7,7 +7,7 @@ use Rattle.pef_words.specs.Refusals.{unless}
 use Rattle.pef_words.proofs.Laws.Refusals.{neither, none_among, unless_ok}
 use Rattle.cfm_closure.specs.Stores.{Pair, pair_of}
 use Rattle.cfm_closure.specs.Faults.{BindRefusal, reexport_loop}
-use Rattle.cfm_closure.specs.Fragments.{import_count}
+use Rattle.cfm_closure.specs.Fragments.{import_count, import_place}
 use Rattle.cfm_closure.specs.Orders.{EndsWith, IsComplete}
 use Rattle.cfm_closure.specs.Walk.{order_of}
 use Rattle.cfm_closure.proofs.OrderFacts.{order-complete, order-last}
@@ -78,7 +78,7 @@ closed-target pairs root c p j is there under =
 pub own-target : (pairs : List Pair) (root : ℕ) (c : Closed) (p j : ℕ) → closed_of pairs root ≡ Ok c → Contains c.order p → target_within pairs c.order p j ≡ target_of pairs p j
 unfolding target_of
 own-target pairs root c p j is there =
-    ap (λ o. option_map_or (λ (answer : Result (Option Target) BindRefusal). answer) o (Err (reexport_loop (pair_of pairs p).name (symbol_of pairs p j))))
+    ap (λ o. option_map_or (λ (answer : Result (Option Target) BindRefusal). answer) o (Err (reexport_loop (pair_of pairs p).name (symbol_of pairs p j) (import_place pairs p j))))
     (follow-order pairs c.order (closed-complete pairs root c is) p j there)
 
 pub same-targets : (pairs : List Pair) (root root' : ℕ) (c c' : Closed) (p j : ℕ) → closed_of pairs root ≡ Ok c → closed_of pairs root' ≡ Ok c' → Contains c.order p → Contains c'.order p → target_within pairs c.order p j ≡ target_within pairs c'.order p j

@@ -56,16 +56,16 @@ unmet-below marked b q n is below = let P : Option ℕ → Type 0 = λ b. IfSome
 module _ (pairs : List Pair) (table : List (Option FragmentView)) (f : Frame) (read : AreRead pairs table) (frame : IsFrame pairs table f)
     (library : Library) (is : library_of (fragment_seen f.fragment).loader (length f.libraries) ≡ Some library) (under : length f.libraries < count_of f) where
   -- the fragment of the next library entry
-  next_bound : bound_to pairs f.p (length f.libraries) ≡ bound pairs (fragment_seen f.fragment).name library
+  next_bound : bound_to pairs f.p (length f.libraries) ≡ bound pairs (fragment_seen f.fragment) (length f.libraries) library
   next_bound = bound_to-is pairs f.p (length f.libraries) (fragment_seen f.fragment) library (read f.p (fragment_seen f.fragment) frame.read) is
 
   -- if it is refused, so is the rest
-  pub frame-refused : (e : BindFault) (s : Walked) → FailsAs e (bound pairs (fragment_seen f.fragment).name library) → FailsAs e (rest_of_frame pairs f s)
+  pub frame-refused : (e : BindFault) (s : Walked) → FailsAs e (bound pairs (fragment_seen f.fragment) (length f.libraries) library) → FailsAs e (rest_of_frame pairs f s)
   frame-refused e s fails =
-      Fails-also e (bound pairs (fragment_seen f.fragment).name library) (rest_of_frame pairs f s)
+      Fails-also e (bound pairs (fragment_seen f.fragment) (length f.libraries) library) (rest_of_frame pairs f s)
       (λ r refused. rest_of-refused pairs f.p (length f.libraries) (count_of f) s r under (next_bound ∙ refused)) fails
 
-  module _ (b : Option ℕ) (bounds : List (Option ℕ)) (bound_is : bound pairs (fragment_seen f.fragment).name library ≡ Ok b) (more : bounds ≡ f.libraries ++ b ∷ []) where
+  module _ (b : Option ℕ) (bounds : List (Option ℕ)) (bound_is : bound pairs (fragment_seen f.fragment) (length f.libraries) library ≡ Ok b) (more : bounds ≡ f.libraries ++ b ∷ []) where
     long : length bounds ≡ length f.libraries + 1
     long = ap length more ∙ length_push f.libraries b
 

@@ -7,10 +7,11 @@ use Rattle.pef_format.specs.declared.export.ExportValue.TheVariants.{InSection, 
 use Rattle.pef_format.specs.declared.export.ExportValue.TheVariants as value
 use Rattle.pef_format.specs.Exports.{Export, value_of}
 use Rattle.pef_format.specs.Symbols.{Import}
+use Rattle.pef_format.specs.declared.place.Place.{Place}
 use Rattle.pef_loader.specs.Loader.{Loaded, export_of, named_of}
 use Rattle.cfm_closure.specs.Stores.{Pair, pair_of}
 use Rattle.cfm_closure.specs.Faults.{BindRefusal, symbol_missing}
-use Rattle.cfm_closure.specs.Fragments.{import_at, loader_at}
+use Rattle.cfm_closure.specs.Fragments.{import_at, import_place, loader_at}
 use Rattle.cfm_closure.specs.Libraries.{library_at}
 use Rattle.cfm_closure.specs.Targets.{ends, exported, hop, hop_by, hop_from, hop_of, hop_to, through}
 
@@ -37,9 +38,9 @@ through_weak true r q e k is = cc
 through_weak false r q e k is = cc
 
 -- by the export, if there is one
-through_to : (f l : List ℕ) (i : Import) (q' : ℕ) (o : Option (ℕ × Export)) (q e k : ℕ) → hop_to f l i q' o ≡ Ok (through q e k) → (x : ℕ × Export) × (o ≡ Some x) × (q' ≡ q) × (x.0 ≡ e) × (value_of x.1.section x.1.value ≡ Reexport k)
-through_to f l i q' None q e k is = absurd (through_weak i.weak (symbol_missing f l i.name) q e k is)
-through_to f l i q' (Some x) q e k is =
+through_to : (f l : List ℕ) (place : Place) (i : Import) (q' : ℕ) (o : Option (ℕ × Export)) (q e k : ℕ) → hop_to f l place i q' o ≡ Ok (through q e k) → (x : ℕ × Export) × (o ≡ Some x) × (q' ≡ q) × (x.0 ≡ e) × (value_of x.1.section x.1.value ≡ Reexport k)
+through_to f l place i q' None q e k is = absurd (through_weak i.weak (symbol_missing f l i.name place) q e k is)
+through_to f l place i q' (Some x) q e k is =
     let by = through_by q' x.0 (value_of x.1.section x.1.value) q e k (cc) in
     (x, refl, by.0, by.1, by.2)
 
@@ -55,14 +56,14 @@ exported_is name loader (Some e) x named is = by (export_of loader e) refl is
         let P : ℕ × Export → Type 0 = λ x. (Some e ≡ Some x.0) × (export_of loader x.0 ≡ Some x.1) in
         subst P same (refl, there)
 
-goes_from : (pairs : List Pair) (p j : ℕ) (i : Import) (o : Option ℕ) (q e k : ℕ) → import_at pairs p j ≡ Some i → library_at pairs p i.library ≡ o → hop_from pairs p i o ≡ Ok (through q e k) → GoesOn pairs p j q e k
+goes_from : (pairs : List Pair) (p j : ℕ) (i : Import) (o : Option ℕ) (q e k : ℕ) → import_at pairs p j ≡ Some i → library_at pairs p i.library ≡ o → hop_from pairs p j i o ≡ Ok (through q e k) → GoesOn pairs p j q e k
 goes_from pairs p j i None q e k there library is = absurd (cc)
 goes_from pairs p j i (Some q') q e k there library is = by (loader_at pairs q') refl is
   where
-    by : (o : Option Loaded) → loader_at pairs q' ≡ o → hop_to (pair_of pairs p).name (pair_of pairs q').name i q' (option_and_then (exported i.name) o) ≡ Ok (through q e k) → GoesOn pairs p j q e k
-    by None read is = absurd (let x = through_to (pair_of pairs p).name (pair_of pairs q').name i q' None q e k is in let none = x.1 in cc)
+    by : (o : Option Loaded) → loader_at pairs q' ≡ o → hop_to (pair_of pairs p).name (pair_of pairs q').name (import_place pairs p j) i q' (option_and_then (exported i.name) o) ≡ Ok (through q e k) → GoesOn pairs p j q e k
+    by None read is = absurd (let x = through_to (pair_of pairs p).name (pair_of pairs q').name (import_place pairs p j) i q' None q e k is in let none = x.1 in cc)
     by (Some loader) read is =
-        let x = through_to (pair_of pairs p).name (pair_of pairs q').name i q' (exported i.name loader) q e k is in
+        let x = through_to (pair_of pairs p).name (pair_of pairs q').name (import_place pairs p j) i q' (exported i.name loader) q e k is in
         let found = exported_is i.name loader (named_of loader i.name) x.0 refl x.1 in
         record {
           symbol = i;
@@ -76,7 +77,7 @@ goes_from pairs p j i (Some q') q e k there library is = by (loader_at pairs q')
           value = x.4;
         }
 
-goes_of : (pairs : List Pair) (p j : ℕ) (o : Option Import) (q e k : ℕ) → import_at pairs p j ≡ o → hop_of pairs p o ≡ Ok (through q e k) → GoesOn pairs p j q e k
+goes_of : (pairs : List Pair) (p j : ℕ) (o : Option Import) (q e k : ℕ) → import_at pairs p j ≡ o → hop_of pairs p j o ≡ Ok (through q e k) → GoesOn pairs p j q e k
 goes_of pairs p j None q e k there is = absurd (cc)
 goes_of pairs p j (Some i) q e k there is = goes_from pairs p j i (library_at pairs p i.library) q e k there refl is
 

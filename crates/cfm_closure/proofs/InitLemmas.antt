@@ -1,7 +1,7 @@
 -- Fragments that are taken for initialization.
 use Rattle.std.proofs.Common.{◌≡◌, ℕ, zero, suc, ◌+◌, ◌-◌, ◌<◌, ◌≤◌, ◌==◌, Bool, true, false, cond, not, List, length, drop, Option, None, Some, refl, sym, ap, ◌∙◌, subst, get_or, set, inl, inr, arith, Contains}
 use Rattle.std.specs.Prelude.{◌&&◌, replicate}
-use Rattle.std.specs.Option.{is_none, is_some, option_and_then}
+use Rattle.std.specs.Option.{is_none, is_some, option_and_then, unwrap_or}
 use Rattle.std.proofs.lemmas.Bool.{cases_lt, eq-eqb, ne_eqb}
 use Rattle.std.proofs.lemmas.Bool.Decides.{eqb_tells}
 use Rattle.std.proofs.lemmas.List.{at_drop_more, get_or-replicate, get_or-set_other, get_or-set_same, get_or_past, length-replicate, length-set}
@@ -12,7 +12,7 @@ use Rattle.cfm_closure.specs.Fragments.{library_count}
 use Rattle.cfm_closure.specs.Orders.{IsComplete}
 use Rattle.cfm_closure.specs.Walk.{Walked, is_marked, joining, marking, unwalked}
 use Rattle.cfm_closure.specs.declared.init_order.InitState.{InitState}
-use Rattle.cfm_closure.specs.Initialization.{awaits, before_of, first_left, init_order_of, is_ready, next_ready, take_next, take_ready, taken_all}
+use Rattle.cfm_closure.specs.Initialization.{awaited, awaits, before_of, first_left, init_order_of, is_ready, next_ready, take_next, take_ready, taken_all}
 use Rattle.cfm_closure.specs.Kept.Taken.{IsFresh, IsInitState, taken_of}
 
 some_of : {A : Type 0} (o : Option A) → is_some o ≡ true → (x : A) × (o ≡ Some x)
@@ -34,6 +34,11 @@ module _ (pairs : List Pair) (s : Walked) (p : ℕ) where
       ap is_none (first_among-none (awaits pairs s p) 0 (library_count pairs p) (λ k low high. none k (omega arith)))
       ∙ sym (eq-eqb (library_count pairs p) (library_count pairs p) refl)
 
+  -- .. and all entries were passed
+  pub awaited-all : ((k : ℕ) → k < library_count pairs p → awaits pairs s p k ≡ None) → awaited pairs s p ≡ library_count pairs p
+  unfolding awaited
+  awaited-all none = ap (λ o. unwrap_or o (library_count pairs p)) (first_among-none (awaits pairs s p) 0 (library_count pairs p) (λ k low high. none k (omega arith)))
+
   -- if one does, it isn't
   pub ready-not : (l : ℕ) → l < library_count pairs p → ((k : ℕ) → k < l → awaits pairs s p k ≡ None) → is_some (awaits pairs s p l) ≡ true → is_ready pairs s p ≡ (l == library_count pairs p)
   ready-not l under none waits =
@@ -42,6 +47,22 @@ module _ (pairs : List Pair) (s : Walked) (p : ℕ) where
       let e : l ≡ 0 + l = omega arith in
       ap is_none (first_among-at (awaits pairs s p) 0 (library_count pairs p) l x.0 under (λ k low high. none k (omega arith)) (subst P e x.1))
       ∙ sym (ne_eqb l (library_count pairs p) (λ same. absurd (omega arith)))
+
+  -- .. and that entry is the first that waits
+  pub awaited-first : (l : ℕ) → l < library_count pairs p → ((k : ℕ) → k < l → awaits pairs s p k ≡ None) → is_some (awaits pairs s p l) ≡ true → awaited pairs s p ≡ l
+  unfolding awaited
+  awaited-first l under none waits =
+      let e : l ≡ 0 + l = omega arith in
+      let P : ℕ → Type 0 = λ n. awaits pairs s p n ≡ Some l in
+      ap (λ o. unwrap_or o (library_count pairs p)) (first_among-at (awaits pairs s p) 0 (library_count pairs p) l l under (λ k low high. none k (omega arith)) (subst P e (itself (before_of pairs p l) waits)))
+    where
+      by : (m : Bool) → is_some (cond {A = Option ℕ} m None (Some l)) ≡ true → cond m None (Some l) ≡ Some l
+      by true waits = absurd (cc)
+      by false waits = refl
+
+      itself : (o : Option ℕ) → is_some (option_and_then (λ q. cond (is_marked s q) None (Some l)) o) ≡ true → option_and_then (λ q. cond (is_marked s q) None (Some l)) o ≡ Some l
+      itself None waits = absurd (cc)
+      itself (Some q) waits = by (is_marked s q) waits
 
 -- the entries that were passed, noted
 pub taking-passed : (pairs : List Pair) (order : List ℕ) (t t' : InitState) (p l : ℕ) → taken_of t' ≡ taken_of t → t'.passed.items ≡ set t.passed.items p l → p < length pairs → IsInitState pairs order t

@@ -4,7 +4,7 @@ use Rattle.std.specs.Prelude.{Result}
 use Rattle.std.specs.Option.{option_and_then, option_map_or}
 use Rattle.cfm_closure.specs.Stores.{Pair, pair_of}
 use Rattle.cfm_closure.specs.Faults.{BindRefusal, reexport_loop}
-use Rattle.cfm_closure.specs.Fragments.{import_count}
+use Rattle.cfm_closure.specs.Fragments.{import_count, import_place}
 use Rattle.cfm_closure.specs.Orders.{IsComplete}
 use Rattle.cfm_closure.specs.declared.targets.Target.{Target}
 use Rattle.cfm_closure.specs.Reexports.{hops, next_of}
@@ -17,19 +17,19 @@ module _ (pairs : List Pair) where
   -- the target to which an import leads is its target, or its refusal
   pub target-led : (p j : ℕ) (a : Result (Option Target) BindRefusal) → led_to pairs (p, j) ≡ Some a → target_of pairs p j ≡ a
   unfolding target_of
-  target-led p j a is = ap (λ o. option_map_or (λ (answer : Result (Option Target) BindRefusal). answer) o (Err (reexport_loop (pair_of pairs p).name (symbol_of pairs p j)))) is
+  target-led p j a is = ap (λ o. option_map_or (λ (answer : Result (Option Target) BindRefusal). answer) o (Err (reexport_loop (pair_of pairs p).name (symbol_of pairs p j) (import_place pairs p j)))) is
 
   -- an import that leads to no target is endless
-  pub target-endless : (p j : ℕ) → led_to pairs (p, j) ≡ None → target_of pairs p j ≡ Err (reexport_loop (pair_of pairs p).name (symbol_of pairs p j))
+  pub target-endless : (p j : ℕ) → led_to pairs (p, j) ≡ None → target_of pairs p j ≡ Err (reexport_loop (pair_of pairs p).name (symbol_of pairs p j) (import_place pairs p j))
   unfolding target_of
-  target-endless p j is = ap (λ o. option_map_or (λ (answer : Result (Option Target) BindRefusal). answer) o (Err (reexport_loop (pair_of pairs p).name (symbol_of pairs p j)))) is
+  target-endless p j is = ap (λ o. option_map_or (λ (answer : Result (Option Target) BindRefusal). answer) o (Err (reexport_loop (pair_of pairs p).name (symbol_of pairs p j) (import_place pairs p j)))) is
 
   -- an import with a target leads to it
   pub led-target : (p j : ℕ) (t : Option Target) → target_of pairs p j ≡ Ok t → led_to pairs (p, j) ≡ Some (Ok t)
   unfolding target_of
   led-target p j t is = by (led_to pairs (p, j)) refl is
     where
-      by : (o : Option (Result (Option Target) BindRefusal)) → led_to pairs (p, j) ≡ o → option_map_or (λ answer. answer) o (Err (reexport_loop (pair_of pairs p).name (symbol_of pairs p j))) ≡ Ok t → o ≡ Some (Ok t)
+      by : (o : Option (Result (Option Target) BindRefusal)) → led_to pairs (p, j) ≡ o → option_map_or (λ answer. answer) o (Err (reexport_loop (pair_of pairs p).name (symbol_of pairs p j) (import_place pairs p j))) ≡ Ok t → o ≡ Some (Ok t)
       by None was is = absurd (cc)
       by (Some a) was is = ap Some is
 

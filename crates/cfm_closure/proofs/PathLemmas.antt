@@ -21,13 +21,13 @@ use Rattle.cfm_closure.proofs.WalkRules.{walk-rule}
 -- a refusal at first is the refusal of the whole
 pub Fails-also : {A B : Type 0} (e : BindFault) (x : Result A BindRefusal) (y : Result B BindRefusal) → ((r : BindRefusal) → x ≡ Err r → y ≡ Err r) → FailsAs e x → FailsAs e y
 Fails-also (fault.Container f v) x y leads is = leads _ is
-Fails-also (fault.Loader f v) x y leads is = leads _ is
-Fails-also (fault.LibraryMissing f l) x y leads is = leads _ is
-Fails-also (fault.SymbolMissing f l s) x y leads is = leads _ is
-Fails-also (fault.ImplementationTooOld f l) x y leads is = leads _ is
-Fails-also (fault.ImplementationTooNew f l) x y leads is = leads _ is
-Fails-also (fault.ReexportLoop f s) x y leads is = leads _ is
-Fails-also (fault.InitLoop f) x y leads is = leads _ is
+Fails-also (fault.Loader f v place) x y leads is = leads _ is
+Fails-also (fault.LibraryMissing f l place) x y leads is = leads _ is
+Fails-also (fault.SymbolMissing f l s place) x y leads is = leads _ is
+Fails-also (fault.ImplementationTooOld f l place needed found) x y leads is = leads _ is
+Fails-also (fault.ImplementationTooNew f l place needed found) x y leads is = leads _ is
+Fails-also (fault.ReexportLoop f s place) x y leads is = leads _ is
+Fails-also (fault.InitLoop f place) x y leads is = leads _ is
 Fails-also fault.OutOfMemory x y leads is = tt
 
 pub then_assoc : {A B C : Type 0} (r : Result A BindRefusal) (f : A → Result B BindRefusal) (g : B → Result C BindRefusal) → ((r >>= f) >>= g) ≡ (r >>= (λ x. f x >>= g))
@@ -95,11 +95,11 @@ rest_of-refused pairs p l count s r under is =
     ∙ ap (λ r. (r >>= (λ q. walk_to (visit pairs) q s >>= walks_from (visit pairs) pairs p (l + 1) (count - (l + 1)))) >>= (λ s. Ok (joining p s))) is
 
 -- the fragment of an entry of a fragment that was read
-pub bound_to-is : (pairs : List Pair) (p l : ℕ) (f : Fragment) (library : Library) → fragment_of pairs p ≡ Ok f → library_of f.loader l ≡ Some library → bound_to pairs p l ≡ bound pairs f.name library
+pub bound_to-is : (pairs : List Pair) (p l : ℕ) (f : Fragment) (library : Library) → fragment_of pairs p ≡ Ok f → library_of f.loader l ≡ Some library → bound_to pairs p l ≡ bound pairs f l library
 unfolding bound_to
 bound_to-is pairs p l f library read is =
-    ap (λ r. r >>= (λ f. option_map_or (bound pairs f.name) (library_of f.loader l) (Ok None))) read
-    ∙ ap (λ o. option_map_or (bound pairs f.name) o (Ok None)) is
+    ap (λ r. r >>= (λ f. option_map_or (bound pairs f l) (library_of f.loader l) (Ok None))) read
+    ∙ ap (λ o. option_map_or (bound pairs f l) o (Ok None)) is
 
 -- the closure order is the result of the walk from the root, with no fragment visited and none on the
 -- path

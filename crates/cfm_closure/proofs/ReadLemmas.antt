@@ -2,6 +2,7 @@
 -- read.
 use Rattle.std.proofs.Common.{◌≡◌, ℕ, ◌<◌, List, length, Some, Ok, Err, sym, ◌∙◌, subst}
 use Rattle.std.specs.Prelude.{◌⊎◌, ⊤}
+use Rattle.pef_format.specs.declared.place.Place.{Place}
 use Rattle.pef_loader.specs.declared.fault.LoaderFault.{LoaderFault}
 use Rattle.pef_views.specs.declared.fault.ViewFault.{ViewFault}
 use Rattle.cfm_closure.specs.Stores.{Pair, pair_of, place_of}
@@ -15,13 +16,13 @@ module _ (pairs : List Pair) (root : ℕ) where
   -- a refusal for bytes is one of a fragment that isn't read
   abbrev Tells : BindRefusal → Type 0
   Tells (no_container f v) = IsOfUnread pairs root f (no_container f v)
-  Tells (no_loader f v) = IsOfUnread pairs root f (no_loader f v)
-  Tells (library_missing f l) = ⊤
-  Tells (symbol_missing f l s) = ⊤
-  Tells (implementation_too_old f l) = ⊤
-  Tells (implementation_too_new f l) = ⊤
-  Tells (reexport_loop f s) = ⊤
-  Tells (init_loop f) = ⊤
+  Tells (no_loader f v place) = IsOfUnread pairs root f (no_loader f v place)
+  Tells (library_missing f l place) = ⊤
+  Tells (symbol_missing f l s place) = ⊤
+  Tells (implementation_too_old f l place needed found) = ⊤
+  Tells (implementation_too_new f l place needed found) = ⊤
+  Tells (reexport_loop f s place) = ⊤
+  Tells (init_loop f place) = ⊤
 
   unread : (p : ℕ) (name : List ℕ) (r : BindRefusal) → IsMet pairs root p → fragment_of pairs p ≡ Err r → (pair_of pairs p).name ≡ name → IsOfUnread pairs root name r
   unread p name r met is named = record {
@@ -38,21 +39,21 @@ module _ (pairs : List Pair) (root : ℕ) where
     where
       by : (r : BindRefusal) → fragment_of pairs p ≡ Err r → IsNamed (pair_of pairs p).name r → Tells r
       by (no_container f v) is named = unread p f (no_container f v) met is named
-      by (no_loader f v) is named = unread p f (no_loader f v) met is named
-      by (library_missing f l) is named = tt
-      by (symbol_missing f l s) is named = tt
-      by (implementation_too_old f l) is named = tt
-      by (implementation_too_new f l) is named = tt
-      by (reexport_loop f s) is named = tt
-      by (init_loop f) is named = tt
+      by (no_loader f v place) is named = unread p f (no_loader f v place) met is named
+      by (library_missing f l place) is named = tt
+      by (symbol_missing f l s place) is named = tt
+      by (implementation_too_old f l place needed found) is named = tt
+      by (implementation_too_new f l place needed found) is named = tt
+      by (reexport_loop f s place) is named = tt
+      by (init_loop f place) is named = tt
 
   all_tell : Covers pairs root Tells
   all_tell = record {
-    library = λ f l. tt;
-    symbol = λ f l s. tt;
-    too_old = λ f l. tt;
-    too_new = λ f l. tt;
-    init = λ f. tt;
+    library = λ f l place. tt;
+    symbol = λ f l s place. tt;
+    too_old = λ f l place needed found. tt;
+    too_new = λ f l place needed found. tt;
+    init = λ f place. tt;
     bytes = told;
   }
 
@@ -63,8 +64,8 @@ module _ (pairs : List Pair) (root : ℕ) where
   pub closed-no_container : (name : List ℕ) (v : ViewFault) → root < length pairs → closed_of pairs root ≡ Err (no_container name v) → IsOfUnread pairs root name (no_container name v)
   closed-no_container name v inside is = closed-tells (no_container name v) inside is
 
-  pub closed-no_loader : (name : List ℕ) (v : LoaderFault) → root < length pairs → closed_of pairs root ≡ Err (no_loader name v) → IsOfUnread pairs root name (no_loader name v)
-  closed-no_loader name v inside is = closed-tells (no_loader name v) inside is
+  pub closed-no_loader : (name : List ℕ) (v : LoaderFault) (place : Place) → root < length pairs → closed_of pairs root ≡ Err (no_loader name v place) → IsOfUnread pairs root name (no_loader name v place)
+  closed-no_loader name v place inside is = closed-tells (no_loader name v place) inside is
 
 -- .. and if all fragments are read, there is none
 none-unread : (pairs : List Pair) (root : ℕ) → AllRead pairs → (name : List ℕ) (r : BindRefusal) → IsOfUnread pairs root name r → ⊥
@@ -78,10 +79,10 @@ closed-refused pairs read root r inside is = by r (closed-tells pairs root r ins
   where
     by : (r : BindRefusal) → Tells pairs root r → IsOfBinding r
     by (no_container f v) tells = none-unread pairs root read f (no_container f v) tells
-    by (no_loader f v) tells = none-unread pairs root read f (no_loader f v) tells
-    by (library_missing f l) tells = tt
-    by (symbol_missing f l s) tells = tt
-    by (implementation_too_old f l) tells = tt
-    by (implementation_too_new f l) tells = tt
-    by (reexport_loop f s) tells = tt
-    by (init_loop f) tells = tt
+    by (no_loader f v place) tells = none-unread pairs root read f (no_loader f v place) tells
+    by (library_missing f l place) tells = tt
+    by (symbol_missing f l s place) tells = tt
+    by (implementation_too_old f l place needed found) tells = tt
+    by (implementation_too_new f l place needed found) tells = tt
+    by (reexport_loop f s place) tells = tt
+    by (init_loop f place) tells = tt

@@ -6,41 +6,46 @@ use Rattle.std.specs.Option.{option_and_then, option_map_or, option_or}
 use Rattle.std.specs.Result.{result_err}
 use Rattle.pef_format.specs.Exports.{Export}
 use Rattle.pef_format.specs.Symbols.{Import, options_of}
+use Rattle.pef_format.specs.declared.place.Part.TheVariants as part
+use Rattle.pef_format.specs.declared.place.Place.{Place}
+use Rattle.pef_loader.specs.Faults.{fault_place as loader_fault_place}
 use Rattle.pef_loader.specs.Library.{Library}
 use Rattle.pef_loader.specs.Loader.{Loaded, library_of, loaded_of}
 use Rattle.pef_loader.specs.declared.fault.LoaderFault.{LoaderFault}
 use Rattle.pef_views.specs.Container.{Contained, container_of}
 use Rattle.pef_views.specs.declared.fault.ViewFault.{ViewFault}
 use Rattle.pef_words.specs.Refusals.{first_among, unless}
+use Rattle.cfm_closure.specs.declared.versions.Definition.{Definition}
+use Rattle.cfm_closure.specs.declared.versions.Implementation.{Implementation}
 use Rattle.cfm_closure.specs.declared.versions.Fit.{Fit}
 use Rattle.cfm_closure.specs.declared.versions.Fit.TheVariants.{Fits, TooOld, TooNew}
 use Rattle.cfm_closure.specs.Stores.{Pair, pair_of, place_of}
 use Rattle.cfm_closure.proofs.PlaceLemmas.{place_of-below, place_of-first}
 use Rattle.cfm_closure.specs.Faults.{BindRefusal, implementation_too_new, implementation_too_old, init_loop, library_missing, no_container, no_loader, reexport_loop, symbol_missing}
-use Rattle.cfm_closure.specs.Fragments.{Fragment, fragment_of, import_at, import_count, loader_at, with_container, with_loader}
-use Rattle.cfm_closure.specs.Libraries.{absent_or, bound, bound_at, bound_by, bound_to, fit_with, library_at}
+use Rattle.cfm_closure.specs.Fragments.{Fragment, fragment_of, import_at, import_count, import_place, loader_at, part_place, place_at, with_container, with_loader}
+use Rattle.cfm_closure.specs.Libraries.{absent_or, bound, bound_at, bound_by, bound_to, definition_of, fit_with, implementation_of, library_at}
 use Rattle.cfm_closure.specs.Walk.{Walked, is_marked, joining, marking, order_of, unwalked, walk, walk_at, walk_to, walks_from}
 use Rattle.cfm_closure.proofs.BoundLemmas.{stands_for}
 use Rattle.pef_words.specs.Results.{◌>>=◌}
 use Rattle.cfm_closure.specs.declared.targets.Target.{Target}
 use Rattle.cfm_closure.specs.Closures.{Closed, closed_of, first_refused, import_refusal, imports_refusal}
-use Rattle.cfm_closure.specs.Initialization.{first_left, init_order_of, next_ready, take_next, take_ready, taken_all}
+use Rattle.cfm_closure.specs.Initialization.{awaited, first_left, init_order_of, next_ready, take_next, take_ready, taken_all}
 use Rattle.cfm_closure.specs.Targets.{Hop, ends, exported, exports_in, follow, followed, hop, hop_from, hop_of, hop_to, symbol_of, target_of, through}
 
 -- a refusal of a fragment is one of its bytes, and has its name
 abbrev pub IsNamed : List ℕ → BindRefusal → Type 0
 IsNamed name (no_container f v) = name ≡ f
-IsNamed name (no_loader f v) = name ≡ f
-IsNamed name (library_missing f l) = ⊥
-IsNamed name (symbol_missing f l s) = ⊥
-IsNamed name (implementation_too_old f l) = ⊥
-IsNamed name (implementation_too_new f l) = ⊥
-IsNamed name (reexport_loop f s) = ⊥
-IsNamed name (init_loop f) = ⊥
+IsNamed name (no_loader f v place) = name ≡ f
+IsNamed name (library_missing f l place) = ⊥
+IsNamed name (symbol_missing f l s place) = ⊥
+IsNamed name (implementation_too_old f l place needed found) = ⊥
+IsNamed name (implementation_too_new f l place needed found) = ⊥
+IsNamed name (reexport_loop f s place) = ⊥
+IsNamed name (init_loop f place) = ⊥
 
 loader-named : (name : List ℕ) (c : Contained) (l : Result Loaded LoaderFault) (r : BindRefusal) → with_loader name c l ≡ Err r → IsNamed name r
 loader-named name c (Ok l) r is = absurd (cc)
-loader-named name c (Err fault) r is = let same : no_loader name fault ≡ r = cc in subst (IsNamed name) same refl
+loader-named name c (Err fault) r is = let same : no_loader name fault (loader_fault_place c fault) ≡ r = cc in subst (IsNamed name) same refl
 
 container-named : (name : List ℕ) (c : Result Contained ViewFault) (r : BindRefusal) → with_container name c ≡ Err r → IsNamed name r
 container-named name (Ok c) r is = loader-named name c (loaded_of c.header.instantiated_section_count c.loader) r is
@@ -64,11 +69,11 @@ module _ (pairs : List Pair) (root : ℕ) where
 
   -- a fact of each refusal except that of an endless import
   pub record Covers (T : BindRefusal → Type 0) : Type 0 where
-    pub library : (f l : List ℕ) → T (library_missing f l)
-    pub symbol : (f l s : List ℕ) → T (symbol_missing f l s)
-    pub too_old : (f l : List ℕ) → T (implementation_too_old f l)
-    pub too_new : (f l : List ℕ) → T (implementation_too_new f l)
-    pub init : (f : List ℕ) → T (init_loop f)
+    pub library : (f l : List ℕ) (place : Place) → T (library_missing f l place)
+    pub symbol : (f l s : List ℕ) (place : Place) → T (symbol_missing f l s place)
+    pub too_old : (f l : List ℕ) (place : Place) (needed : Definition) (found : Implementation) → T (implementation_too_old f l place needed found)
+    pub too_new : (f l : List ℕ) (place : Place) (needed : Definition) (found : Implementation) → T (implementation_too_new f l place needed found)
+    pub init : (f : List ℕ) (place : Place) → T (init_loop f place)
     pub bytes : (p : ℕ) (r : BindRefusal) → IsMet p → fragment_of pairs p ≡ Err r → T r
 
   module _ (T : BindRefusal → Type 0) (covers : Covers T) where
@@ -86,10 +91,14 @@ module _ (pairs : List Pair) (root : ℕ) where
     absent-binds true r of = tt
     absent-binds false r of = of
 
-    fit-binds : (fit : Fit) (name : List ℕ) (l : Library) (q : ℕ) → Binds (bound_by fit name l q)
-    fit-binds Fits name l q = tt
-    fit-binds TooOld name l q = absent-binds (options_of l.options).weak (implementation_too_old name l.name) (covers.too_old name l.name)
-    fit-binds TooNew name l q = absent-binds (options_of l.options).weak (implementation_too_new name l.name) (covers.too_new name l.name)
+    fit-binds : (fit : Fit) (f : Fragment) (i : ℕ) (l : Library) (g : Fragment) (q : ℕ) → Binds (bound_by fit f i l g q)
+    fit-binds Fits f i l g q = tt
+    fit-binds TooOld f i l g q =
+        absent-binds (options_of l.options).weak (implementation_too_old f.name l.name (part_place f part.Library i 4) (definition_of l) (implementation_of g))
+        (covers.too_old f.name l.name (part_place f part.Library i 4) (definition_of l) (implementation_of g))
+    fit-binds TooNew f i l g q =
+        absent-binds (options_of l.options).weak (implementation_too_new f.name l.name (part_place f part.Library i 4) (definition_of l) (implementation_of g))
+        (covers.too_new f.name l.name (part_place f part.Library i 4) (definition_of l) (implementation_of g))
 
     take-binds : (n : ℕ) (order : List ℕ) (s : Walked) → Binds (take_ready n pairs order s)
     unfolding take_ready
@@ -97,12 +106,12 @@ module _ (pairs : List Pair) (root : ℕ) where
       where
         by : (o : Option ℕ) → Binds (taken_all pairs s o)
         by None = tt
-        by (Some p) = covers.init (pair_of pairs p).name
+        by (Some p) = covers.init (pair_of pairs p).name (place_at pairs p part.Library (awaited pairs s p) 20)
     take-binds (suc n) order s = next (next_ready pairs s order) (λ t. take-binds n order t)
       where
         by : (o : Option ℕ) → Binds (taken_all pairs s o)
         by None = tt
-        by (Some p) = covers.init (pair_of pairs p).name
+        by (Some p) = covers.init (pair_of pairs p).name (place_at pairs p part.Library (awaited pairs s p) 20)
 
         next : (o : Option ℕ) → ((t : Walked) → Binds (take_ready n pairs order t)) → Binds (take_next (take_ready n pairs order) pairs order s o)
         next None deeper = by (first_left s order)
@@ -115,24 +124,24 @@ module _ (pairs : List Pair) (root : ℕ) where
         by (Ok f) is = tt
         by (Err r) is = covers.bytes p r met is
 
-    library-binds : (name : List ℕ) (l : Library) → Binds (bound pairs name l)
+    library-binds : (f : Fragment) (i : ℕ) (l : Library) → Binds (bound pairs f i l)
     unfolding bound
-    library-binds name l = by (place_of pairs l.name) refl
+    library-binds f i l = by (place_of pairs l.name) refl
       where
         met : (q : ℕ) → place_of pairs l.name ≡ Some q → IsMet q
         met q was = record { inside = place_of-below pairs l.name q was; found = inr (place_of-first pairs l.name q was) }
 
-        by : (o : Option ℕ) → place_of pairs l.name ≡ o → Binds (bound_at pairs name l o)
-        by None was = absent-binds (options_of l.options).weak (library_missing name l.name) (covers.library name l.name)
-        by (Some q) was = binds-then (fragment_of pairs q) (λ f. bound_by (fit_with l f) name l q) (fragment-binds q (met q was)) (λ f is. fit-binds (fit_with l f) name l q)
+        by : (o : Option ℕ) → place_of pairs l.name ≡ o → Binds (bound_at pairs f i l o)
+        by None was = absent-binds (options_of l.options).weak (library_missing f.name l.name (part_place f part.Library i 0)) (covers.library f.name l.name (part_place f part.Library i 0))
+        by (Some q) was = binds-then (fragment_of pairs q) (λ g. bound_by (fit_with l g) f i l g q) (fragment-binds q (met q was)) (λ g is. fit-binds (fit_with l g) f i l g q)
 
     entry-binds : (p l : ℕ) → IsMet p → Binds (bound_to pairs p l)
     unfolding bound_to
-    entry-binds p l met = binds-then (fragment_of pairs p) (λ f. option_map_or (bound pairs f.name) (library_of f.loader l) (Ok None)) (fragment-binds p met) (λ f is. by f (library_of f.loader l))
+    entry-binds p l met = binds-then (fragment_of pairs p) (λ f. option_map_or (bound pairs f l) (library_of f.loader l) (Ok None)) (fragment-binds p met) (λ f is. by f (library_of f.loader l))
       where
-        by : (f : Fragment) (o : Option Library) → Binds (option_map_or (bound pairs f.name) o (Ok None))
+        by : (f : Fragment) (o : Option Library) → Binds (option_map_or (bound pairs f l) o (Ok None))
         by f None = tt
-        by f (Some x) = library-binds f.name x
+        by f (Some x) = library-binds f l x
 
     walks-bind : (v : ℕ → Walked → Result Walked BindRefusal) → ((q : ℕ) (s : Walked) → IsMet q → Binds (v q s)) → (p l n : ℕ) (s : Walked) → IsMet p → Binds (walks_from v pairs p l n s)
     walks-bind v each p l zero s met = tt
@@ -167,15 +176,16 @@ module _ (pairs : List Pair) (root : ℕ) where
         weak true r is = tt
         weak false r is = is
 
-        to : (q : ℕ) (i : Import) (o : Option (ℕ × Export)) → Binds (hop_to (pair_of pairs p).name (pair_of pairs q).name i q o)
-        to q i None = weak i.weak (symbol_missing (pair_of pairs p).name (pair_of pairs q).name i.name) (covers.symbol (pair_of pairs p).name (pair_of pairs q).name i.name)
+        to : (q : ℕ) (i : Import) (o : Option (ℕ × Export)) → Binds (hop_to (pair_of pairs p).name (pair_of pairs q).name (import_place pairs p j) i q o)
+        to q i None =
+            weak i.weak (symbol_missing (pair_of pairs p).name (pair_of pairs q).name i.name (import_place pairs p j)) (covers.symbol (pair_of pairs p).name (pair_of pairs q).name i.name (import_place pairs p j))
         to q i (Some x) = tt
 
-        from : (i : Import) (o : Option ℕ) → Binds (hop_from pairs p i o)
+        from : (i : Import) (o : Option ℕ) → Binds (hop_from pairs p j i o)
         from i None = tt
         from i (Some q) = to q i (option_and_then (exported i.name) (loader_at pairs q))
 
-        of : (o : Option Import) → Binds (hop_of pairs p o)
+        of : (o : Option Import) → Binds (hop_of pairs p j o)
         of None = tt
         of (Some i) = from i (library_at pairs p i.library)
 
@@ -204,12 +214,12 @@ module _ (pairs : List Pair) (root : ℕ) where
     ordered-binds order = take-binds (length order) order (unwalked pairs)
 
     -- .. and of that of such an import too
-    module _ (loop : (p j : ℕ) → T (reexport_loop (pair_of pairs p).name (symbol_of pairs p j))) where
+    module _ (loop : (p j : ℕ) → T (reexport_loop (pair_of pairs p).name (symbol_of pairs p j) (import_place pairs p j))) where
       target-binds : (p j : ℕ) → Binds (target_of pairs p j)
       unfolding target_of
       target-binds p j = by (follow (exports_in pairs) pairs p j) (follow-binds (exports_in pairs) p j)
         where
-          by : (o : Option (Result (Option Target) BindRefusal)) → AnswerBinds o → Binds (option_map_or (λ answer. answer) o (Err (reexport_loop (pair_of pairs p).name (symbol_of pairs p j))))
+          by : (o : Option (Result (Option Target) BindRefusal)) → AnswerBinds o → Binds (option_map_or (λ answer. answer) o (Err (reexport_loop (pair_of pairs p).name (symbol_of pairs p j) (import_place pairs p j))))
           by None binds = loop p j
           by (Some answer) binds = binds
 

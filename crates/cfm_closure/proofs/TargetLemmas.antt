@@ -8,6 +8,7 @@ use Rattle.pef_format.specs.declared.export.ExportValue.TheVariants.{InSection, 
 use Rattle.pef_format.specs.declared.export.ExportValue.TheVariants as value
 use Rattle.pef_format.specs.Exports.{Export, is_export_section, value_of}
 use Rattle.pef_format.specs.Symbols.{Import}
+use Rattle.pef_format.specs.declared.place.Place.{Place}
 use Rattle.pef_views.specs.Container.{Contained, container_of}
 use Rattle.pef_views.specs.declared.fault.ViewFault.{ViewFault}
 use Rattle.pef_loader.specs.Export.{has_section, is_there}
@@ -16,7 +17,7 @@ use Rattle.pef_loader.specs.declared.fault.LoaderFault.{LoaderFault}
 use Rattle.pef_loader.proofs.Laws.{loaded_of-ok, named_there}
 use Rattle.cfm_closure.specs.Stores.{Pair, pair_of}
 use Rattle.cfm_closure.specs.Faults.{BindRefusal, reexport_loop, symbol_missing}
-use Rattle.cfm_closure.specs.Fragments.{Fragment, fragment_of, import_at, with_container, with_loader}
+use Rattle.cfm_closure.specs.Fragments.{Fragment, fragment_of, import_at, import_place, with_container, with_loader}
 use Rattle.cfm_closure.specs.Libraries.{library_at}
 use Rattle.cfm_closure.specs.Orders.{IsComplete}
 use Rattle.cfm_closure.proofs.BoundLemmas.{library_at-is}
@@ -67,23 +68,23 @@ module _ (pairs : List Pair) (order : List ℕ) (complete : IsComplete pairs ord
       by (Reexport import) has is = absurd (cc)
 
   -- the export with a name, or none
-  in_exported : (p q : ℕ) (f : Fragment) (i : Import) (t : Option Target) → Contains order q → fragment_of pairs q ≡ Ok f
-      → hop_to (pair_of pairs p).name (pair_of pairs q).name i q (exported i.name f.loader) ≡ Ok (ends t) → LiesInside pairs order t
-  in_exported p q f i t there read is = found (named_of f.loader i.name) refl is
+  in_exported : (p q : ℕ) (place : Place) (f : Fragment) (i : Import) (t : Option Target) → Contains order q → fragment_of pairs q ≡ Ok f
+      → hop_to (pair_of pairs p).name (pair_of pairs q).name place i q (exported i.name f.loader) ≡ Ok (ends t) → LiesInside pairs order t
+  in_exported p q place f i t there read is = found (named_of f.loader i.name) refl is
     where
       refusal : BindRefusal
-      refusal = symbol_missing (pair_of pairs p).name (pair_of pairs q).name i.name
+      refusal = symbol_missing (pair_of pairs p).name (pair_of pairs q).name i.name place
 
       weak : (b : Bool) → cond b (Ok (ends None)) (Err refusal) ≡ Ok (ends t) → LiesInside pairs order t
       weak true is = let same : None ≡ t = cc in subst (LiesInside pairs order) same tt
       weak false is = absurd (cc)
 
       found : (n : Option ℕ) → named_of f.loader i.name ≡ n
-          → hop_to (pair_of pairs p).name (pair_of pairs q).name i q (option_and_then (λ e. option_map (λ x. (e, x)) (export_of f.loader e)) n) ≡ Ok (ends t) → LiesInside pairs order t
+          → hop_to (pair_of pairs p).name (pair_of pairs q).name place i q (option_and_then (λ e. option_map (λ x. (e, x)) (export_of f.loader e)) n) ≡ Ok (ends t) → LiesInside pairs order t
       found None was is = weak i.weak is
       found (Some e) was is =
           let named = named_there f.loader i.name e (fragment-sound pairs q f read).loader was in
-          let hops : Option Export → Result Hop BindRefusal = λ o. hop_to (pair_of pairs p).name (pair_of pairs q).name i q (option_map (λ x. (e, x)) o) in
+          let hops : Option Export → Result Hop BindRefusal = λ o. hop_to (pair_of pairs p).name (pair_of pairs q).name place i q (option_map (λ x. (e, x)) o) in
           let at : ◌≡◌ {A = Result Hop BindRefusal} (Ok (hop_by q e (value_of named.0.section named.0.value))) (Ok (ends t)) = ap hops (sym named.1) ∙ is in
           in_section q f e named.0 t there read named.3 (cc)
 
@@ -94,15 +95,15 @@ module _ (pairs : List Pair) (order : List ℕ) (complete : IsComplete pairs ord
       nothing : ◌≡◌ {A = Result Hop BindRefusal} (Ok (ends None)) (Ok (ends t)) → LiesInside pairs order t
       nothing is = let same : None ≡ t = cc in subst (LiesInside pairs order) same tt
 
-      from : (i : Import) (o : Option ℕ) → library_at pairs p i.library ≡ o → hop_from pairs p i o ≡ Ok (ends t) → LiesInside pairs order t
+      from : (i : Import) (o : Option ℕ) → library_at pairs p i.library ≡ o → hop_from pairs p j i o ≡ Ok (ends t) → LiesInside pairs order t
       from i None was is = nothing is
       from i (Some q) was is =
           let here : Contains order q = bound-inside pairs order p i.library (Some q) complete there (library_at-is pairs p i.library q was) in
           let m = complete.members q here in
-          let hops : Option Loaded → Result Hop BindRefusal = λ o. hop_to (pair_of pairs p).name (pair_of pairs q).name i q (option_and_then (exported i.name) o) in
-          in_exported p q m.fragment i t here m.read (ap hops (sym (loader_at-is pairs q m.fragment m.read)) ∙ is)
+          let hops : Option Loaded → Result Hop BindRefusal = λ o. hop_to (pair_of pairs p).name (pair_of pairs q).name (import_place pairs p j) i q (option_and_then (exported i.name) o) in
+          in_exported p q (import_place pairs p j) m.fragment i t here m.read (ap hops (sym (loader_at-is pairs q m.fragment m.read)) ∙ is)
 
-      by : (o : Option Import) → hop_of pairs p o ≡ Ok (ends t) → LiesInside pairs order t
+      by : (o : Option Import) → hop_of pairs p j o ≡ Ok (ends t) → LiesInside pairs order t
       by None is = nothing is
       by (Some i) is = from i (library_at pairs p i.library) refl is
 
@@ -129,6 +130,6 @@ module _ (pairs : List Pair) (order : List ℕ) (complete : IsComplete pairs ord
   target-inside p j t there is = by (follow (exports_in pairs) pairs p j) refl is
     where
       by : (o : Option (Result (Option Target) BindRefusal)) → follow (exports_in pairs) pairs p j ≡ o
-          → option_map_or (λ answer. answer) o (Err (reexport_loop (pair_of pairs p).name (symbol_of pairs p j))) ≡ Ok t → LiesInside pairs order t
+          → option_map_or (λ answer. answer) o (Err (reexport_loop (pair_of pairs p).name (symbol_of pairs p j) (import_place pairs p j))) ≡ Ok t → LiesInside pairs order t
       by None was is = absurd (cc)
       by (Some answer) was is = follow-inside (exports_in pairs) p j t there (was ∙ ap Some is)

@@ -1,12 +1,18 @@
 -- The fragments of a store as they are read: a container and its loader section (Mac OS Runtime
 -- Architectures, "PEF Structure").
-use Rattle.std.specs.Prelude.{ℕ, List, Option, option_map, Result, Ok, Err}
+use Rattle.std.specs.Prelude.{ℕ, List, Option, None, option_map, Result, Ok, Err}
 use Rattle.std.specs.Option.{option_and_then, option_map_or}
 use Rattle.std.specs.Result.{result_ok}
+use Rattle.pef_format.specs.Places.{placed_from}
 use Rattle.pef_format.specs.Symbols.{Import}
+use Rattle.pef_format.specs.declared.place.Part.{Part}
+use Rattle.pef_format.specs.declared.place.Part.TheVariants as part
+use Rattle.pef_format.specs.declared.place.Place.{Place}
 use Rattle.pef_views.specs.Container.{Contained, container_of}
 use Rattle.pef_views.specs.declared.fault.ViewFault.{ViewFault}
+use Rattle.pef_loader.specs.Faults.{fault_place as loader_fault_place}
 use Rattle.pef_loader.specs.Loader.{Loaded, import_of, loaded_of}
+use Rattle.pef_loader.specs.Places.{place_of as container_place}
 use Rattle.pef_loader.specs.declared.fault.LoaderFault.{LoaderFault}
 use Rattle.cfm_closure.specs.Stores.{Pair, pair_of}
 use Rattle.cfm_closure.specs.Faults.{BindRefusal, no_container, no_loader}
@@ -18,7 +24,7 @@ pub record Fragment : Type 0 where
 
 abbrev pub with_loader : List ℕ → Contained → Result Loaded LoaderFault → Result Fragment BindRefusal
 with_loader name c (Ok l) = Ok (record { name = name; container = c; loader = l })
-with_loader name c (Err fault) = Err (no_loader name fault)
+with_loader name c (Err fault) = Err (no_loader name fault (loader_fault_place c fault))
 
 abbrev pub with_container : List ℕ → Result Contained ViewFault → Result Fragment BindRefusal
 with_container name (Ok c) = with_loader name c (loaded_of c.header.instantiated_section_count c.loader)
@@ -49,3 +55,15 @@ export_count pairs p = option_map_or (λ l. l.header.export_count) (loader_at pa
 -- import j of the fragment in a place
 abbrev pub import_at : List Pair → ℕ → ℕ → Option Import
 import_at pairs p j = option_and_then (λ l. import_of l j) (loader_at pairs p)
+
+-- the place of a field of a part of a fragment
+unfoldable pub part_place : Fragment → Part → ℕ → ℕ → Place
+part_place f kind row field = container_place f.container kind row field
+
+-- the same of the fragment in a position of the store, without an offset if it can't be read
+unfoldable pub place_at : List Pair → ℕ → Part → ℕ → ℕ → Place
+place_at pairs p kind row field = option_map_or (λ f. part_place f kind row field) (result_ok (fragment_of pairs p)) (placed_from None kind row field)
+
+-- the place of import j (classAndName)
+abbrev pub import_place : List Pair → ℕ → ℕ → Place
+import_place pairs p j = place_at pairs p part.Import j 0

@@ -1,14 +1,15 @@
 -- The order of initialization routines (Mac OS Runtime Architectures, "Code Fragment Manager",
 -- "Fragment-Defined Initialization and Termination Routines").
 use Rattle.std.specs.Prelude.{ℕ, zero, suc, not, ◌&&◌, Bool, List, [], ◌∷◌, length, Option, None, Some, Result, Ok, Err, if◌then◌else◌}
-use Rattle.std.specs.Option.{is_none, option_and_then}
+use Rattle.std.specs.Option.{is_none, option_and_then, unwrap_or}
 use Rattle.pef_words.specs.Refusals.{first_among}
 use Rattle.pef_format.specs.Symbols.{options_of}
+use Rattle.pef_format.specs.declared.place.Part.TheVariants as part
 use Rattle.pef_loader.specs.Library.{Library}
 use Rattle.pef_loader.specs.Loader.{library_of}
 use Rattle.cfm_closure.specs.Stores.{Pair, pair_of}
 use Rattle.cfm_closure.specs.Faults.{BindRefusal, init_loop}
-use Rattle.cfm_closure.specs.Fragments.{library_count, loader_at}
+use Rattle.cfm_closure.specs.Fragments.{library_count, loader_at, place_at}
 use Rattle.cfm_closure.specs.Libraries.{library_at}
 use Rattle.cfm_closure.specs.Walk.{Walked, is_marked, joining, marking, unwalked}
 
@@ -29,6 +30,10 @@ awaits pairs s p l = option_and_then (λ q. if is_marked s q then None else Some
 abbrev pub is_ready : List Pair → Walked → ℕ → Bool
 is_ready pairs s p = is_none (first_among (awaits pairs s p) 0 (library_count pairs p))
 
+-- the first library entry of a fragment that must come first and wasn't taken, or the number of entries if there is none
+unfoldable pub awaited : List Pair → Walked → ℕ → ℕ
+awaited pairs s p = unwrap_or (first_among (awaits pairs s p) 0 (library_count pairs p)) (library_count pairs p)
+
 -- the first fragment of an order that wasn't taken and is ready
 abbrev pub next_ready : List Pair → Walked → List ℕ → Option ℕ
 next_ready pairs s [] = None
@@ -39,10 +44,10 @@ abbrev pub first_left : Walked → List ℕ → Option ℕ
 first_left s [] = None
 first_left s (p ∷ order) = if is_marked s p then first_left s order else Some p
 
--- no fragment is ready: all are taken, or the first that is left is refused
+-- no fragment is ready: all are taken, or the first that is left is refused, for the options of the library that it awaits
 abbrev pub taken_all : List Pair → Walked → Option ℕ → Result (List ℕ) BindRefusal
 taken_all pairs s None = Ok s.order
-taken_all pairs s (Some p) = Err (init_loop (pair_of pairs p).name)
+taken_all pairs s (Some p) = Err (init_loop (pair_of pairs p).name (place_at pairs p part.Library (awaited pairs s p) 20))
 
 -- the next fragment is taken, and others after it
 abbrev pub take_next : (Walked → Result (List ℕ) BindRefusal) → List Pair → List ℕ → Walked → Option ℕ → Result (List ℕ) BindRefusal

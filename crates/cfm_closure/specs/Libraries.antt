@@ -4,44 +4,52 @@ use Rattle.std.specs.Prelude.{ℕ, Bool, List, Option, None, Some, Result, Ok, E
 use Rattle.std.specs.Option.{option_map_or}
 use Rattle.std.specs.Result.{result_unwrap_or}
 use Rattle.pef_format.specs.Symbols.{options_of}
+use Rattle.pef_format.specs.declared.place.Part.TheVariants as part
 use Rattle.pef_loader.specs.Library.{Library}
 use Rattle.pef_loader.specs.Loader.{library_of}
+use Rattle.cfm_closure.specs.declared.versions.Definition.{Definition}
+use Rattle.cfm_closure.specs.declared.versions.Implementation.{Implementation}
 use Rattle.cfm_closure.specs.declared.versions.Fit.{Fit}
 use Rattle.cfm_closure.specs.declared.versions.Fit.TheVariants.{Fits, TooOld, TooNew}
 use Rattle.cfm_closure.specs.Stores.{Pair, place_of}
 use Rattle.cfm_closure.specs.Versions.{fit_of}
 use Rattle.pef_words.specs.Results.{◌>>=◌}
 use Rattle.cfm_closure.specs.Faults.{BindRefusal, library_missing, implementation_too_old, implementation_too_new}
-use Rattle.cfm_closure.specs.Fragments.{Fragment, fragment_of}
+use Rattle.cfm_closure.specs.Fragments.{Fragment, fragment_of, part_place}
 
 -- a weak library is absent, and any other is refused
 abbrev pub absent_or : Bool → BindRefusal → Result (Option ℕ) BindRefusal
 absent_or weak refusal = if weak then Ok None else Err refusal
 
--- whether the versions of the found fragment serve the entry
-abbrev pub bound_by : Fit → List ℕ → Library → ℕ → Result (Option ℕ) BindRefusal
-bound_by Fits name l q = Ok (Some q)
-bound_by TooOld name l q = absent_or (options_of l.options).weak (implementation_too_old name l.name)
-bound_by TooNew name l q = absent_or (options_of l.options).weak (implementation_too_new name l.name)
+-- the versions of a library entry, and of the found fragment
+abbrev pub definition_of : Library → Definition
+definition_of l = record { current = l.current; old_imp = l.old_imp }
 
--- how the versions of a library entry and of the found fragment fit
+abbrev pub implementation_of : Fragment → Implementation
+implementation_of g = record { current = g.container.header.current_version; old_def = g.container.header.old_def_version }
+
+-- how they fit
 abbrev pub fit_with : Library → Fragment → Fit
-fit_with l f = fit_of
-    (record { current = l.current; old_imp = l.old_imp })
-    (record { current = f.container.header.current_version; old_def = f.container.header.old_def_version })
+fit_with l g = fit_of (definition_of l) (implementation_of g)
 
--- the found fragment is read, also for a weak library, and then its versions are checked
-abbrev pub bound_at : List Pair → List ℕ → Library → Option ℕ → Result (Option ℕ) BindRefusal
-bound_at pairs name l None = absent_or (options_of l.options).weak (library_missing name l.name)
-bound_at pairs name l (Some q) = fragment_of pairs q >>= (λ f. bound_by (fit_with l f) name l q)
+-- the found fragment, if its versions serve entry i of a fragment. A refusal is about oldImpVersion
+abbrev pub bound_by : Fit → Fragment → ℕ → Library → Fragment → ℕ → Result (Option ℕ) BindRefusal
+bound_by Fits f i l g q = Ok (Some q)
+bound_by TooOld f i l g q = absent_or (options_of l.options).weak (implementation_too_old f.name l.name (part_place f part.Library i 4) (definition_of l) (implementation_of g))
+bound_by TooNew f i l g q = absent_or (options_of l.options).weak (implementation_too_new f.name l.name (part_place f part.Library i 4) (definition_of l) (implementation_of g))
 
--- the fragment of a library entry: one of the store, or none if it is absent
-unfoldable pub bound : List Pair → List ℕ → Library → Result (Option ℕ) BindRefusal
-bound pairs name l = bound_at pairs name l (place_of pairs l.name)
+-- the found fragment is read, also for a weak library, and then its versions are checked. A refusal is about the name
+abbrev pub bound_at : List Pair → Fragment → ℕ → Library → Option ℕ → Result (Option ℕ) BindRefusal
+bound_at pairs f i l None = absent_or (options_of l.options).weak (library_missing f.name l.name (part_place f part.Library i 0))
+bound_at pairs f i l (Some q) = fragment_of pairs q >>= (λ g. bound_by (fit_with l g) f i l g q)
+
+-- the fragment of a library entry of a fragment: one of the store, or none if it is absent
+unfoldable pub bound : List Pair → Fragment → ℕ → Library → Result (Option ℕ) BindRefusal
+bound pairs f i l = bound_at pairs f i l (place_of pairs l.name)
 
 -- the same for entry l of the fragment in a place; none past the last entry
 unfoldable pub bound_to : List Pair → ℕ → ℕ → Result (Option ℕ) BindRefusal
-bound_to pairs p l = fragment_of pairs p >>= (λ f. option_map_or (bound pairs f.name) (library_of f.loader l) (Ok None))
+bound_to pairs p l = fragment_of pairs p >>= (λ f. option_map_or (bound pairs f l) (library_of f.loader l) (Ok None))
 
 -- the fragment of entry l, if it exists
 abbrev pub library_at : List Pair → ℕ → ℕ → Option ℕ

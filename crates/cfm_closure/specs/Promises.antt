@@ -1,10 +1,11 @@
 -- Properties of closures apart from their definitions.
 use Rattle.std.specs.Prelude.{◌≡◌, ◌⊎◌, ⊤, ℕ, ◌<◌, List, ◌∷◌, ◌++◌, length, Option, None, Some, Result, Ok, Err, Contains}
 use Rattle.std.specs.Option.{option_map_or}
+use Rattle.pef_format.specs.declared.place.Place.{Place}
 use Rattle.pef_loader.specs.Loader.{IsLoader, Loaded}
 use Rattle.cfm_closure.specs.Stores.{Pair, pair_of, place_of}
 use Rattle.cfm_closure.specs.Faults.{BindRefusal, implementation_too_new, implementation_too_old, init_loop, library_missing, no_container, no_loader, reexport_loop, symbol_missing}
-use Rattle.cfm_closure.specs.Fragments.{Fragment, fragment_of, import_count, loader_at}
+use Rattle.cfm_closure.specs.Fragments.{Fragment, fragment_of, import_count, import_place, loader_at}
 use Rattle.cfm_closure.specs.Walk.{order_of}
 use Rattle.cfm_closure.specs.declared.targets.Target.{Target}
 use Rattle.cfm_closure.specs.declared.targets.Target.TheVariants.{Absolute, At}
@@ -23,13 +24,13 @@ AllRead pairs = (p : ℕ) → p < length pairs → (f : Fragment) × (fragment_o
 -- a refusal is one of libraries, of symbols or of the order of initialization, and not of a fragment's bytes
 abbrev pub IsOfBinding : BindRefusal → Type 0
 IsOfBinding (no_container f v) = ⊥
-IsOfBinding (no_loader f v) = ⊥
-IsOfBinding (library_missing f l) = ⊤
-IsOfBinding (symbol_missing f l s) = ⊤
-IsOfBinding (implementation_too_old f l) = ⊤
-IsOfBinding (implementation_too_new f l) = ⊤
-IsOfBinding (reexport_loop f s) = ⊤
-IsOfBinding (init_loop f) = ⊤
+IsOfBinding (no_loader f v place) = ⊥
+IsOfBinding (library_missing f l place) = ⊤
+IsOfBinding (symbol_missing f l s place) = ⊤
+IsOfBinding (implementation_too_old f l place needed found) = ⊤
+IsOfBinding (implementation_too_new f l place needed found) = ⊤
+IsOfBinding (reexport_loop f s place) = ⊤
+IsOfBinding (init_loop f place) = ⊤
 
 -- a refusal is one of the bytes of a fragment of the store, which is the root or the first with the name
 -- that is reported: never a fragment whose bytes are read
@@ -58,9 +59,9 @@ LiesInside pairs order (Some (At fragment section offset)) = HasSection pairs or
 abbrev pub HasTarget : List Pair → ℕ → ℕ → Type 0
 HasTarget pairs p j = (target : Option Target) × (target_of pairs p j ≡ Ok target)
 
--- the closure order of a root has a fragment with an import, with these names, from which an export is
--- visited a second time; no import before that one is refused
-pub record IsEndless (pairs : List Pair) (root : ℕ) (fragment symbol : List ℕ) : Type 0 where
+-- the closure order of a root has a fragment with an import, with these names and in this place, from which an
+-- export is visited a second time; no import before that one is refused
+pub record IsEndless (pairs : List Pair) (root : ℕ) (fragment symbol : List ℕ) (place : Place) : Type 0 where
   pub before : List ℕ
   pub position : ℕ
   pub later : List ℕ
@@ -69,6 +70,7 @@ pub record IsEndless (pairs : List Pair) (root : ℕ) (fragment symbol : List �
   pub below : index < import_count pairs position
   pub name : (pair_of pairs position).name ≡ fragment
   pub import_name : symbol_of pairs position index ≡ symbol
+  pub there : import_place pairs position index ≡ place
   pub again : MeetsAgain pairs (position, index)
   pub earlier : (p j : ℕ) → Contains before p → j < import_count pairs p → HasTarget pairs p j
   pub first : (j : ℕ) → j < index → HasTarget pairs position j
@@ -76,4 +78,4 @@ pub record IsEndless (pairs : List Pair) (root : ℕ) (fragment symbol : List �
 -- the target of an import, if only the exports of some fragments are counted
 abbrev pub target_within : List Pair → List ℕ → ℕ → ℕ → Result (Option Target) BindRefusal
 target_within pairs order p j =
-    option_map_or (λ answer. answer) (follow (exports_among pairs order) pairs p j) (Err (reexport_loop (pair_of pairs p).name (symbol_of pairs p j)))
+    option_map_or (λ answer. answer) (follow (exports_among pairs order) pairs p j) (Err (reexport_loop (pair_of pairs p).name (symbol_of pairs p j) (import_place pairs p j)))

@@ -7,10 +7,11 @@ use Rattle.pef_format.specs.declared.export.ExportValue.TheVariants.{InSection, 
 use Rattle.pef_format.specs.declared.export.ExportValue.TheVariants as value
 use Rattle.pef_format.specs.Exports.{Export, value_of}
 use Rattle.pef_format.specs.Symbols.{Import}
+use Rattle.pef_format.specs.declared.place.Place.{Place}
 use Rattle.pef_loader.specs.Loader.{Loaded, export_of, named_of}
 use Rattle.cfm_closure.specs.Stores.{Pair, pair_of}
 use Rattle.cfm_closure.specs.Faults.{BindRefusal, reexport_loop, symbol_missing}
-use Rattle.cfm_closure.specs.Fragments.{export_count, import_at, loader_at}
+use Rattle.cfm_closure.specs.Fragments.{export_count, import_at, import_place, loader_at}
 use Rattle.cfm_closure.specs.Libraries.{library_at}
 use Rattle.cfm_closure.specs.declared.targets.Target.{Target}
 use Rattle.cfm_closure.specs.declared.targets.Target.TheVariants.{Absolute, At}
@@ -31,22 +32,23 @@ abbrev pub exported : List ℕ → Loaded → Option (ℕ × Export)
 exported name l = option_and_then (λ e. option_map (λ x. (e, x)) (export_of l e)) (named_of l name)
 
 -- a name that isn't exported gives no target for a weak import, and a refusal for any other
-abbrev pub hop_to : List ℕ → List ℕ → Import → ℕ → Option (ℕ × Export) → Result Hop BindRefusal
-hop_to fragment library i q None = if i.weak then Ok (ends None) else Err (symbol_missing fragment library i.name)
-hop_to fragment library i q (Some x) = Ok (hop_by q x.0 (value_of x.1.section x.1.value))
+abbrev pub hop_to : List ℕ → List ℕ → Place → Import → ℕ → Option (ℕ × Export) → Result Hop BindRefusal
+hop_to fragment library place i q None = if i.weak then Ok (ends None) else Err (symbol_missing fragment library i.name place)
+hop_to fragment library place i q (Some x) = Ok (hop_by q x.0 (value_of x.1.section x.1.value))
 
 -- an import of an absent library has no target
-abbrev pub hop_from : List Pair → ℕ → Import → Option ℕ → Result Hop BindRefusal
-hop_from pairs p i None = Ok (ends None)
-hop_from pairs p i (Some q) = hop_to (pair_of pairs p).name (pair_of pairs q).name i q (option_and_then (exported i.name) (loader_at pairs q))
+abbrev pub hop_from : List Pair → ℕ → ℕ → Import → Option ℕ → Result Hop BindRefusal
+hop_from pairs p j i None = Ok (ends None)
+hop_from pairs p j i (Some q) =
+    hop_to (pair_of pairs p).name (pair_of pairs q).name (import_place pairs p j) i q (option_and_then (exported i.name) (loader_at pairs q))
 
-abbrev pub hop_of : List Pair → ℕ → Option Import → Result Hop BindRefusal
-hop_of pairs p None = Ok (ends None)
-hop_of pairs p (Some i) = hop_from pairs p i (library_at pairs p i.library)
+abbrev pub hop_of : List Pair → ℕ → ℕ → Option Import → Result Hop BindRefusal
+hop_of pairs p j None = Ok (ends None)
+hop_of pairs p j (Some i) = hop_from pairs p j i (library_at pairs p i.library)
 
 -- the next step from import j of the fragment in a place
 unfoldable pub hop : List Pair → ℕ → ℕ → Result Hop BindRefusal
-hop pairs p j = hop_of pairs p (import_at pairs p j)
+hop pairs p j = hop_of pairs p j (import_at pairs p j)
 
 -- the steps after a hop, if it continues
 abbrev pub after_hop : (ℕ → ℕ → Option (Result (Option Target) BindRefusal)) → Hop → Option (Result (Option Target) BindRefusal)
@@ -77,4 +79,4 @@ symbol_of pairs p j = option_map_or (λ i. i.name) (import_at pairs p j) []
 -- they have no end
 unfoldable pub target_of : List Pair → ℕ → ℕ → Result (Option Target) BindRefusal
 target_of pairs p j =
-    option_map_or (λ answer. answer) (follow (exports_in pairs) pairs p j) (Err (reexport_loop (pair_of pairs p).name (symbol_of pairs p j)))
+    option_map_or (λ answer. answer) (follow (exports_in pairs) pairs p j) (Err (reexport_loop (pair_of pairs p).name (symbol_of pairs p j) (import_place pairs p j)))

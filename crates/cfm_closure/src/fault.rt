@@ -1,6 +1,8 @@
 ghost use Rattle.std.specs.Prelude.{◌≡◌};
-ghost use Rattle.cfm_closure.specs.Faults.{fault_name, fault_number};
+ghost use Rattle.cfm_closure.specs.Faults.{fault_name, fault_number, fault_place};
 
+use crate::versions::{Definition, Implementation};
+use pef_format::Place;
 use pef_loader::LoaderFault;
 use pef_views::ViewFault;
 use std::alloc::{AllocError, AllocFailed};
@@ -8,7 +10,7 @@ use std::fmt;
 use thiserror::Error;
 
 /// Why a fragment has no closure. The text is the refusal's name. The fields are the names of fragments,
-/// of their libraries and of their symbols.
+/// of their libraries and of their symbols, and the place in the fragment's container.
 ///
 /// A closure order is refused for the first two, for a missing library, and for versions. The targets of
 /// its imports and the order of initialization are refused for the others.
@@ -24,12 +26,14 @@ pub enum BindFault<'a> {
     Loader {
         fragment: &'a [u8],
         fault: LoaderFault,
+        place: Place,
     },
 
     /// The fragment needs a library that the store doesn't have.
     LibraryMissing {
         fragment: &'a [u8],
         library: &'a [u8],
+        place: Place,
     },
 
     /// The fragment needs a symbol that the library doesn't export.
@@ -37,29 +41,38 @@ pub enum BindFault<'a> {
         fragment: &'a [u8],
         library: &'a [u8],
         symbol: &'a [u8],
+        place: Place,
     },
 
     /// The library that was found is older than the fragment accepts.
     ImplementationTooOld {
         fragment: &'a [u8],
         library: &'a [u8],
+        place: Place,
+        needed: Definition,
+        found: Implementation,
     },
 
     /// The library that was found no longer serves a fragment that was linked with so old a library.
     ImplementationTooNew {
         fragment: &'a [u8],
         library: &'a [u8],
+        place: Place,
+        needed: Definition,
+        found: Implementation,
     },
 
     /// The symbol leads from one re-exported import to the next, without end.
     ReexportLoop {
         fragment: &'a [u8],
         symbol: &'a [u8],
+        place: Place,
     },
 
     /// The fragment must be initialized after a library that must be initialized after it.
     InitLoop {
         fragment: &'a [u8],
+        place: Place,
     },
 
     /// An allocation failed.
@@ -99,6 +112,26 @@ impl<'a> BindFault<'a> {
             BindFault::ReexportLoop { .. } => "ReexportLoop",
             BindFault::InitLoop { .. } => "InitLoop",
             BindFault::OutOfMemory => "OutOfMemory",
+        }
+    }
+
+    /// Returns the place of the refusal in the container of the fragment that it names.
+    ///
+    /// It is the entry's field of the library or the import. `None` if an allocation failed, or if the container breaks
+    /// a rule that is about no field.
+    pub fn place(&self) -> Option<Place>
+        ensures { result ≡ fault_place self.now }
+    {
+        match *self {
+            BindFault::Container { fault, .. } => fault.place(),
+            BindFault::Loader { place, .. }
+            | BindFault::LibraryMissing { place, .. }
+            | BindFault::SymbolMissing { place, .. }
+            | BindFault::ImplementationTooOld { place, .. }
+            | BindFault::ImplementationTooNew { place, .. }
+            | BindFault::ReexportLoop { place, .. }
+            | BindFault::InitLoop { place, .. } => Some(place),
+            BindFault::OutOfMemory => None,
         }
     }
 }

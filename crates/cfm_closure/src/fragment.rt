@@ -1,6 +1,7 @@
-ghost use Rattle.std.specs.Prelude.{◌≡◌, ◌<◌, length, IfOk, Some};
+ghost use Rattle.std.specs.Prelude.{◌≡◌, ◌<◌, ◌≤◌, length, IfOk, Some};
+ghost use Rattle.pef_format.specs.declared.place.Part.TheVariants.{Import as ImportPart, Library as LibraryPart};
 ghost use Rattle.cfm_closure.specs.Faults.{Answers};
-ghost use Rattle.cfm_closure.specs.Fragments.{fragment_of};
+ghost use Rattle.cfm_closure.specs.Fragments.{fragment_of, part_place};
 ghost use Rattle.cfm_closure.specs.Kept.Views.{AreKept, AreRead, fragment_at};
 ghost use Rattle.cfm_closure.specs.Views.{fragment_seen};
 
@@ -9,7 +10,8 @@ use crate::libraries::Libraries;
 use crate::place_table::PlaceTable;
 use crate::store::Store;
 use crate::targets::Targets;
-use pef_loader::Loader;
+use pef_format::{Part, Place};
+use pef_loader::{Loader, place_in};
 use pef_views::Container;
 
 /// A fragment of a store: its name, its container and its loader section, seen in place.
@@ -48,8 +50,32 @@ impl<'a> FragmentView<'a> {
                 container,
                 loader,
             }),
-            Err(fault) => Err(BindFault::Loader { fragment, fault }),
+            Err(fault) => Err(BindFault::Loader {
+                fragment,
+                fault,
+                place: fault.place(&container),
+            }),
         }
+    }
+
+    /// Returns the place of a field of library entry `l`.
+    #[tactic(auto, unfolding(crate::specs::Fragments::part_place))]
+    pub fn library_place(&self, l: usize, field: usize) -> Place
+        requires { l ≤ (fragment_seen self.now).loader.header.library_count }
+        ensures { result ≡ part_place (fragment_seen self.now) LibraryPart l field }
+    {
+        prove!(l <= self.loader.libraries());
+        place_in(&self.container, Part::Library, l as u32, field)
+    }
+
+    /// Returns the place of import `j`.
+    #[tactic(auto, unfolding(crate::specs::Fragments::part_place))]
+    pub fn import_place(&self, j: usize) -> Place
+        requires { j < (fragment_seen self.now).loader.header.import_count }
+        ensures { result ≡ part_place (fragment_seen self.now) ImportPart j 0 }
+    {
+        prove!(j < self.loader.imports());
+        place_in(&self.container, Part::Import, j as u32, 0)
     }
 }
 

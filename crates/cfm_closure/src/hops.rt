@@ -1,12 +1,16 @@
 ghost use Rattle.std.specs.Prelude.{◌<◌, ◌^◌, Contains, None, IfOk};
 ghost use Rattle.pef_format.specs.Symbols.{import_seen};
+ghost use Rattle.pef_format.specs.declared.place.Part.TheVariants.{Import};
 ghost use Rattle.pef_loader.specs.Views.{loaded};
+ghost use Rattle.cfm_closure.specs.Fragments.{part_place};
+ghost use Rattle.cfm_closure.specs.Views.{fragment_seen};
 ghost use Rattle.cfm_closure.specs.Targets.{hop, hop_to};
 ghost use Rattle.cfm_closure.specs.Kept.Hops.{HasHop, LeadsTo, StaysInside, StaysBelow};
 ghost use Rattle.cfm_closure.specs.Kept.Symbols.{AreSymbolsOf};
 
 use crate::bindings::Bindings;
 use crate::fault::BindFault;
+use crate::fragment::FragmentView;
 use crate::symbols::Symbols;
 use crate::targets::Found;
 use pef_format::{ExportValue, ImportView};
@@ -71,24 +75,27 @@ pub(crate) fn import_hop<'a>(
     let library = bindings.fragment(q);
     match library.loader.export_named(symbol.name) {
         Some(e) => Ok(export_hop(q, &library.loader, e)),
-        None => missing(bindings.fragment(p).name, library.name, symbol),
+        None => missing(bindings.fragment(p), library.name, symbol, j),
     }
 }
 
 /// Returns no target for a weak import, whose symbol is missing. Any other import is refused.
 fn missing<'a>(
-    fragment: &'a [u8],
+    fragment: &FragmentView<'a>,
     library: &'a [u8],
     symbol: ImportView<'a>,
+    j: usize,
 ) -> Result<Hop, BindFault<'a>>
-    ensures { LeadsTo result (hop_to fragment.entry.now library.entry.now (import_seen symbol.entry) 0 None) }
+    requires { j < (fragment_seen fragment.now).loader.header.import_count }
+    ensures { LeadsTo result (hop_to fragment.now.name.now library.entry.now (part_place (fragment_seen fragment.now) Import j 0) (import_seen symbol.entry) 0 None) }
 {
     if symbol.weak {
         return Ok(Hop::Ends(Found::missing()));
     }
     Err(BindFault::SymbolMissing {
-        fragment,
+        fragment: fragment.name,
         library,
         symbol: symbol.name,
+        place: fragment.import_place(j),
     })
 }

@@ -1,13 +1,14 @@
-ghost use Rattle.std.specs.Prelude.{◌≡◌, ℕ, ◌<◌, ◌==◌, None, Contains, IfOk, IfSome, OnOk, length};
+ghost use Rattle.std.specs.Prelude.{◌≡◌, ℕ, ◌<◌, ◌≤◌, ◌==◌, None, Contains, IfOk, IfSome, OnOk, length};
 ghost use Rattle.std.specs.Option.{is_some};
 ghost use Rattle.cfm_closure.specs.Faults.{Answers};
 ghost use Rattle.cfm_closure.specs.Fragments.{library_count};
 ghost use Rattle.cfm_closure.specs.Walk.{joining, marking};
-ghost use Rattle.cfm_closure.specs.Initialization.{awaits, before_of, first_left, init_order_of, is_ready, next_ready, taken_all};
+ghost use Rattle.cfm_closure.specs.Initialization.{awaited, awaits, before_of, first_left, init_order_of, is_ready, next_ready, taken_all};
 ghost use Rattle.cfm_closure.specs.Kept.Taken.{IsFresh, IsInitState, taken_of};
 
 use crate::bindings::Bindings;
 use crate::fault::BindFault;
+use pef_format::layout::LIBRARY_OPTIONS_AT;
 use std::alloc::{AllocError, Global};
 
 /// The order of initialization so far.
@@ -75,6 +76,8 @@ impl InitState {
         requires taking { IsInitState bindings.now.pairs bindings.now.order self.now }
         ensures passed { (k : ℕ) → k < result → awaits bindings.now.pairs (taken_of self.now) p k ≡ None }
         ensures ready { is_ready bindings.now.pairs (taken_of self.now) p ≡ (result == library_count bindings.now.pairs p) }
+        ensures awaited { result ≡ awaited bindings.now.pairs (taken_of self.now) p }
+        ensures few { result ≤ library_count bindings.now.pairs p }
     {
         let libraries = bindings.libraries(p);
         for l in self.passed[p]..libraries {
@@ -133,8 +136,12 @@ impl InitState {
     {
         for p in bindings.order() {
             if !self.taken[*p] {
-                let fragment = bindings.fragment(*p).name;
-                return Err(BindFault::InitLoop { fragment });
+                let fragment = bindings.fragment(*p);
+                let awaited = self.passed(bindings, *p);
+                return Err(BindFault::InitLoop {
+                    fragment: fragment.name,
+                    place: fragment.library_place(awaited, LIBRARY_OPTIONS_AT),
+                });
             }
         }
         let InitState { order, .. } = self;

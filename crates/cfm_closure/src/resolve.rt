@@ -2,7 +2,7 @@ ghost use Rattle.std.specs.Prelude.{◌≡◌, ◌<◌, ◌≤◌, ◌^◌, [], 
 ghost use Rattle.std.specs.List.{AllByRecursion};
 ghost use Rattle.cfm_closure.specs.Stores.{pair_of};
 ghost use Rattle.cfm_closure.specs.Faults.{Answers, FailsAs, reexport_loop};
-ghost use Rattle.cfm_closure.specs.Fragments.{import_count};
+ghost use Rattle.cfm_closure.specs.Fragments.{import_count, import_place};
 ghost use Rattle.cfm_closure.specs.Closures.{first_refused, imports_refusal};
 ghost use Rattle.cfm_closure.specs.Targets.{exports_among, symbol_of, target_of};
 ghost use Rattle.cfm_closure.specs.declared.targets.Target.{Target};
@@ -53,13 +53,14 @@ fn note_way<'a>(bindings: &mut Bindings<'a>, way: &[(usize, usize)], found: Foun
 fn endless<'a>(bindings: &Bindings<'a>, p: usize, j: usize) -> BindFault<'a>
     requires place { Contains bindings.now.order p }
     requires import { j < import_count bindings.now.pairs p }
-    ensures { FailsAs {A = Option Target} result (Err (reexport_loop (pair_of bindings.now.pairs p).name (symbol_of bindings.now.pairs p j))) }
+    ensures { FailsAs {A = Option Target} result (Err (reexport_loop (pair_of bindings.now.pairs p).name (symbol_of bindings.now.pairs p j) (import_place bindings.now.pairs p j))) }
 {
     let fragment = bindings.fragment(p);
     match fragment.loader.import(j) {
         Some(symbol) => BindFault::ReexportLoop {
             fragment: fragment.name,
             symbol: symbol.name,
+            place: fragment.import_place(j),
         },
         None => unreachable!(),
     }

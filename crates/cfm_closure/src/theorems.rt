@@ -1,5 +1,6 @@
 //! Laws of the definitions, for the proofs of other crates. The functions do nothing.
 ghost use Rattle.std.specs.Prelude.{◌≡◌, ◌<◌, ◌↔◌, ℕ, List, None, Ok, Err, Contains, length};
+ghost use Rattle.pef_format.specs.declared.place.Place.{Place};
 ghost use Rattle.pef_loader.specs.declared.fault.LoaderFault.{LoaderFault};
 ghost use Rattle.pef_views.specs.declared.fault.ViewFault.{ViewFault};
 ghost use Rattle.cfm_closure.specs.Stores.{Pair};
@@ -44,11 +45,11 @@ pub fn closures_agree()
 {}
 
 /// An import needs more hops than its closure has exports exactly if an export is visited a second time. So a
-/// closure is refused as a loop of re-exports exactly if an import of its order, with the names in the refusal,
-/// visits an export a second time, and no import before that one is refused.
+/// closure is refused as a loop of re-exports exactly if an import of its order, with the names and the place in the
+/// refusal, visits an export a second time, and no import before that one is refused.
 pub fn endless_imports()
     ensures bound { (pairs : List Pair) (order : List ℕ) (p j : ℕ) → IsComplete pairs order → Contains order p → (follow (exports_among pairs order) pairs p j ≡ None) ↔ MeetsAgain pairs (p, j) }
-    ensures refused { (pairs : List Pair) (root : ℕ) (fragment symbol : List ℕ) → root < length pairs → (closed_of pairs root ≡ Err (reexport_loop fragment symbol)) ↔ IsEndless pairs root fragment symbol }
+    ensures refused { (pairs : List Pair) (root : ℕ) (fragment symbol : List ℕ) (place : Place) → root < length pairs → (closed_of pairs root ≡ Err (reexport_loop fragment symbol place)) ↔ IsEndless pairs root fragment symbol place }
 {}
 
 /// If a closure is refused for the bytes of a fragment, the name that is reported is that of a fragment of the
@@ -56,7 +57,7 @@ pub fn endless_imports()
 /// never reported.
 pub fn unread_fragments()
     ensures container { (pairs : List Pair) (root : ℕ) (name : List ℕ) (fault : ViewFault) → root < length pairs → closed_of pairs root ≡ Err (no_container name fault) → IsOfUnread pairs root name (no_container name fault) }
-    ensures loader { (pairs : List Pair) (root : ℕ) (name : List ℕ) (fault : LoaderFault) → root < length pairs → closed_of pairs root ≡ Err (no_loader name fault) → IsOfUnread pairs root name (no_loader name fault) }
+    ensures loader { (pairs : List Pair) (root : ℕ) (name : List ℕ) (fault : LoaderFault) (place : Place) → root < length pairs → closed_of pairs root ≡ Err (no_loader name fault place) → IsOfUnread pairs root name (no_loader name fault place) }
 {}
 
 /// If all fragments of a store are read, none of its closures is refused for the bytes of a fragment.

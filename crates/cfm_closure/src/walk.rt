@@ -68,7 +68,8 @@ fn bind_next<'a>(
     ensures same { IsSameFrame frame.old frame.new }
 {
     while let Some(library) = frame.fragment.loader.library(frame.libraries.len()) {
-        let bound = bind(store, fragments, frame.fragment.name, library)?;
+        let l = frame.libraries.len();
+        let bound = bind(store, fragments, &frame.fragment, l, library)?;
         frame.libraries.push(bound)?;
         match unmet(marked, bound) {
             Some(q) => return Ok(Some(q)),

@@ -3,7 +3,7 @@ use Rattle.std.proofs.Common.{◌<◌, ◌==◌, length, sym, ap, ◌∙◌, ari
 use Rattle.std.proofs.lemmas.List.{get_or_default}
 use Rattle.cfm_closure.specs.Fragments.{library_count}
 use Rattle.cfm_closure.specs.Kept.Taken.{taken_of}
-use Rattle.cfm_closure.proofs.InitLemmas.{ready-all, ready-not}
+use Rattle.cfm_closure.proofs.InitLemmas.{awaited-all, awaited-first, ready-all, ready-not}
 use Rattle.cfm_closure.proofs.init_order.InitState.passed.Goals as goal
 
 pub index-l-requires : goal.index-l-requires
@@ -32,3 +32,14 @@ returns-clause-ready c =
     let count = c.libraries-libraries.ensures in
     ready-all pairs (taken_of c.args.self.now) c.args.p (λ k under. c.loop-l.invariant k (omega arith))
     ∙ ap (λ n. n == library_count pairs c.args.p) (sym count)
+
+pub returns-then-awaits-clause-awaited : goal.returns-then-awaits-clause-awaited
+returns-then-awaits-clause-awaited c =
+    let count = c.libraries-libraries.ensures in
+    let under : c.loop-l.l < library_count c.args.bindings.now.pairs c.args.p = omega arith in
+    sym (awaited-first c.args.bindings.now.pairs (taken_of c.args.self.now) c.args.p c.loop-l.l under c.loop-l.invariant (sym c.if-awaits.ensures))
+
+pub returns-clause-awaited : goal.returns-clause-awaited
+returns-clause-awaited c =
+    let count = c.libraries-libraries.ensures in
+    count ∙ sym (awaited-all c.args.bindings.now.pairs (taken_of c.args.self.now) c.args.p (λ k under. c.loop-l.invariant k (omega arith)))
