@@ -59,20 +59,20 @@ prepared-after (Ok x) pairs m there now ps mid after all have all_is filled same
 
 pub image-refused : (e : FragmentFault) (pairs : List Pair) (m : Layout) (there now : List Present) (ps : List ℕ) (mid : Layout) (have : HavePlaced pairs m there ps now mid)
     → FillsUpTo {A = Unit {0}} (Err e) (first_bad_image pairs have.fresh) → MayNotPrepareNew pairs there m ps e
-image-refused (fault.NoRoom f) pairs m there now ps mid have refused = absurd refused
-image-refused (fault.Pack f k) pairs m there now ps mid have refused = record { fresh = have.fresh; are = new-of pairs m there now ps mid have; first = refused }
-image-refused (fault.Reloc f k) pairs m there now ps mid have refused = absurd refused
+image-refused (fault.NoRoom f place) pairs m there now ps mid have refused = absurd refused
+image-refused (fault.Pack f k place) pairs m there now ps mid have refused = record { fresh = have.fresh; are = new-of pairs m there now ps mid have; first = refused }
+image-refused (fault.Reloc f k section place) pairs m there now ps mid have refused = absurd refused
 image-refused fault.OutOfMemory pairs m there now ps mid have refused = absurd refused
 
 program-refused : (e : FragmentFault) (pairs : List Pair) (m : Layout) (there now : List Present) (ps : List ℕ) (mid : Layout) (all : List Present) (have : HavePlaced pairs m there ps now mid)
     → all ≡ now → first_bad_image pairs have.fresh ≡ None → RelocatesUpTo {A = Unit {0}} (Err e) (first_bad_program pairs all have.fresh) → MayNotPrepareNew pairs there m ps e
-program-refused (fault.NoRoom f) pairs m there now ps mid all have all_is filled refused = absurd refused
-program-refused (fault.Pack f k) pairs m there now ps mid all have all_is filled refused = absurd refused
-program-refused (fault.Reloc f k) pairs m there now ps mid all have all_is filled refused = record {
+program-refused (fault.NoRoom f place) pairs m there now ps mid all have all_is filled refused = absurd refused
+program-refused (fault.Pack f k place) pairs m there now ps mid all have all_is filled refused = absurd refused
+program-refused (fault.Reloc f k section place) pairs m there now ps mid all have all_is filled refused = record {
   fresh = have.fresh;
   are = new-of pairs m there now ps mid have;
   filled = filled;
-  first = subst (λ fs. first_bad_program pairs fs have.fresh ≡ Some (f.now, k)) (all_is ∙ have.behind) refused;
+  first = subst (λ fs. first_bad_program pairs fs have.fresh ≡ Some (f.now, record { fault = k; section = section; place = place })) (all_is ∙ have.behind) refused;
 }
 program-refused fault.OutOfMemory pairs m there now ps mid all have all_is filled refused = tt
 

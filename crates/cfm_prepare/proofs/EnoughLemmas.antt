@@ -5,8 +5,8 @@ use Rattle.cfm_memory.specs.Instances.{Layout, bytes_at}
 use Rattle.cfm_memory.specs.declared.place.Place.{Place}
 use Rattle.cfm_memory.proofs.Laws.{extents-found, filled_elsewhere, filled_given_back, filled_stand, with_filled}
 use Rattle.cfm_closure.specs.Stores.{Pair, pair_of}
-use Rattle.pef_pidata.specs.declared.fault.PackFault.{PackFault}
-use Rattle.pef_reloc.specs.declared.fault.RelocFault.{RelocFault}
+use Rattle.cfm_prepare.specs.declared.image_fault.ImageFault.{ImageFault}
+use Rattle.pef_loader.specs.declared.program_fault.ProgramFault.{ProgramFault}
 use Rattle.cfm_prepare.specs.Addresses.{first_bad_program, section_of}
 use Rattle.cfm_prepare.specs.Contexts.{ContextState}
 use Rattle.cfm_prepare.specs.Fragments.{Present, StandAll, all_given_back, extents_in, first_bad_image, positions, present_at}
@@ -81,8 +81,8 @@ no-refusal None none = refl
 no-refusal (Some refusal) none = absurd (none refusal.0 refusal.1 refl)
 
 -- new fragments that find room and aren't refused are prepared in some memory
-new-prepared : (pairs : List Pair) (there : List Present) (m : Layout) (new : List ℕ) → ((name : List ℕ) → LacksRoom pairs m new name → ⊥) → ((name : List ℕ) (k : PackFault) → HasBadImage pairs m new name k → ⊥)
-    → ((name : List ℕ) (k : RelocFault) → HasBadProgram pairs there m new name k → ⊥) → (fresh : List Present) × (after : Layout) × ArePrepared pairs there m new fresh after
+new-prepared : (pairs : List Pair) (there : List Present) (m : Layout) (new : List ℕ) → ((name : List ℕ) → LacksRoom pairs m new name → ⊥) → ((name : List ℕ) (k : ImageFault) → HasBadImage pairs m new name k → ⊥)
+    → ((name : List ℕ) (k : ProgramFault) → HasBadProgram pairs there m new name k → ⊥) → (fresh : List Present) × (after : Layout) × ArePrepared pairs there m new fresh after
 new-prepared pairs there m new room image program = by (places-found pairs m new)
   where
     go : (found : HavePlaces pairs m new) → first_bad_image pairs found.fresh ≡ None → (fresh : List Present) × (after : Layout) × ArePrepared pairs there m new fresh after
@@ -108,8 +108,8 @@ new-prepared pairs there m new room image program = by (places-found pairs m new
 
 -- so there is a state that a preparation gives
 pub prepares-to : (s : ContextState) (name : List ℕ) (closure : HasClosure s name) → ((other : List ℕ) → LacksRoom s.pairs s.memory (new_of s closure.closed) other → ⊥)
-    → ((other : List ℕ) (k : PackFault) → HasBadImage s.pairs s.memory (new_of s closure.closed) other k → ⊥)
-    → ((other : List ℕ) (k : RelocFault) → HasBadProgram s.pairs s.present s.memory (new_of s closure.closed) other k → ⊥) → (t : ContextState) × Prepares s name s.given t
+    → ((other : List ℕ) (k : ImageFault) → HasBadImage s.pairs s.memory (new_of s closure.closed) other k → ⊥)
+    → ((other : List ℕ) (k : ProgramFault) → HasBadProgram s.pairs s.present s.memory (new_of s closure.closed) other k → ⊥) → (t : ContextState) × Prepares s name s.given t
 prepares-to s name closure room image program =
     let done = new-prepared s.pairs s.present s.memory (new_of s closure.closed) room image program in (
       record {

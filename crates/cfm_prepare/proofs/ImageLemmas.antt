@@ -1,13 +1,13 @@
 -- The images of sections.
 use Rattle.std.proofs.Common.{◌≡◌, ℕ, ◌++◌, List, [], length, drop, replicate, refl, ap, ◌∙◌}
-use Rattle.std.specs.Prelude.{Result, Ok, Err, OnOk, Some}
+use Rattle.std.specs.Prelude.{Result, Ok, Err, OnOk, Some, option_map}
 use Rattle.std.specs.Result.{result_err, result_unwrap_or}
 use Rattle.std.proofs.lemmas.List.{drop-replicate}
 use Rattle.pef_pidata.specs.declared.fault.PackFault.{PackFault}
 use Rattle.pef_views.specs.Container.{Contained, Section, section_of}
 use Rattle.pef_words.specs.Bytes.{filled}
 use Rattle.pef_words.specs.Refusals.{result_map}
-use Rattle.cfm_prepare.specs.Images.{filled_at, filled_in, image_of, image_refusal}
+use Rattle.cfm_prepare.specs.Images.{fault_in_image, filled_at, filled_in, image_of, image_refusal}
 
 -- zeros with an image at their front
 filled_zeros : (image : List ℕ) (size : ℕ) → image ++ drop (length image) (replicate size 0) ≡ filled image size
@@ -31,7 +31,7 @@ filling_done (Ok x) memory part (Ok i) size is zeros =
     whole ∙ ap (λ (z : List ℕ). i ++ drop (length i) z) zeros ∙ filled_zeros i size
 
 -- the facts of a section that exists
-pub refusal_there : (c : Contained) (k : ℕ) (s : Section) → Some s ≡ section_of c k → image_refusal c k ≡ result_err (image_of s)
+pub refusal_there : (c : Contained) (k : ℕ) (s : Section) → Some s ≡ section_of c k → image_refusal c k ≡ option_map (fault_in_image c k) (result_err (image_of s))
 refusal_there c k s is = rw (← is) refl
 
 pub filled_there : (c : Contained) (k : ℕ) (s : Section) → Some s ≡ section_of c k → filled_at c k ≡ result_unwrap_or (filled_in s) []

@@ -9,6 +9,10 @@ pub use Rattle.cfm_prepare.proofs.RunLemmas.{present-needed}
 pub use Rattle.cfm_prepare.proofs.KeepLemmas.{run-keeps}
 -- there is a state that a preparation gives, if no new fragment lacks room or is refused
 pub use Rattle.cfm_prepare.proofs.EnoughLemmas.{prepares-to}
+-- if no relocation header is refused, the first refusal is none
+pub use Rattle.cfm_prepare.proofs.HeaderLemmas.{headers-unrefused}
+-- fragments that lack room in a place lack room
+pub use Rattle.cfm_prepare.proofs.PlacingLemmas.{lacks-room}
 -- a fragment that was placed has a place for each instantiated section of its container, as its loader section knows
 -- their number
 pub use Rattle.cfm_prepare.proofs.FragmentLemmas.{container-of, length-there}

@@ -1,12 +1,14 @@
 -- The extents of a container's sections, one after the other.
-use Rattle.std.proofs.Common.{◌≡◌, ℕ, zero, suc, ◌+◌, ◌-◌, ◌<◌, List, [], ◌∷◌, ◌++◌, refl, sym, ap, subst, ◌∙◌, inl, length, get_or, arith}
-use Rattle.cfm_memory.specs.Extents.{ArePlaced, Extent, IsPlaceFor, MayNotPlace, place_at}
+use Rattle.std.proofs.Common.{◌≡◌, ℕ, zero, suc, ◌+◌, ◌-◌, ◌<◌, List, [], ◌∷◌, ◌++◌, refl, sym, ap, subst, ◌∙◌, length, get_or, arith}
+use Rattle.cfm_memory.specs.Extents.{ArePlaced, Extent, HasNoRoomFor, IsPlaceFor, place_at}
 use Rattle.cfm_memory.specs.Instances.{Layout}
-use Rattle.cfm_memory.specs.Placement.{MayRefuse, with_new}
-use Rattle.cfm_memory.specs.declared.place.MemoryFault.{MemoryFault}
-use Rattle.cfm_memory.specs.declared.place.MemoryFault.TheVariants.{NoRoom, OutOfMemory}
+use Rattle.cfm_memory.specs.Placement.{with_new}
+use Rattle.cfm_prepare.specs.Placing.{LacksRoomFor}
+use Rattle.cfm_prepare.specs.Kept.Unplaced.{MayNotPlaceAll, MayRefuseFor}
+use Rattle.cfm_prepare.specs.declared.places.Unplaced.{Unplaced}
+use Rattle.cfm_prepare.specs.declared.places.Unplaced.TheVariants.{NoRoom, OutOfMemory}
 use Rattle.cfm_memory.specs.declared.place.Place.{Place}
-use Rattle.cfm_memory.proofs.Laws.{lack-after, length-placed, no_extent, placed-append, placed_size}
+use Rattle.cfm_memory.proofs.Laws.{length-placed, no_extent, placed-append, placed_size}
 use Rattle.pef_views.specs.Container.{Contained}
 use Rattle.cfm_prepare.specs.Images.{extent_at, extents_from, extents_of}
 
@@ -52,15 +54,23 @@ placed_next c m mid places i p placed is =
     subst (λ es. ArePlaced m es (places ++ p ∷ []) (with_new mid p)) (sym (extents_next c i))
     (placed-append m mid (with_new mid p) (extents_from c 0 i) (extent_at c i ∷ []) places (p ∷ []) placed (is, refl))
 
-refused_later : (fault : MemoryFault) (m mid : Layout) (extents others : List Extent) (e : Extent) (places : List Place) → ArePlaced m extents places mid → MayRefuse mid e.size e.alignment fault → MayNotPlace fault m (extents ++ e ∷ others)
-refused_later NoRoom m mid extents others e places placed refused = lack-after m mid extents (e ∷ others) places placed (inl refused)
-refused_later OutOfMemory m mid extents others e places placed refused = tt
+-- the section after those that were placed finds no room
+lacks_at : (m mid : Layout) (extents : List Extent) (e : Extent) (others : List Extent) (places : List Place) → ArePlaced m extents places mid → HasNoRoomFor mid e → LacksRoomFor m (extents ++ e ∷ others) (length extents)
+lacks_at m mid [] e others [] placed none = let P : Layout → Type 0 = λ k. HasNoRoomFor k e in subst P placed none
+lacks_at m mid [] e others (p ∷ places) placed none = absurd placed
+lacks_at m mid (x ∷ xs) e others [] placed none = absurd placed
+lacks_at m mid (x ∷ xs) e others (p ∷ places) placed none = (p, placed.0, lacks_at (with_new m p) mid xs e others places placed.1 none)
 
 -- a section that is refused is the first of them
-pub refused_here : (fault : MemoryFault) (c : Contained) (m mid : Layout) (places : List Place) (i n : ℕ) → i < n → ArePlaced m (extents_from c 0 i) places mid → MayRefuse mid (extent_at c i).size (extent_at c i).alignment fault
-    → MayNotPlace fault m (extents_from c 0 n)
-refused_here fault c m mid places i n under placed refused =
-    subst (λ es. MayNotPlace fault m es) (sym (extents_around c i n under)) (refused_later fault m mid (extents_from c 0 i) (extents_from c (i + 1) (n - (i + 1))) (extent_at c i) places placed refused)
+pub refused_here : (fault : Unplaced) (c : Contained) (m mid : Layout) (places : List Place) (i n : ℕ) → i < n → ArePlaced m (extents_from c 0 i) places mid → MayRefuseFor mid (extent_at c i) i fault
+    → MayNotPlaceAll fault m (extents_from c 0 n)
+refused_here (NoRoom section) c m mid places i n under placed refused =
+    let rest = extents_from c (i + 1) (n - (i + 1)) in
+    let P : List Extent → Type 0 = λ es. LacksRoomFor m es section in
+    let Q : ℕ → Type 0 = λ k. LacksRoomFor m (extents_from c 0 i ++ extent_at c i ∷ rest) k in
+    subst P (sym (extents_around c i n under))
+    (subst Q (length-extents c 0 i ∙ sym refused.0) (lacks_at m mid (extents_from c 0 i) (extent_at c i) rest places placed refused.1))
+refused_here OutOfMemory c m mid places i n under placed refused = tt
 
 -- there are as many places as instantiated sections
 pub length-fragment : (c : Contained) (m after : Layout) (places : List Place) → ArePlaced m (extents_of c) places after → length places ≡ c.header.instantiated_section_count

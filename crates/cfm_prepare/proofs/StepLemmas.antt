@@ -7,8 +7,8 @@ use Rattle.std.proofs.lemmas.List.{at_drop_more}
 use Rattle.std.proofs.Math.ListN.{get_or-map}
 use Rattle.cfm_memory.specs.Extents.{AreHeld, Stand, given_back}
 use Rattle.cfm_memory.specs.Instances.{Layout}
-use Rattle.pef_pidata.specs.declared.fault.PackFault.{PackFault}
-use Rattle.pef_reloc.specs.declared.fault.RelocFault.{RelocFault}
+use Rattle.cfm_prepare.specs.declared.image_fault.ImageFault.{ImageFault}
+use Rattle.pef_loader.specs.declared.program_fault.ProgramFault.{ProgramFault}
 use Rattle.cfm_closure.specs.Stores.{Pair}
 use Rattle.cfm_prepare.specs.Addresses.{addresses_of, first_bad_program}
 use Rattle.cfm_prepare.specs.Fragments.{Present, first_bad_image, image_refusal_in, named, positions, present_at, reloc_refusal_in}
@@ -76,22 +76,22 @@ all-in order fs new are members i under =
     length-positions (g ∷ gs) = ap suc (length-positions gs)
 
 -- the first that is refused among those that are left is the first of all
-fills-first : (e : FragmentFault) (o rest : Option (List ℕ × PackFault)) → FillsUpTo {A = Unit {0}} (Err e) o → FillsUpTo {A = Unit {0}} (Err e) (option_or o rest)
-fills-first (fault.NoRoom f) o rest refused = absurd refused
-fills-first (fault.Pack f k) o rest refused = ap (λ q. option_or q rest) refused
-fills-first (fault.Reloc f k) o rest refused = absurd refused
+fills-first : (e : FragmentFault) (o rest : Option (List ℕ × ImageFault)) → FillsUpTo {A = Unit {0}} (Err e) o → FillsUpTo {A = Unit {0}} (Err e) (option_or o rest)
+fills-first (fault.NoRoom f place) o rest refused = absurd refused
+fills-first (fault.Pack f k place) o rest refused = ap (λ q. option_or q rest) refused
+fills-first (fault.Reloc f k section place) o rest refused = absurd refused
 fills-first fault.OutOfMemory o rest refused = absurd refused
 
-relocates-first : (e : FragmentFault) (o rest : Option (List ℕ × RelocFault)) → RelocatesUpTo {A = Unit {0}} (Err e) o → RelocatesUpTo {A = Unit {0}} (Err e) (option_or o rest)
-relocates-first (fault.NoRoom f) o rest refused = absurd refused
-relocates-first (fault.Pack f k) o rest refused = absurd refused
-relocates-first (fault.Reloc f k) o rest refused = ap (λ q. option_or q rest) refused
+relocates-first : (e : FragmentFault) (o rest : Option (List ℕ × ProgramFault)) → RelocatesUpTo {A = Unit {0}} (Err e) o → RelocatesUpTo {A = Unit {0}} (Err e) (option_or o rest)
+relocates-first (fault.NoRoom f place) o rest refused = absurd refused
+relocates-first (fault.Pack f k place) o rest refused = absurd refused
+relocates-first (fault.Reloc f k section place) o rest refused = ap (λ q. option_or q rest) refused
 relocates-first fault.OutOfMemory o rest refused = tt
 
 pub image-here : (e : FragmentFault) (pairs : List Pair) (fs : List Present) (i : ℕ) → i < length fs
     → FillsUpTo {A = Unit {0}} (Err e) (named pairs (present_at fs i).position (image_refusal_in pairs (present_at fs i).position)) → first_bad_image pairs (drop i fs) ≡ first_bad_image pairs fs → FillsUpTo {A = Unit {0}} (Err e) (first_bad_image pairs fs)
 image-here e pairs fs i under refused left =
-    let P : Option (List ℕ × PackFault) → Type 0 = λ o. FillsUpTo {A = Unit {0}} (Err e) o in
+    let P : Option (List ℕ × ImageFault) → Type 0 = λ o. FillsUpTo {A = Unit {0}} (Err e) o in
     subst P (sym (at_drop_more (first_bad_image pairs) fs i no_fragment under) ∙ left)
     (fills-first e (named pairs (present_at fs i).position (image_refusal_in pairs (present_at fs i).position)) (first_bad_image pairs (drop (i + 1) fs)) refused)
 
@@ -99,6 +99,6 @@ pub program-here : (e : FragmentFault) (pairs : List Pair) (all fs : List Presen
     → RelocatesUpTo {A = Unit {0}} (Err e) (named pairs (present_at fs i).position (reloc_refusal_in pairs (addresses_of pairs all (present_at fs i)) (present_at fs i).position))
     → first_bad_program pairs all (drop i fs) ≡ first_bad_program pairs all fs → RelocatesUpTo {A = Unit {0}} (Err e) (first_bad_program pairs all fs)
 program-here e pairs all fs i under refused left =
-    let P : Option (List ℕ × RelocFault) → Type 0 = λ o. RelocatesUpTo {A = Unit {0}} (Err e) o in
+    let P : Option (List ℕ × ProgramFault) → Type 0 = λ o. RelocatesUpTo {A = Unit {0}} (Err e) o in
     subst P (sym (at_drop_more (first_bad_program pairs all) fs i no_fragment under) ∙ left)
     (relocates-first e (named pairs (present_at fs i).position (reloc_refusal_in pairs (addresses_of pairs all (present_at fs i)) (present_at fs i).position)) (first_bad_program pairs all (drop (i + 1) fs)) refused)

@@ -5,7 +5,7 @@ use Rattle.std.specs.Option.{option_or}
 use Rattle.std.specs.Result.{result_unwrap_or}
 use Rattle.cfm_memory.specs.Extents.{place_at}
 use Rattle.pef_reloc.specs.Applied.{Addresses}
-use Rattle.pef_reloc.specs.declared.fault.RelocFault.{RelocFault}
+use Rattle.pef_loader.specs.declared.program_fault.ProgramFault.{ProgramFault}
 use Rattle.cfm_closure.specs.Stores.{Pair}
 use Rattle.cfm_closure.specs.Fragments.{import_count}
 use Rattle.cfm_closure.specs.Targets.{target_of}
@@ -39,6 +39,6 @@ abbrev pub section_of : List Pair → List Present → Present → ℕ → List 
 section_of pairs all f k = prepared_in pairs (addresses_of pairs all f) f.position k
 
 -- the first refusal among the relocation headers of some fragments
-abbrev pub first_bad_program : List Pair → List Present → List Present → Option (List ℕ × RelocFault)
+abbrev pub first_bad_program : List Pair → List Present → List Present → Option (List ℕ × ProgramFault)
 first_bad_program pairs all [] = None
 first_bad_program pairs all (f ∷ fs) = option_or (named pairs f.position (reloc_refusal_in pairs (addresses_of pairs all f) f.position)) (first_bad_program pairs all fs)

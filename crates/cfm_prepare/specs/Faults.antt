@@ -1,6 +1,7 @@
--- The refusals of contexts, with their numbers and names. Those of closures and of fragments are those of the
+-- The refusals of contexts, with their numbers, names and places. Those of closures and of fragments are those of the
 -- crates that find them.
-use Rattle.std.specs.Prelude.{ℕ, List, codes}
+use Rattle.std.specs.Prelude.{ℕ, List, Option, None, codes}
+use Rattle.pef_format.specs.declared.place.Place.{Place}
 use Rattle.cfm_closure.specs.Faults as bind
 use Rattle.cfm_prepare.specs.FragmentFaults as fragment
 use Rattle.cfm_prepare.specs.declared.add_fault.AddFault.{AddFault}
@@ -25,6 +26,14 @@ fault_name fault.RootMissing = codes "RootMissing"
 fault_name (fault.Bind f) = bind.fault_name f
 fault_name (fault.Fragment f) = fragment.fault_name f
 fault_name fault.OutOfMemory = codes "OutOfMemory"
+
+-- the places in a fragment's container
+abbrev pub fault_place : PrepareFault → Option Place
+fault_place fault.TooManyConnections = None
+fault_place fault.RootMissing = None
+fault_place (fault.Bind f) = bind.fault_place f
+fault_place (fault.Fragment f) = fragment.fault_place f
+fault_place fault.OutOfMemory = None
 
 abbrev pub close_fault_number : CloseFault → ℕ
 close_fault_number BadConnection = 68

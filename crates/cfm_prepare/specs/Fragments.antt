@@ -6,9 +6,9 @@ use Rattle.std.specs.Option.{option_and_then, option_map_or, option_or}
 use Rattle.cfm_memory.specs.Extents.{Extent, Stand, given_back, no_instances}
 use Rattle.cfm_memory.specs.Instances.{Layout}
 use Rattle.cfm_memory.specs.declared.place.Place.{Place}
-use Rattle.pef_pidata.specs.declared.fault.PackFault.{PackFault}
+use Rattle.cfm_prepare.specs.declared.image_fault.ImageFault.{ImageFault}
 use Rattle.pef_reloc.specs.Applied.{Addresses}
-use Rattle.pef_reloc.specs.declared.fault.RelocFault.{RelocFault}
+use Rattle.pef_loader.specs.declared.program_fault.ProgramFault.{ProgramFault}
 use Rattle.cfm_closure.specs.Stores.{Pair, pair_of}
 use Rattle.cfm_closure.specs.Fragments.{container_at, loader_at}
 use Rattle.cfm_prepare.specs.Images.{extents_of, filled_at, first_image_refusal}
@@ -63,7 +63,7 @@ abbrev pub section_filled : List Pair → ℕ → ℕ → List ℕ
 section_filled pairs p k = option_map_or (λ c. filled_at c k) (container_at pairs p) []
 
 -- the first refusal among the images of a fragment
-abbrev pub image_refusal_in : List Pair → ℕ → Option PackFault
+abbrev pub image_refusal_in : List Pair → ℕ → Option ImageFault
 image_refusal_in pairs p = option_and_then (λ c. first_image_refusal c c.header.instantiated_section_count) (container_at pairs p)
 
 -- section k of a fragment, relocated under some addresses
@@ -71,7 +71,7 @@ abbrev pub prepared_in : List Pair → Addresses → ℕ → ℕ → List ℕ
 prepared_in pairs a p k = option_map_or (λ c. option_map_or (λ l. prepared_at c l a k) (loader_at pairs p) []) (container_at pairs p) []
 
 -- the first refusal among the relocation headers of a fragment, under some addresses
-abbrev pub reloc_refusal_in : List Pair → Addresses → ℕ → Option RelocFault
+abbrev pub reloc_refusal_in : List Pair → Addresses → ℕ → Option ProgramFault
 reloc_refusal_in pairs a p = option_and_then (λ c. option_and_then (λ l. first_reloc_refusal c l a) (loader_at pairs p)) (container_at pairs p)
 
 -- a refusal with the name of its fragment
@@ -79,7 +79,7 @@ abbrev pub named : {F : Type 0} → List Pair → ℕ → Option F → Option (L
 named pairs p refusal = option_map (λ f. ((pair_of pairs p).name, f)) refusal
 
 -- the first refusal among the images of some fragments
-abbrev pub first_bad_image : List Pair → List Present → Option (List ℕ × PackFault)
+abbrev pub first_bad_image : List Pair → List Present → Option (List ℕ × ImageFault)
 first_bad_image pairs [] = None
 first_bad_image pairs (f ∷ fs) = option_or (named pairs f.position (image_refusal_in pairs f.position)) (first_bad_image pairs fs)
 

@@ -1,16 +1,20 @@
 -- The memory that a container's instantiated sections need, and the bytes that they are filled with (Mac
 -- OS Runtime Architectures, "PEF Structure", section headers: totalSize, unpackedSize, alignment; section
 -- contents; pattern-initialized data).
-use Rattle.std.specs.Prelude.{ℕ, zero, suc, ◌+◌, List, [], ◌∷◌, Option, Result, Ok, if◌then◌else◌, take}
-use Rattle.std.specs.Option.{option_and_then, option_map_or}
+use Rattle.std.specs.Prelude.{ℕ, zero, suc, ◌+◌, List, [], ◌∷◌, Option, option_map, Result, Ok, if◌then◌else◌, take}
+use Rattle.std.specs.Option.{option_and_then, option_map_or, unwrap_or}
 use Rattle.std.specs.Result.{result_err, result_unwrap_or}
 use Rattle.cfm_memory.specs.Extents.{Extent}
 use Rattle.pef_format.specs.Sections.{is_packed, kind_of}
+use Rattle.pef_format.specs.declared.place.Part.TheVariants as part
+use Rattle.pef_loader.specs.Places.{place_of}
+use Rattle.pef_pidata.specs.Faults.{fault_offset}
 use Rattle.pef_pidata.specs.Pattern.{pattern_text}
 use Rattle.pef_pidata.specs.declared.fault.PackFault.{PackFault}
 use Rattle.pef_views.specs.Container.{Contained, Section, section_of}
 use Rattle.pef_words.specs.Bytes.{filled}
 use Rattle.pef_words.specs.Refusals.{first_among, result_map}
+use Rattle.cfm_prepare.specs.declared.image_fault.ImageFault.{ImageFault}
 
 -- the memory that a section needs: its total length, at its alignment
 abbrev pub extent_in : Section → Extent
@@ -44,10 +48,14 @@ filled_in s = result_map (λ image. filled image s.header.total_size) (image_of 
 abbrev pub filled_at : Contained → ℕ → List ℕ
 filled_at c k = option_map_or (λ s. result_unwrap_or (filled_in s) []) (section_of c k) []
 
+-- an error of the packed data of section k: at its instruction, or at the beginning
+unfoldable pub fault_in_image : Contained → ℕ → PackFault → ImageFault
+fault_in_image c k fault = record { fault = fault; place = place_of c part.PackedData k (unwrap_or (fault_offset fault) 0) }
+
 -- why section k of a container can't be filled
-abbrev pub image_refusal : Contained → ℕ → Option PackFault
-image_refusal c k = option_and_then (λ s. result_err (image_of s)) (section_of c k)
+abbrev pub image_refusal : Contained → ℕ → Option ImageFault
+image_refusal c k = option_and_then (λ s. option_map (fault_in_image c k) (result_err (image_of s))) (section_of c k)
 
 -- the first of these refusals among its n first sections
-abbrev pub first_image_refusal : Contained → ℕ → Option PackFault
+abbrev pub first_image_refusal : Contained → ℕ → Option ImageFault
 first_image_refusal c n = first_among (image_refusal c) 0 n

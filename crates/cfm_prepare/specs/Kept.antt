@@ -3,4 +3,5 @@ pub mod Connections
 pub mod Contexts
 pub mod Ready
 pub mod Slots
+pub mod Unplaced
 pub mod Users

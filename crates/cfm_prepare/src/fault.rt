@@ -1,8 +1,9 @@
 ghost use Rattle.std.specs.Prelude.{◌≡◌};
-ghost use Rattle.cfm_prepare.specs.Faults.{close_fault_name, close_fault_number, fault_name, fault_number};
+ghost use Rattle.cfm_prepare.specs.Faults.{close_fault_name, close_fault_number, fault_name, fault_number, fault_place};
 
 use crate::fragment_fault::FragmentFault;
 use cfm_closure::BindFault;
+use pef_format::Place;
 use std::alloc::{AllocError, AllocFailed};
 use std::fmt;
 use thiserror::Error;
@@ -51,6 +52,19 @@ impl<'a> PrepareFault<'a> {
             PrepareFault::Bind(fault) => fault.name(),
             PrepareFault::Fragment(fault) => fault.name(),
             PrepareFault::OutOfMemory => "OutOfMemory",
+        }
+    }
+
+    /// Returns the place of the refusal in a fragment's container, if it is about a field.
+    pub fn place(&self) -> Option<Place>
+        ensures { result ≡ fault_place self.now }
+    {
+        match self {
+            PrepareFault::Bind(fault) => fault.place(),
+            PrepareFault::Fragment(fault) => fault.place(),
+            PrepareFault::TooManyConnections
+            | PrepareFault::RootMissing
+            | PrepareFault::OutOfMemory => None,
         }
     }
 }

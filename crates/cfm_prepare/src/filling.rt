@@ -52,9 +52,10 @@ fn fill_fragment<'a>(
     let container = closure.container(position);
     match fill_sections(memory, places, &container) {
         Ok(()) => Ok(()),
-        Err(fault) => Err(FragmentFault::Pack {
+        Err(image) => Err(FragmentFault::Pack {
             fragment: closure.name(position),
-            fault,
+            fault: image.fault,
+            place: image.place,
         }),
     }
 }

@@ -1,6 +1,7 @@
 ghost use Rattle.std.specs.Prelude.{◌≡◌};
-ghost use Rattle.cfm_prepare.specs.FragmentFaults.{fault_name, fault_number};
+ghost use Rattle.cfm_prepare.specs.FragmentFaults.{fault_name, fault_number, fault_place};
 
+use pef_format::Place;
 use pef_pidata::PackFault;
 use pef_reloc::RelocFault;
 use std::alloc::{AllocError, AllocFailed};
@@ -8,24 +9,29 @@ use std::fmt;
 use thiserror::Error;
 
 /// Why the new fragments of a closure aren't prepared. The text is the refusal's name. `fragment` is the
-/// name of the fragment that is refused.
+/// name of the fragment that is refused, and `place` is in its container.
 #[derive(Clone, Copy, Debug, PartialEq, Eq, Error)]
 pub enum FragmentFault<'a> {
     /// A section finds no room in memory.
     NoRoom {
         fragment: &'a [u8],
+        place: Place,
     },
 
     /// The raw bytes of a section of pattern-initialized data don't spell its image.
     Pack {
         fragment: &'a [u8],
         fault: PackFault,
+        place: Place,
     },
 
     /// A relocation program isn't readable, or can't be applied.
     Reloc {
         fragment: &'a [u8],
         fault: RelocFault,
+        /// The number of the section that the program relocates.
+        section: u32,
+        place: Place,
     },
 
     /// An allocation failed.
@@ -54,6 +60,19 @@ impl<'a> FragmentFault<'a> {
             FragmentFault::Pack { fault, .. } => fault.name(),
             FragmentFault::Reloc { fault, .. } => fault.name(),
             FragmentFault::OutOfMemory => "OutOfMemory",
+        }
+    }
+
+    /// Returns the place of the refusal in the fragment's container: the size of the section that finds no room, or an
+    /// instruction. `None` if an allocation failed.
+    pub fn place(&self) -> Option<Place>
+        ensures { result ≡ fault_place self.now }
+    {
+        match *self {
+            FragmentFault::NoRoom { place, .. }
+            | FragmentFault::Pack { place, .. }
+            | FragmentFault::Reloc { place, .. } => Some(place),
+            FragmentFault::OutOfMemory => None,
         }
     }
 }

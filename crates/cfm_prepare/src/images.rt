@@ -7,6 +7,7 @@ ghost use Rattle.pef_views.specs.Views.{contained, seen};
 ghost use Rattle.pef_words.specs.Refusals.{result_map};
 ghost use Rattle.cfm_prepare.specs.Images.{extent_at, filled_at, filled_in, first_image_refusal, image_of};
 
+use crate::image_fault::ImageFault;
 use cfm_memory::{Memory, Place};
 use pef_pidata::{PackFault, expand};
 use pef_views::{Container, SectionView};
@@ -25,7 +26,7 @@ pub(crate) fn fill_sections(
     memory: &mut Memory,
     places: &[Place],
     container: &Container<'_>,
-) -> Result<(), PackFault>
+) -> Result<(), ImageFault>
     requires there { length places.now ≤ (contained container.now).header.instantiated_section_count }
     requires sizes { (k : ℕ) → k < length places.now → (place_at places.now k).size ≡ (extent_at (contained container.now) k).size }
     requires apart { AreApart places.now }
@@ -39,7 +40,13 @@ pub(crate) fn fill_sections(
         let Some(section) = container.section(k) else {
             unreachable!()
         };
-        fill_section(memory, *place, &section)?;
+        match fill_section(memory, *place, &section) {
+            Ok(()) => {}
+            Err(fault) => {
+                prove!(k < usize::from(container.header().instantiated_section_count));
+                return Err(ImageFault::new(container, k as u32, fault));
+            }
+        }
     }
     Ok(())
 }

@@ -6,10 +6,13 @@ ghost use Rattle.cfm_prepare.specs.Refusals.{MayNotPrepareNew};
 ghost use Rattle.cfm_prepare.specs.Kept.Ready.{AreAbsent, HavePlaced, IsNotPlaced};
 
 use crate::fragment_fault::FragmentFault;
-use crate::places::place_sections;
+use crate::places::{Unplaced, place_sections};
 use crate::slots::Slots;
 use cfm_closure::Closure;
-use cfm_memory::{Memory, MemoryFault};
+use cfm_memory::Memory;
+use pef_format::Part;
+use pef_format::layout::TOTAL_SIZE_AT;
+use pef_loader::place_in;
 use std::alloc::Global;
 
 /// Places new fragments of a closure, in turn, and adds them after those that are present.
@@ -53,9 +56,10 @@ fn place_fragment<'a>(
             present.put(position, places);
             Ok(())
         }
-        Err(MemoryFault::NoRoom) => Err(FragmentFault::NoRoom {
+        Err(Unplaced::NoRoom { section }) => Err(FragmentFault::NoRoom {
             fragment: closure.name(position),
+            place: place_in(&container, Part::Section, section, TOTAL_SIZE_AT),
         }),
-        Err(MemoryFault::OutOfMemory) => Err(FragmentFault::OutOfMemory),
+        Err(Unplaced::OutOfMemory) => Err(FragmentFault::OutOfMemory),
     }
 }

@@ -8,10 +8,11 @@ ghost use Rattle.cfm_prepare.specs.Placing.{Fits};
 
 use crate::fragment_fault::FragmentFault;
 use crate::places::{section_address, section_addresses};
-use crate::relocation::relocate_sections;
+use crate::relocation::{HeaderFault, relocate_sections};
 use crate::slots::Slots;
 use cfm_closure::{Closure, Target};
 use cfm_memory::Memory;
+use pef_loader::ProgramFault;
 use std::alloc::{AllocError, Global};
 
 /// Relocates new fragments, which were filled, up to the first that is refused. The new ones are among the
@@ -66,10 +67,21 @@ fn relocate_fragment<'a>(
     let loader = closure.loader(position);
     match relocate_sections(memory, places, &loader, &sections, &imports) {
         Ok(()) => Ok(()),
-        Err(fault) => Err(FragmentFault::Reloc {
-            fragment: closure.name(position),
-            fault,
-        }),
+        Err(refused) => {
+            let container = closure.container(position);
+            let HeaderFault {
+                header,
+                section,
+                fault,
+            } = refused;
+            let program = ProgramFault::new(&container, header, section, fault);
+            Err(FragmentFault::Reloc {
+                fragment: closure.name(position),
+                fault: program.fault,
+                section: program.section,
+                place: program.place,
+            })
+        }
     }
 }
 

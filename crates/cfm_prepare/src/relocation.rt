@@ -4,11 +4,21 @@ ghost use Rattle.cfm_memory.specs.Extents.{AreApart, AreHeld, Stand, given_back,
 ghost use Rattle.cfm_memory.specs.Instances.{bytes_at, holds_place};
 ghost use Rattle.pef_loader.specs.Loader.{reloc_of};
 ghost use Rattle.pef_loader.specs.Views.{loaded};
-ghost use Rattle.pef_reloc.specs.Headers.{first_refusal, program_done, relocated_by};
+ghost use Rattle.pef_reloc.specs.Headers.{program_done, relocated_by};
+ghost use Rattle.cfm_prepare.specs.Prepared.{first_header_refusal};
 
 use cfm_memory::{Memory, Place};
 use pef_loader::Loader;
 use pef_reloc::{Program, RelocFault, apply};
+
+/// Why a relocation header is refused.
+#[derive(Clone, Copy)]
+pub(crate) struct HeaderFault {
+    pub header: u32,
+    /// The number of the section that its program relocates.
+    pub section: u32,
+    pub fault: RelocFault,
+}
 
 /// Relocates the sections at some places by the relocation headers, in their order, up to the first that
 /// is refused.
@@ -27,12 +37,12 @@ pub(crate) fn relocate_sections(
     loader: &Loader<'_>,
     sections: &[u32],
     imports: &[u32],
-) -> Result<(), RelocFault>
+) -> Result<(), HeaderFault>
     requires count { (loaded loader.now).sections ≡ length places.now }
     requires apart { AreApart places.now }
     requires held { AreHeld memory.old places.now }
     ensures refused { (bytes : ℕ → List ℕ) → Stand memory.old places.now bytes
-        → result_err result ≡ first_refusal (record { sections = sections.now; imports = imports.now }) bytes (reloc_of (loaded loader.now)) (loaded loader.now).header.reloc_count }
+        → result_err result ≡ first_header_refusal (record { sections = sections.now; imports = imports.now }) bytes (reloc_of (loaded loader.now)) (loaded loader.now).header.reloc_count }
     ensures relocated { OnOk result ((bytes : ℕ → List ℕ) → Stand memory.old places.now bytes
         → Stand memory.new places.now (λ k. (relocated_by (record { sections = sections.now; imports = imports.now }) k (reloc_of (loaded loader.now)) 0 (loaded loader.now).header.reloc_count (bytes k)).memory)) }
     ensures others { given_back memory.new places.now ≡ given_back memory.old places.now }
@@ -43,7 +53,16 @@ pub(crate) fn relocate_sections(
             unreachable!()
         };
         let place = places[section as usize];
-        relocate_section(memory, place, program, sections, imports)?;
+        match relocate_section(memory, place, program, sections, imports) {
+            Ok(()) => {}
+            Err(fault) => {
+                return Err(HeaderFault {
+                    header: i as u32,
+                    section,
+                    fault,
+                });
+            }
+        }
     }
     Ok(())
 }

@@ -8,8 +8,8 @@ ghost use Rattle.cfm_prepare.specs.Placing.{LacksRoom};
 ghost use Rattle.cfm_prepare.specs.Refusals.{HasBadImage, HasBadProgram};
 ghost use Rattle.cfm_prepare.specs.Runs.{AreClosed, Keeps, Runs, Step, Takes};
 ghost use Rattle.cfm_prepare.specs.Steps.{HasClosure, Prepares, new_of};
-ghost use Rattle.pef_pidata.specs.declared.fault.PackFault.{PackFault};
-ghost use Rattle.pef_reloc.specs.declared.fault.RelocFault.{RelocFault};
+ghost use Rattle.cfm_prepare.specs.declared.image_fault.ImageFault.{ImageFault};
+ghost use Rattle.pef_loader.specs.declared.program_fault.ProgramFault.{ProgramFault};
 
 /// After any list of preparations and closings, a fragment is present exactly if the closure of an open connection
 /// has it. These closures are those of the connections' roots.
@@ -44,6 +44,6 @@ pub fn added_fragments()
 /// a relocation header, there is a state that the preparation gives.
 pub fn possible_preparations()
     ensures { (s : ContextState) (name : List ℕ) (closure : HasClosure s name) → ((other : List ℕ) → LacksRoom s.pairs s.memory (new_of s closure.closed) other → ⊥)
-        → ((other : List ℕ) (k : PackFault) → HasBadImage s.pairs s.memory (new_of s closure.closed) other k → ⊥)
-        → ((other : List ℕ) (k : RelocFault) → HasBadProgram s.pairs s.present s.memory (new_of s closure.closed) other k → ⊥) → (t : ContextState) × Prepares s name s.given t }
+        → ((other : List ℕ) (k : ImageFault) → HasBadImage s.pairs s.memory (new_of s closure.closed) other k → ⊥)
+        → ((other : List ℕ) (k : ProgramFault) → HasBadProgram s.pairs s.present s.memory (new_of s closure.closed) other k → ⊥) → (t : ContextState) × Prepares s name s.given t }
 {}

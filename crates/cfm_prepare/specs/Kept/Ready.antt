@@ -1,13 +1,13 @@
 -- The invariant of present fragments: their sections are in memory, each at an address of its own.
 use Rattle.std.specs.Prelude.{◌≡◌, ◌≢◌, ℕ, ◌<◌, false, true, List, [], ◌∷◌, length, ◌++◌, Contains, Result, Ok, Err, Option, None, Some, if◌then◌else◌}
-use Rattle.cfm_memory.specs.Extents.{AreApart, AreHeld, LackRoom, place_at}
+use Rattle.cfm_memory.specs.Extents.{AreApart, AreHeld, place_at}
 use Rattle.cfm_memory.specs.Instances.{Layout}
-use Rattle.pef_pidata.specs.declared.fault.PackFault.{PackFault}
-use Rattle.pef_reloc.specs.declared.fault.RelocFault.{RelocFault}
+use Rattle.cfm_prepare.specs.declared.image_fault.ImageFault.{ImageFault}
+use Rattle.pef_loader.specs.declared.program_fault.ProgramFault.{ProgramFault}
 use Rattle.cfm_closure.specs.Stores.{Pair, pair_of}
-use Rattle.cfm_prepare.specs.Fragments.{Present, all_given_back, extents_in, is_present, positions, present_at, present_of}
+use Rattle.cfm_prepare.specs.Fragments.{Present, all_given_back, is_present, positions, present_at, present_of}
 use Rattle.cfm_prepare.specs.Lists.{IsOnce, has}
-use Rattle.cfm_prepare.specs.Placing.{AllPlaced, Fits}
+use Rattle.cfm_prepare.specs.Placing.{AllPlaced, Fits, HasNoRoomAt}
 use Rattle.cfm_prepare.specs.declared.fragment_fault.FragmentFault.{FragmentFault}
 use Rattle.cfm_prepare.specs.declared.fragment_fault.FragmentFault.TheVariants as fault
 
@@ -74,23 +74,23 @@ others_of ps (f ∷ fs) = if has ps f.position then others_of ps fs else f ∷ o
 
 -- why a fragment isn't placed
 abbrev pub IsNotPlaced : List Pair → ℕ → Layout → FragmentFault → Type 0
-IsNotPlaced pairs p m (fault.NoRoom f) = LackRoom m (extents_in pairs p) × (f.now ≡ (pair_of pairs p).name)
-IsNotPlaced pairs p m (fault.Pack f k) = ⊥
-IsNotPlaced pairs p m (fault.Reloc f k) = ⊥
+IsNotPlaced pairs p m (fault.NoRoom f place) = HasNoRoomAt pairs m p place × (f.now ≡ (pair_of pairs p).name)
+IsNotPlaced pairs p m (fault.Pack f k place) = ⊥
+IsNotPlaced pairs p m (fault.Reloc f k section place) = ⊥
 IsNotPlaced pairs p m fault.OutOfMemory = Unit {0}
 
 -- the result of filling: the first refusal of an image, or none
-abbrev pub FillsUpTo : {A : Type 0} → Result A FragmentFault → Option (List ℕ × PackFault) → Type 0
+abbrev pub FillsUpTo : {A : Type 0} → Result A FragmentFault → Option (List ℕ × ImageFault) → Type 0
 FillsUpTo (Ok done) first = first ≡ None
-FillsUpTo (Err (fault.NoRoom f)) first = ⊥
-FillsUpTo (Err (fault.Pack f k)) first = first ≡ Some (f.now, k)
-FillsUpTo (Err (fault.Reloc f k)) first = ⊥
+FillsUpTo (Err (fault.NoRoom f place)) first = ⊥
+FillsUpTo (Err (fault.Pack f k place)) first = first ≡ Some (f.now, record { fault = k; place = place })
+FillsUpTo (Err (fault.Reloc f k section place)) first = ⊥
 FillsUpTo (Err fault.OutOfMemory) first = ⊥
 
 -- the result of relocating: the first refusal of a relocation header, or none; or an allocation failed
-abbrev pub RelocatesUpTo : {A : Type 0} → Result A FragmentFault → Option (List ℕ × RelocFault) → Type 0
+abbrev pub RelocatesUpTo : {A : Type 0} → Result A FragmentFault → Option (List ℕ × ProgramFault) → Type 0
 RelocatesUpTo (Ok done) first = first ≡ None
-RelocatesUpTo (Err (fault.NoRoom f)) first = ⊥
-RelocatesUpTo (Err (fault.Pack f k)) first = ⊥
-RelocatesUpTo (Err (fault.Reloc f k)) first = first ≡ Some (f.now, k)
+RelocatesUpTo (Err (fault.NoRoom f place)) first = ⊥
+RelocatesUpTo (Err (fault.Pack f k place)) first = ⊥
+RelocatesUpTo (Err (fault.Reloc f k section place)) first = first ≡ Some (f.now, record { fault = k; section = section; place = place })
 RelocatesUpTo (Err fault.OutOfMemory) first = Unit {0}

@@ -38,4 +38,4 @@ returns-in-Err-clause-refused c =
     let fits = c.requires.fits in
     let len = length-there c.args.closure.now.pairs p container fits.before fits.after c.args.places.now is fits.placed in
     ap (λ o. named c.args.closure.now.pairs p o) (image-there c.args.closure.now.pairs p container (length c.args.places.now) is len ∙ sym c.in-Err.ensures.refused)
-    ∙ ap (λ n. Some (n, c.in-Err.fault)) (sym c.name.ensures)
+    ∙ ap (λ n. Some (n, c.in-Err.image)) (sym c.name.ensures)

@@ -1,13 +1,13 @@
 -- One more section is filled, or it is the first that is refused.
 use Rattle.std.proofs.Common.{◌≡◌, ◌<◌, ℕ, Some, length, refl, sym, ap, subst, ◌∙◌, inl, inr, arith, rules}
 use Rattle.std.proofs.lemmas.Bool.{cases_lt}
-use Rattle.std.proofs.lemmas.Result.{err_from_is_err_and}
+use Rattle.std.specs.Prelude.{option_map}
 use Rattle.cfm_memory.specs.Extents.{place_at}
 use Rattle.cfm_memory.specs.Instances.{bytes_at}
 use Rattle.pef_views.specs.Views.{contained, seen}
 use Rattle.pef_views.proofs.Laws.{counts}
 use Rattle.pef_words.proofs.Laws.Refusals.{first_among-here, first_among-next}
-use Rattle.cfm_prepare.specs.Images.{filled_at, image_refusal}
+use Rattle.cfm_prepare.specs.Images.{fault_in_image, filled_at, image_refusal}
 use Rattle.cfm_prepare.proofs.ImageLemmas.{filled_there, refusal_there}
 use Rattle.cfm_prepare.proofs.images.fill_sections.Goals as goal
 
@@ -17,21 +17,23 @@ unreachable-requires c =
     let under : c.loop-k.k < c.args.container.now.header.section_count = omega (arith, c.loop-k-test.true, c.requires.there, fewer) in
     search (rules, under)
 
-pub returns-in_err-fill_section-clause-refused : goal.returns-in_err-fill_section-clause-refused
-returns-in_err-fill_section-clause-refused c =
+pub returns-in-Err-clause-refused : goal.returns-in-Err-clause-refused
+returns-in-Err-clause-refused c =
     let at = c.loop-k in
     let container = contained c.args.container.now in
-    let here = refusal_there container at.k (seen c.in-Some.section) c.in-Some.ensures.value ∙ sym c.in_err-fill_section.ensures.refused in
-    let p = err_from_is_err_and c.from_residual.result c.from_residual.ensures.1 in
-    rw (p.1, p.2) (sym (first_among-here (image_refusal container) at.k (length c.args.places.now) c.in_err-fill_section.field-0.0 c.loop-k-test.true here) ∙ at.invariant.left)
+    let here =
+    refusal_there container at.k (seen c.in-Some.section) c.in-Some.ensures.value
+    ∙ ap (option_map (fault_in_image container at.k)) (sym c.in-Err.ensures.refused)
+    ∙ ap Some (sym c.new.ensures) in
+    sym (first_among-here (image_refusal container) at.k (length c.args.places.now) c.new.result c.loop-k-test.true here) ∙ at.invariant.left
 
 pub loop-k-preserved : goal.loop-k-preserved
 loop-k-preserved c =
     let at = c.loop-k in
     let places = c.args.places.now in
     let container = contained c.args.container.now in
-    let done = c.in_ok-fill_section.ensures in
-    let unrefused = refusal_there container at.k (seen c.in-Some.section) c.in-Some.ensures.value ∙ sym done.refused in
+    let done = c.in-Ok.ensures in
+    let unrefused = refusal_there container at.k (seen c.in-Some.section) c.in-Some.ensures.value ∙ ap (option_map (fault_in_image container at.k)) (sym done.refused) in
     record {
       left = sym (first_among-next (image_refusal container) at.k (length places) c.loop-k-test.true unrefused) ∙ at.invariant.left;
       filled = λ j low under. elim (cases_lt j at.k) [

@@ -4,10 +4,11 @@ use Rattle.std.specs.Option.{option_map_or}
 use Rattle.std.proofs.lemmas.Result.{err_from_is_err_and}
 use Rattle.cfm_memory.specs.Extents.{ArePlaced, Extent, IsPlaceFor}
 use Rattle.cfm_memory.specs.Instances.{Layout, holds_place, with_instances, without}
-use Rattle.cfm_memory.specs.Placement.{MayRefuse, with_new}
+use Rattle.cfm_memory.specs.Placement.{with_new}
 use Rattle.cfm_memory.specs.declared.place.Place.{Place}
 use Rattle.cfm_memory.proofs.Laws.{new_given_back, new_held}
 use Rattle.pef_views.specs.Views.{contained}
+use Rattle.cfm_prepare.specs.Kept.Unplaced.{MayRefuseFor}
 use Rattle.cfm_prepare.specs.Images.{extent_at, extent_in, extents_from}
 use Rattle.cfm_prepare.proofs.PlaceLemmas.{placed_next, refused_here}
 use Rattle.cfm_prepare.proofs.places.place_each.Goals as goal
@@ -19,7 +20,7 @@ returns-in_err-place-clause-refused c =
     let count : c.from-count.result ≡ c.args.container.now.header.instantiated_section_count = c.from-count.ensures ∙ ap (λ h. h.instantiated_section_count) c.header.ensures.value in
     let is : record { size = c.in-Some.section.header.total_size; alignment = c.in-Some.section.header.alignment } ≡ extent_at container at.i = ap (λ o. option_map_or extent_in o (record { size = 0; alignment = 0 })) c.in-Some.ensures.value in
     let p = err_from_is_err_and c.from_residual.result c.from_residual.ensures.1 in
-    let P : Extent → Type 0 = λ e. MayRefuse at.memory e.size e.alignment c.in_err-place.field-0.0 in
+    let P : Extent → Type 0 = λ e. MayRefuseFor at.memory e at.i c.in_err-place.field-0.0 in
     rw (p.1, p.2) (refused_here c.in_err-place.field-0.0 container c.args.memory.now at.memory at.places.items at.i c.args.container.now.header.instantiated_section_count (omega (arith, c.loop-i-test.true, count)) at.invariant (subst P is c.in_err-place.ensures.refused))
 
 pub keep-requires : goal.keep-requires

@@ -1,6 +1,5 @@
 -- The headers left.
 use Rattle.std.proofs.Common.{◌≡◌, ◌<◌, Some, length, refl, sym, ◌∙◌, arith}
-use Rattle.std.proofs.lemmas.Result.{err_from_is_err_and}
 use Rattle.pef_loader.specs.Loader.{reloc_of}
 use Rattle.pef_loader.specs.Views.{loaded}
 use Rattle.pef_reloc.specs.Applied.{Addresses}
@@ -17,17 +16,16 @@ loop-i-init c =
       held = c.requires.held;
     }
 
-pub returns-in_err-relocate_section-clause-refused : goal.returns-in_err-relocate_section-clause-refused
-returns-in_err-relocate_section-clause-refused c = λ bytes stand.
+pub returns-in-Err-clause-refused : goal.returns-in-Err-clause-refused
+returns-in-Err-clause-refused c = λ bytes stand.
     let at = c.loop-i in
     let a : Addresses = record { sections = c.args.sections.now; imports = c.args.imports.now } in
     let loader = loaded c.args.loader.now in
     let under : at.i < loader.header.reloc_count = omega (arith, c.loop-i-test.true, c.relocs-i-end.ensures.count) in
     let is : reloc_of loader at.i ≡ Some (c.in-Some.section, c.in-Some.program.now) = sym c.in-Some.ensures.value in
     let there : c.in-Some.section < length c.args.places.now = omega (arith, c.in-Some.ensures.section, c.requires.count) in
-    let p = err_from_is_err_and c.from_residual.result c.from_residual.ensures.1 in
-    rw (p.1, p.2) (run_refused a (reloc_of loader) c.args.places.now bytes at.memory at.i loader.header.reloc_count c.in-Some.section c.in-Some.program.now c.in_err-relocate_section.field-0.0
-    (at.invariant.run bytes stand) under is there c.in_err-relocate_section.ensures.fault)
+    run_refused a (reloc_of loader) c.args.places.now bytes at.memory at.i loader.header.reloc_count c.in-Some.section c.in-Some.program.now c.in-Err.fault
+    (at.invariant.run bytes stand) under is there c.in-Err.ensures.fault
 
 pub loop-i-preserved : goal.loop-i-preserved
 loop-i-preserved c =
@@ -37,7 +35,7 @@ loop-i-preserved c =
     let under : at.i < loader.header.reloc_count = omega (arith, c.loop-i-test.true, c.relocs-i-end.ensures.count) in
     let is : reloc_of loader at.i ≡ Some (c.in-Some.section, c.in-Some.program.now) = sym c.in-Some.ensures.value in
     let there : c.in-Some.section < length c.args.places.now = omega (arith, c.in-Some.ensures.section, c.requires.count) in
-    let done = c.in_ok-relocate_section.ensures in
+    let done = c.in-Ok.ensures in
     record {
       run = λ bytes stand. run_more a (reloc_of loader) c.args.places.now bytes at.memory c.relocate_section.new.memory at.i loader.header.reloc_count c.in-Some.section c.in-Some.program.now
           (at.invariant.run bytes stand) under is there c.requires.apart done.here done.fault done.elsewhere;
@@ -53,7 +51,7 @@ returns-clause-relocated c = λ bytes stand.
     let all : at.i ≡ loader.header.reloc_count = omega (arith, c.loop-i-test.false, at.auto.i-end, c.relocs-i-end.ensures.count) in
     (run_whole a (reloc_of loader) c.args.places.now bytes at.memory at.i loader.header.reloc_count (at.invariant.run bytes stand) all).stand
 
-pub returns-in_err-relocate_section-clause-others : goal.returns-in_err-relocate_section-clause-others
-returns-in_err-relocate_section-clause-others c =
+pub returns-in-Err-clause-others : goal.returns-in-Err-clause-others
+returns-in-Err-clause-others c =
     let there : c.in-Some.section < length c.args.places.now = omega (arith, c.in-Some.ensures.section, c.requires.count) in
-    c.in_err-relocate_section.ensures.others c.args.places.now c.in-Some.section there refl ∙ c.loop-i.invariant.others
+    c.in-Err.ensures.others c.args.places.now c.in-Some.section there refl ∙ c.loop-i.invariant.others
