@@ -11,8 +11,8 @@ use Rattle.cfm_prepare.specs.Fragments.{Present, extents_in, first_bad_image, im
 use Rattle.cfm_prepare.specs.Placing.{AllPlaced, LacksRoom}
 use Rattle.cfm_prepare.specs.Contexts.{ContextState}
 use Rattle.cfm_prepare.specs.Steps.{Prepares, new_of}
-use Rattle.pef_pidata.specs.declared.fault.PackFault.{PackFault}
-use Rattle.pef_reloc.specs.declared.fault.RelocFault.{RelocFault}
+use Rattle.cfm_prepare.specs.declared.image_fault.ImageFault.{ImageFault}
+use Rattle.pef_loader.specs.declared.program_fault.ProgramFault.{ProgramFault}
 use Rattle.pef_headline.specs.Headline.{LibrariesResolve, OthersAreSound, SectionsFindRoom}
 
 -- an extent has one place
@@ -65,7 +65,7 @@ image-at : (pairs : List Pair) (fs : List Present) (p k : ℕ) → first_bad_ima
 image-at pairs [] p k is low at = absurd (omega (arith, low))
 image-at pairs (f ∷ fs) p k is low at = by k (image_refusal_in pairs f.position) refl is low at (λ j. image-at pairs fs p j)
   where
-    by : (k : ℕ) (o : Option PackFault) → image_refusal_in pairs f.position ≡ o → option_or (named pairs f.position o) (first_bad_image pairs fs) ≡ None → k < length (positions (f ∷ fs)) → slice_index_or (positions (f ∷ fs)) k p ≡ p
+    by : (k : ℕ) (o : Option ImageFault) → image_refusal_in pairs f.position ≡ o → option_or (named pairs f.position o) (first_bad_image pairs fs) ≡ None → k < length (positions (f ∷ fs)) → slice_index_or (positions (f ∷ fs)) k p ≡ p
         → ((j : ℕ) → first_bad_image pairs fs ≡ None → j < length (positions fs) → slice_index_or (positions fs) j p ≡ p → image_refusal_in pairs p ≡ None) → image_refusal_in pairs p ≡ None
     by k (Some e) was is low at later = absurd (cc)
     by zero None was is low at later = subst (λ q. image_refusal_in pairs q ≡ None) at was
@@ -75,7 +75,7 @@ header-at : (pairs : List Pair) (all fs : List Present) (g : Present) (k : ℕ) 
 header-at pairs all [] g k is low at = absurd (omega (arith, low))
 header-at pairs all (f ∷ fs) g k is low at = by k (reloc_refusal_in pairs (addresses_of pairs all f) f.position) refl is low at (λ j. header-at pairs all fs g j)
   where
-    by : (k : ℕ) (o : Option RelocFault) → reloc_refusal_in pairs (addresses_of pairs all f) f.position ≡ o → option_or (named pairs f.position o) (first_bad_program pairs all fs) ≡ None → k < length (f ∷ fs) → slice_index_or (f ∷ fs) k g ≡ g
+    by : (k : ℕ) (o : Option ProgramFault) → reloc_refusal_in pairs (addresses_of pairs all f) f.position ≡ o → option_or (named pairs f.position o) (first_bad_program pairs all fs) ≡ None → k < length (f ∷ fs) → slice_index_or (f ∷ fs) k g ≡ g
         → ((j : ℕ) → first_bad_program pairs all fs ≡ None → j < length fs → slice_index_or fs j g ≡ g → reloc_refusal_in pairs (addresses_of pairs all g) g.position ≡ None) → reloc_refusal_in pairs (addresses_of pairs all g) g.position ≡ None
     by k (Some e) was is low at later = absurd (cc)
     by zero None was is low at later = subst (λ (h : Present). reloc_refusal_in pairs (addresses_of pairs all h) h.position ≡ None) at was

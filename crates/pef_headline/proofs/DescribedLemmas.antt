@@ -11,8 +11,9 @@ use Rattle.cfm_memory.specs.Extents.{ArePlaced}
 use Rattle.cfm_memory.specs.Instances.{Layout}
 use Rattle.cfm_memory.specs.declared.place.Place.{Place}
 use Rattle.cfm_memory.proofs.Laws.{length-placed}
-use Rattle.cfm_prepare.specs.Images.{extent_at, extent_in, extents_from, extents_of, filled_at, filled_in, first_image_refusal, image_of, image_refusal}
+use Rattle.cfm_prepare.specs.Images.{extent_at, extent_in, extents_from, extents_of, fault_in_image, filled_at, filled_in, first_image_refusal, image_of, image_refusal}
 use Rattle.cfm_prepare.specs.Prepared.{addresses_at, first_reloc_refusal, prepared_at}
+use Rattle.cfm_prepare.proofs.Laws.{headers-unrefused}
 use Rattle.pef_format.specs.declared.section.SectionKind.TheVariants as kind
 use Rattle.pef_format.specs.declared.section.Share.TheVariants as share
 use Rattle.pef_format.specs.Sections.{is_packed}
@@ -95,7 +96,7 @@ module _ (script : DescribedScript) (k : LinkedContainer) (linked : IsLinked scr
   image_sound : (i : ℕ) (s : DescribedSection) → slice_get script.sections i ≡ Some s → image_refusal c i ≡ None
   image_sound i s there =
       let part = of.sections.each i s there in
-      ap (option_and_then (λ t. result_err (image_of t))) part.is ∙ ap result_err (image_whole (length script.sections) (length script.imports) s part.at (held i s there))
+      ap (option_and_then (λ t. option_map (fault_in_image c i) (result_err (image_of t)))) part.is ∙ ap (λ r. option_map (fault_in_image c i) (result_err r)) (image_whole (length script.sections) (length script.imports) s part.at (held i s there))
 
   -- section i becomes what the script describes
   made : (a : Addresses) → AreAddresses script a → (i : ℕ) (s : DescribedSection) → slice_get script.sections i ≡ Some s
@@ -143,7 +144,7 @@ module _ (script : DescribedScript) (k : LinkedContainer) (linked : IsLinked scr
       ∙ programs-sound a p.section (reloc_of l) i 0 l.header.reloc_count p.bytes (filled_at c p.section) under (ap (reloc_of l) from_0 ∙ header) sound
 
   pub headers_sound : (a : Addresses) → AreAddresses script a → first_reloc_refusal c l a ≡ None
-  headers_sound a there_are = first_among-none (refusal_at a (filled_at c) (reloc_of l)) 0 l.header.reloc_count (λ i low high. header_sound a there_are i (omega (arith, high)))
+  headers_sound a there_are = headers-unrefused c l a (λ i under. header_sound a there_are i under)
 
   pub images_sound : first_image_refusal c c.header.instantiated_section_count ≡ None
   images_sound =

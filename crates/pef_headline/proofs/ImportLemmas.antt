@@ -20,22 +20,22 @@ use Rattle.pef_headline.specs.Imports.{HasImports, IsImportOf}
 use Rattle.pef_headline.proofs.NowLemmas.{linked_fragment, loader-is, read_as_linked}
 
 -- the library entry of a fragment that is read means the fragment that is bound to it
-library-led : (pairs : List Pair) (p l : ℕ) (f : Fragment) (library : Library) → fragment_of pairs p ≡ Ok f → library_of f.loader l ≡ Some library → library_at pairs p l ≡ result_unwrap_or (bound pairs f.name library) None
+library-led : (pairs : List Pair) (p l : ℕ) (f : Fragment) (library : Library) → fragment_of pairs p ≡ Ok f → library_of f.loader l ≡ Some library → library_at pairs p l ≡ result_unwrap_or (bound pairs f l library) None
 unfolding bound_to
 library-led pairs p l f library read there =
-    ap (λ r. result_unwrap_or (r >>= (λ (g : Fragment). option_map_or (bound pairs g.name) (library_of g.loader l) (Ok None))) None) read
-    ∙ ap (λ o. result_unwrap_or (option_map_or (bound pairs f.name) o (Ok None)) None) there
+    ap (λ r. result_unwrap_or (r >>= (λ (g : Fragment). option_map_or (bound pairs g l) (library_of g.loader l) (Ok None))) None) read
+    ∙ ap (λ o. result_unwrap_or (option_map_or (bound pairs f l) o (Ok None)) None) there
 
 -- and its imports lead there
-import-leads : (pairs : List Pair) (p j : ℕ) (symbol : Import) (place : Option ℕ) → import_at pairs p j ≡ Some symbol → library_at pairs p symbol.library ≡ place → hop pairs p j ≡ hop_from pairs p symbol place
+import-leads : (pairs : List Pair) (p j : ℕ) (symbol : Import) (place : Option ℕ) → import_at pairs p j ≡ Some symbol → library_at pairs p symbol.library ≡ place → hop pairs p j ≡ hop_from pairs p j symbol place
 unfolding hop
-import-leads pairs p j symbol place is at = ap (hop_of pairs p) is ∙ ap (hop_from pairs p symbol) at
+import-leads pairs p j symbol place is at = ap (hop_of pairs p j) is ∙ ap (hop_from pairs p j symbol) at
 
 module _ (script : DescribedScript) (k : LinkedContainer) (linked : IsLinked script k) (pairs : List Pair) (p : ℕ) (holds : (pair_of pairs p).bytes ≡ k.bytes) where
   abbrev fragment : Fragment
   fragment = linked_fragment script k linked pairs p holds
 
-  import-described : (j : ℕ) (symbol : Import) → slice_get script.imports j ≡ Some symbol → IsImportOf pairs p script fragment.loader j symbol
+  import-described : (j : ℕ) (symbol : Import) → slice_get script.imports j ≡ Some symbol → IsImportOf pairs p script fragment j symbol
   import-described j symbol at =
       let none : DescribedLibrary = record { name = []; current = 0; old_imp = 0; options = record { init_before = false; weak = false } } in
       let read = read_as_linked script k linked pairs p holds in
@@ -55,7 +55,7 @@ module _ (script : DescribedScript) (k : LinkedContainer) (linked : IsLinked scr
         current = refl;
         old_imp = refl;
         options = refl;
-        leads = import-leads pairs p j symbol (result_unwrap_or (bound pairs fragment.name library) None)
+        leads = import-leads pairs p j symbol (result_unwrap_or (bound pairs fragment symbol.library library) None)
             (ap (option_and_then (λ (l : Loaded). import_of l j)) (loader-is script k linked pairs p holds) ∙ is)
             (library-led pairs p symbol.library fragment library read.read there);
       }

@@ -16,14 +16,16 @@ use Rattle.cfm_prepare.specs.Fragments.{Present, extents_in, first_bad_image, im
 use Rattle.cfm_prepare.specs.Placing.{AllPlaced, LacksRoom}
 use Rattle.cfm_prepare.specs.Refusals.{HasBadImage, HasBadProgram}
 use Rattle.cfm_prepare.specs.declared.fragment_fault.FragmentFault.TheVariants as fragment
+use Rattle.cfm_prepare.proofs.Laws.{lacks-room}
 use Rattle.cfm_prepare.specs.Contexts.{ContextState}
 use Rattle.cfm_prepare.specs.Faults.{fault_number}
 use Rattle.cfm_prepare.specs.Steps.{HasClosure, HasRoot, MayNotPrepare, new_of}
 use Rattle.cfm_prepare.specs.declared.fault.PrepareFault.{PrepareFault}
 use Rattle.cfm_prepare.specs.declared.fault.PrepareFault.TheVariants as fault
+use Rattle.pef_format.specs.declared.place.Place.{Place}
 use Rattle.pef_loader.specs.declared.fault.LoaderFault.{LoaderFault}
-use Rattle.pef_pidata.specs.declared.fault.PackFault.{PackFault}
-use Rattle.pef_reloc.specs.declared.fault.RelocFault.{RelocFault}
+use Rattle.cfm_prepare.specs.declared.image_fault.ImageFault.{ImageFault}
+use Rattle.pef_loader.specs.declared.program_fault.ProgramFault.{ProgramFault}
 use Rattle.pef_views.specs.declared.fault.ViewFault.{ViewFault}
 use Rattle.pef_headline.specs.Headline.{IsForeign, OthersAreSound}
 use Rattle.pef_headline.specs.Others.{HasForeign, NamesForeign}
@@ -45,14 +47,14 @@ record HasRefusedImage (pairs : List Pair) (ps : List ℕ) (name : List ℕ) : T
   position : ℕ
   member : Contains ps position
   is : name ≡ (pair_of pairs position).name
-  fault : PackFault
+  fault : ImageFault
   refused : image_refusal_in pairs position ≡ Some fault
 
-bad-image : (pairs : List Pair) (fs : List Present) (name : List ℕ) (k : PackFault) → first_bad_image pairs fs ≡ Some (name, k) → HasRefusedImage pairs (positions fs) name
+bad-image : (pairs : List Pair) (fs : List Present) (name : List ℕ) (k : ImageFault) → first_bad_image pairs fs ≡ Some (name, k) → HasRefusedImage pairs (positions fs) name
 bad-image pairs [] name k is = absurd (cc)
 bad-image pairs (f ∷ fs) name k is = by (image_refusal_in pairs f.position) refl is (bad-image pairs fs name k)
   where
-    by : (o : Option PackFault) → image_refusal_in pairs f.position ≡ o → option_or (named pairs f.position o) (first_bad_image pairs fs) ≡ Some (name, k) → (first_bad_image pairs fs ≡ Some (name, k) → HasRefusedImage pairs (positions fs) name)
+    by : (o : Option ImageFault) → image_refusal_in pairs f.position ≡ o → option_or (named pairs f.position o) (first_bad_image pairs fs) ≡ Some (name, k) → (first_bad_image pairs fs ≡ Some (name, k) → HasRefusedImage pairs (positions fs) name)
         → HasRefusedImage pairs (positions (f ∷ fs)) name
     by None was is later =
         let one = later is in
@@ -68,14 +70,14 @@ record HasRefusedHeader (pairs : List Pair) (all fs : List Present) (name : List
   before : Layout
   after : Layout
   placed : ArePlaced before (extents_in pairs one.position) one.places after
-  fault : RelocFault
+  fault : ProgramFault
   refused : reloc_refusal_in pairs (addresses_of pairs all one) one.position ≡ Some fault
 
-bad-program : (pairs : List Pair) (all : List Present) (m after : Layout) (fs : List Present) (name : List ℕ) (k : RelocFault) → AllPlaced pairs m fs after → first_bad_program pairs all fs ≡ Some (name, k) → HasRefusedHeader pairs all fs name
+bad-program : (pairs : List Pair) (all : List Present) (m after : Layout) (fs : List Present) (name : List ℕ) (k : ProgramFault) → AllPlaced pairs m fs after → first_bad_program pairs all fs ≡ Some (name, k) → HasRefusedHeader pairs all fs name
 bad-program pairs all m after [] name k placed is = absurd (cc)
 bad-program pairs all m after (f ∷ fs) name k placed is = by (reloc_refusal_in pairs (addresses_of pairs all f) f.position) refl is (bad-program pairs all placed.0 after fs name k placed.2)
   where
-    by : (o : Option RelocFault) → reloc_refusal_in pairs (addresses_of pairs all f) f.position ≡ o → option_or (named pairs f.position o) (first_bad_program pairs all fs) ≡ Some (name, k)
+    by : (o : Option ProgramFault) → reloc_refusal_in pairs (addresses_of pairs all f) f.position ≡ o → option_or (named pairs f.position o) (first_bad_program pairs all fs) ≡ Some (name, k)
         → (first_bad_program pairs all fs ≡ Some (name, k) → HasRefusedHeader pairs all fs name) → HasRefusedHeader pairs all (f ∷ fs) name
     by None was is later =
         let r = later is in
@@ -116,25 +118,25 @@ header-foreign pairs all fs name r script linked =
     let some : reloc_refusal_in pairs (addresses_of pairs all r.one) r.one.position ≡ Some r.fault = r.refused in
     absurd (cc)
 
-pub refused-image : (pairs : List Pair) (m : Layout) (new : List ℕ) (name : List ℕ) (k : PackFault) → HasBadImage pairs m new name k → HasForeign pairs new name
+pub refused-image : (pairs : List Pair) (m : Layout) (new : List ℕ) (name : List ℕ) (k : ImageFault) → HasBadImage pairs m new name k → HasForeign pairs new name
 refused-image pairs m new name k bad =
     let r = bad-image pairs bad.fresh name k bad.first in
     subst (λ ps. HasForeign pairs ps name) bad.are.are (record { position = r.position; member = r.member; is = r.is; foreign = image-foreign pairs (positions bad.fresh) name r })
 
-pub refused-program : (pairs : List Pair) (there : List Present) (m : Layout) (new : List ℕ) (name : List ℕ) (k : RelocFault) → HasBadProgram pairs there m new name k → HasForeign pairs new name
+pub refused-program : (pairs : List Pair) (there : List Present) (m : Layout) (new : List ℕ) (name : List ℕ) (k : ProgramFault) → HasBadProgram pairs there m new name k → HasForeign pairs new name
 refused-program pairs there m new name k bad =
     let r = bad-program pairs (there ++ bad.fresh) m bad.are.empty bad.fresh name k bad.are.placed bad.first in
     subst (λ ps. HasForeign pairs ps name) bad.are.are (record { position = r.one.position; member = r.position; is = r.is; foreign = header-foreign pairs (there ++ bad.fresh) bad.fresh name r })
 
 -- so if the others are sound, none is refused
-pub no-image : (s : ContextState) (c : Closed) (name : List ℕ) (k : PackFault) → OthersAreSound s c → HasBadImage s.pairs s.memory (new_of s c) name k → ⊥
+pub no-image : (s : ContextState) (c : Closed) (name : List ℕ) (k : ImageFault) → OthersAreSound s c → HasBadImage s.pairs s.memory (new_of s c) name k → ⊥
 no-image s c name k sound bad =
     let r = bad-image s.pairs bad.fresh name k bad.first in
     let none : image_refusal_in s.pairs r.position ≡ None = sound.images r.position (subst (λ ps. Contains ps r.position) bad.are.are r.member) (image-foreign s.pairs (positions bad.fresh) name r) in
     let some : image_refusal_in s.pairs r.position ≡ Some r.fault = r.refused in
     absurd (cc)
 
-pub no-header : (s : ContextState) (c : Closed) (name : List ℕ) (k : RelocFault) → OthersAreSound s c → HasBadProgram s.pairs s.present s.memory (new_of s c) name k → ⊥
+pub no-header : (s : ContextState) (c : Closed) (name : List ℕ) (k : ProgramFault) → OthersAreSound s c → HasBadProgram s.pairs s.present s.memory (new_of s c) name k → ⊥
 no-header s c name k sound bad =
     let all = s.present ++ bad.fresh in
     let r = bad-program s.pairs all s.memory bad.are.empty bad.fresh name k bad.are.placed bad.first in
@@ -164,13 +166,13 @@ bound s name closure f has fails = by f (subst (FailsAs f) (ap (closed_of s.pair
 
     by : (f : BindFault) → FailsAs f (Ok closure.closed) → binds.fault_number f ≡ 99
     by (bind.Container f v) e = absurd (cc)
-    by (bind.Loader f v) e = absurd (cc)
-    by (bind.LibraryMissing f l) e = absurd (cc)
-    by (bind.SymbolMissing f l y) e = absurd (cc)
-    by (bind.ImplementationTooOld f l) e = absurd (cc)
-    by (bind.ImplementationTooNew f l) e = absurd (cc)
-    by (bind.ReexportLoop f y) e = absurd (cc)
-    by (bind.InitLoop f) e = absurd (cc)
+    by (bind.Loader f v place) e = absurd (cc)
+    by (bind.LibraryMissing f l place) e = absurd (cc)
+    by (bind.SymbolMissing f l y place) e = absurd (cc)
+    by (bind.ImplementationTooOld f l place needed found) e = absurd (cc)
+    by (bind.ImplementationTooNew f l place needed found) e = absurd (cc)
+    by (bind.ReexportLoop f y place) e = absurd (cc)
+    by (bind.InitLoop f place) e = absurd (cc)
     by bind.OutOfMemory e = refl
 
 -- if its libraries resolve, its sections find room and the others are sound, a root is refused only for a failed
@@ -179,11 +181,15 @@ pub refused-bound : (s : ContextState) (name : List ℕ) (closure : HasClosure s
 refused-bound s name closure fault.TooManyConnections rooms sound why = absurd (omega (arith, why, closure.has.left))
 refused-bound s name closure fault.RootMissing rooms sound why = let there : place_of s.pairs name ≡ Some closure.has.root = closure.has.is in let none : place_of s.pairs name ≡ None = why.1 in absurd (cc)
 refused-bound s name closure (fault.Bind f) rooms sound why = bound s name closure f why.0 why.1
-refused-bound s name closure (fault.Fragment (fragment.NoRoom f)) rooms sound why = absurd (rooms f.now (subst (λ (c : Closed). LacksRoom s.pairs s.memory (new_of s c) f.now) (same-closed s name why.closure closure) why.why))
-refused-bound s name closure (fault.Fragment (fragment.Pack f k)) rooms sound why =
-    absurd (no-image s closure.closed f.now k sound (subst (λ (c : Closed). HasBadImage s.pairs s.memory (new_of s c) f.now k) (same-closed s name why.closure closure) why.why))
-refused-bound s name closure (fault.Fragment (fragment.Reloc f k)) rooms sound why =
-    absurd (no-header s closure.closed f.now k sound (subst (λ (c : Closed). HasBadProgram s.pairs s.present s.memory (new_of s c) f.now k) (same-closed s name why.closure closure) why.why))
+refused-bound s name closure (fault.Fragment (fragment.NoRoom f place)) rooms sound why =
+    let lacks = lacks-room s.pairs s.memory (new_of s why.closure.closed) f.now place why.why in
+    absurd (rooms f.now (subst (λ (c : Closed). LacksRoom s.pairs s.memory (new_of s c) f.now) (same-closed s name why.closure closure) lacks))
+refused-bound s name closure (fault.Fragment (fragment.Pack f k place)) rooms sound why =
+    let image : ImageFault = record { fault = k; place = place } in
+    absurd (no-image s closure.closed f.now image sound (subst (λ (c : Closed). HasBadImage s.pairs s.memory (new_of s c) f.now image) (same-closed s name why.closure closure) why.why))
+refused-bound s name closure (fault.Fragment (fragment.Reloc f k section place)) rooms sound why =
+    let program : ProgramFault = record { fault = k; section = section; place = place } in
+    absurd (no-header s closure.closed f.now program sound (subst (λ (c : Closed). HasBadProgram s.pairs s.present s.memory (new_of s c) f.now program) (same-closed s name why.closure closure) why.why))
 refused-bound s name closure (fault.Fragment fragment.OutOfMemory) rooms sound why = refl
 refused-bound s name closure fault.OutOfMemory rooms sound why = refl
 
@@ -202,5 +208,5 @@ unread pairs root asked name r is of = record {
 pub refused-container : (s : ContextState) (asked name : List ℕ) (k : ViewFault) (has : HasRoot s asked) → closed_of s.pairs has.root ≡ Err (no_container name k) → NamesForeign s.pairs name
 refused-container s asked name k has is = unread s.pairs has.root asked name (no_container name k) has.is (closed-no_container s.pairs has.root name k (place_of-below s.pairs asked has.root has.is) is)
 
-pub refused-loader : (s : ContextState) (asked name : List ℕ) (k : LoaderFault) (has : HasRoot s asked) → closed_of s.pairs has.root ≡ Err (no_loader name k) → NamesForeign s.pairs name
-refused-loader s asked name k has is = unread s.pairs has.root asked name (no_loader name k) has.is (closed-no_loader s.pairs has.root name k (place_of-below s.pairs asked has.root has.is) is)
+pub refused-loader : (s : ContextState) (asked name : List ℕ) (k : LoaderFault) (place : Place) (has : HasRoot s asked) → closed_of s.pairs has.root ≡ Err (no_loader name k place) → NamesForeign s.pairs name
+refused-loader s asked name k place has is = unread s.pairs has.root asked name (no_loader name k place) has.is (closed-no_loader s.pairs has.root name k place (place_of-below s.pairs asked has.root has.is) is)

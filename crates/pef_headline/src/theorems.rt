@@ -12,9 +12,10 @@ ghost use Rattle.cfm_prepare.specs.Refusals.{HasBadImage, HasBadProgram};
 ghost use Rattle.cfm_prepare.specs.Contexts.{ContextState};
 ghost use Rattle.cfm_prepare.specs.Steps.{HasRoot, Prepares};
 ghost use Rattle.cfm_prepare.specs.declared.fault.PrepareFault.{PrepareFault};
+ghost use Rattle.pef_format.specs.declared.place.Place.{Place};
 ghost use Rattle.pef_loader.specs.declared.fault.LoaderFault.{LoaderFault};
-ghost use Rattle.pef_pidata.specs.declared.fault.PackFault.{PackFault};
-ghost use Rattle.pef_reloc.specs.declared.fault.RelocFault.{RelocFault};
+ghost use Rattle.cfm_prepare.specs.declared.image_fault.ImageFault.{ImageFault};
+ghost use Rattle.pef_loader.specs.declared.program_fault.ProgramFault.{ProgramFault};
 ghost use Rattle.pef_script.specs.Script.{DescribedScript};
 ghost use Rattle.pef_headline.specs.Headline.{HasLeastPrograms, HasLinked, IsReached, LibrariesResolve, MayAnswer, OthersAreSound, PreparesAsDescribed, SectionsFindRoom, StaysAsDescribed};
 ghost use Rattle.pef_headline.specs.Memory.{HasLinkedText, ReadsDescribed, fragment_reader, root_reader};
@@ -71,10 +72,10 @@ pub fn linked_is_sound()
 /// wasn't linked from any script. If the bytes of a fragment aren't read, the refusal names a fragment of the store
 /// that wasn't linked from any script.
 pub fn refusals_are_of_others()
-    ensures image { (pairs : List Pair) (m : Layout) (new : List ℕ) (name : List ℕ) (k : PackFault) → HasBadImage pairs m new name k → HasForeign pairs new name }
-    ensures program { (pairs : List Pair) (there : List Present) (m : Layout) (new : List ℕ) (name : List ℕ) (k : RelocFault) → HasBadProgram pairs there m new name k → HasForeign pairs new name }
+    ensures image { (pairs : List Pair) (m : Layout) (new : List ℕ) (name : List ℕ) (k : ImageFault) → HasBadImage pairs m new name k → HasForeign pairs new name }
+    ensures program { (pairs : List Pair) (there : List Present) (m : Layout) (new : List ℕ) (name : List ℕ) (k : ProgramFault) → HasBadProgram pairs there m new name k → HasForeign pairs new name }
     ensures container { (s : ContextState) (asked name : List ℕ) (k : ViewFault) (has : HasRoot s asked) → closed_of s.pairs has.root ≡ Err (no_container name k) → NamesForeign s.pairs name }
-    ensures loader { (s : ContextState) (asked name : List ℕ) (k : LoaderFault) (has : HasRoot s asked) → closed_of s.pairs has.root ≡ Err (no_loader name k) → NamesForeign s.pairs name }
+    ensures loader { (s : ContextState) (asked name : List ℕ) (k : LoaderFault) (place : Place) (has : HasRoot s asked) → closed_of s.pairs has.root ≡ Err (no_loader name k place) → NamesForeign s.pairs name }
 {}
 
 /// From a text to memory. A text is a script, and a store has in place `p` the bytes that `link` gives for it. After any
