@@ -1,10 +1,13 @@
 -- The instances stay laid out after a change.
-use Rattle.std.proofs.Common.{◌≡◌, ℕ, suc, ◌+◌, ◌≤◌, List, [], ◌∷◌, ◌++◌, length, drop, sym, subst, inl, inr, arith, length-take, length-drop, length-append}
-use Rattle.std.proofs.lemmas.Bool.Decides.{eqb_tells, leb_tells}
-use Rattle.cfm_memory.specs.Limits.{first_address}
-use Rattle.cfm_memory.specs.Instances.{Instance, Layout, with_instance, without, fitted, with_bytes}
-use Rattle.cfm_memory.specs.Placement.{taken, end_of, IsFree, IsInOrder, IsLaidOut}
-use Rattle.cfm_memory.proofs.Placing.{some_taken}
+use Rattle.std.proofs.Common.{◌≡◌, ◌⊎◌, ℕ, suc, true, ◌+◌, ◌≤◌, Option, None, Some, OnSome, Bor, option_copied, refl, List, [], ◌∷◌, ◌++◌, length, drop, sym, subst, inl, inr, arith, length-take, length-drop, length-append}
+use Rattle.std.proofs.lemmas.Bool.Decides.{Decides-eqb, eqb_tells, leb_tells}
+use Rattle.std.proofs.lemmas.Option.{same_Some}
+use Rattle.cfm_memory.specs.Instances.{Instance, Layout, bytes_at, fitted, has_length, holds_place, range_at, with_bytes, with_instance, without}
+use Rattle.cfm_memory.specs.Kept.Searches.{IsKept}
+use Rattle.cfm_memory.specs.Placement.{taken, end_of, AreClear, IsClear, IsFree, IsInOrder, IsLaidOut}
+use Rattle.cfm_memory.specs.declared.place.Place.{Place}
+use Rattle.cfm_memory.specs.declared.place.Reserved.{Reserved}
+use Rattle.cfm_memory.proofs.Placing.{some_taken, within_taken}
 
 -- instances that begin after an address begin after a lower one
 pub laid_out_from : (from lower limit : ℕ) (xs : List Instance) → lower ≤ from → IsLaidOut from limit xs → IsLaidOut lower limit xs
@@ -45,5 +48,79 @@ laid_out_written from limit (x ∷ xs) address w laid =
     ]
 
 -- what holds of the fields holds of the memory
-pub laid_out_seen : (limit : ℕ) (xs : List Instance) (m : Layout) → record { limit = limit; instances = xs } ≡ m → IsLaidOut first_address limit xs → IsInOrder m
-laid_out_seen limit xs m view_is laid = subst IsInOrder view_is laid
+pub in_order_seen : (limit front : ℕ) (xs : List Instance) (rs : List Reserved) (m : Layout) → record { limit = limit; instances = xs; reserved = rs } ≡ m → IsKept limit xs rs front → IsInOrder m
+in_order_seen limit front xs rs m view_is kept = subst IsInOrder view_is (record { laid_out = kept.laid_out; in_turn = kept.in_turn; clear = kept.clear })
+
+-- a part of what is clear is clear
+clear_within : (address end from to : ℕ) (rs : List Reserved) → address ≤ from → to ≤ end → IsClear address end rs → IsClear from to rs
+clear_within address end from to [] low high clear = tt
+clear_within address end from to (r ∷ rs) low high clear =
+    (elim (clear.0) as (λ _. (to ≤ r.from) ⊎ (r.to ≤ from)) [ inl h ↦ inl (omega (arith, h, high)) | inr h ↦ inr (omega (arith, h, low)) ], clear_within address end from to rs low high clear.1)
+
+-- so no bytes are inside a reserved range
+pub range_clear : (xs : List Instance) (rs : List Reserved) (address len : ℕ) (bytes : List ℕ) → AreClear xs rs → range_at xs address len ≡ Some bytes → IsClear address (address + len) rs
+range_clear [] rs address len bytes clear is = absurd (cc)
+range_clear (x ∷ xs) rs address len bytes clear is =
+    let within = within_taken (length x.bytes) in
+    elim (leb_tells x.address address) [
+      | inl from ↦ elim (leb_tells (address + len) (x.address + length x.bytes)) [
+        | inl ends ↦ clear_within x.address (end_of x) address (address + len) rs from.1 (omega (arith, ends.1, within)) clear.0
+        | inr past ↦ range_clear xs rs address len bytes clear.1 (rw (from.0, past.0) at is)
+      ]
+      | inr before ↦ range_clear xs rs address len bytes clear.1 (rw before.0 at is)
+    ]
+
+pub held_clear : (xs : List Instance) (rs : List Reserved) (address : ℕ) (bytes : List ℕ) → AreClear xs rs → bytes_at xs address ≡ Some bytes → IsClear address (address + taken (length bytes)) rs
+held_clear [] rs address bytes clear is = absurd (cc)
+held_clear (x ∷ xs) rs address bytes clear is =
+    elim (eqb_tells x.address address) [
+      | inl same ↦
+          (let e : x.bytes ≡ bytes = same_Some x.bytes bytes (rw same.0 at is) in
+          let P : List ℕ → Type 0 = λ b. IsClear x.address (x.address + taken (length b)) rs in
+          let Q : ℕ → Type 0 = λ a. IsClear a (a + taken (length bytes)) rs in subst Q same.1 (subst P e clear.0))
+      | inr other ↦ held_clear xs rs address bytes clear.1 (rw other.0 at is)
+    ]
+
+pub part_clear : (m : Layout) (address : ℕ) (bytes : List ℕ) → IsInOrder m → bytes_at m.instances address ≡ Some bytes → IsClear address (address + length bytes) m.reserved
+part_clear m address bytes order is =
+    let within = within_taken (length bytes) in
+    clear_within address (address + taken (length bytes)) address (address + length bytes) m.reserved (omega arith) (omega (arith, within)) (held_clear m.instances m.reserved address bytes order.clear is)
+
+-- what the code finds is clear
+pub found_clear : (m : Layout) (o : Option (Bor (List ℕ))) (address len : ℕ) → IsInOrder m → option_copied o ≡ range_at m.instances address len → OnSome o (IsClear address (address + len) m.reserved)
+found_clear m None address len order is = tt
+found_clear m (Some bytes) address len order is = range_clear m.instances m.reserved address len bytes.now order.clear (sym is)
+
+pub place_clear : (m : Layout) (place : Place) → IsInOrder m → holds_place m place ≡ true → IsClear place.address (place.address + taken place.size) m.reserved
+place_clear m place order held = by (bytes_at m.instances place.address) refl held
+  where
+    by : (o : Option (List ℕ)) → bytes_at m.instances place.address ≡ o → has_length o place.size ≡ true → IsClear place.address (place.address + taken place.size) m.reserved
+    by None is held = absurd (cc)
+    by (Some bytes) is held =
+        let P : ℕ → Type 0 = λ n. IsClear place.address (place.address + taken n) m.reserved in
+        subst P ((Decides-eqb (length bytes) place.size).0 held) (held_clear m.instances m.reserved place.address bytes order.clear is)
+
+-- the instances meet no reserved range after a change either
+pub clear_without : (xs : List Instance) (rs : List Reserved) (address : ℕ) → AreClear xs rs → AreClear (without xs address) rs
+clear_without [] rs address clear = tt
+clear_without (x ∷ xs) rs address clear =
+    elim (eqb_tells x.address address) [
+      | inl same ↦ rw same.0 clear.1
+      | inr other ↦ rw other.0 (clear.0, clear_without xs rs address clear.1)
+    ]
+
+pub clear_with : (xs : List Instance) (rs : List Reserved) (y : Instance) → IsClear y.address (end_of y) rs → AreClear xs rs → AreClear (with_instance xs y) rs
+clear_with [] rs y new clear = (new, tt)
+clear_with (x ∷ xs) rs y new clear =
+    elim (leb_tells (suc x.address) y.address) [
+      | inl below ↦ rw below.0 (clear.0, clear_with xs rs y new clear.1)
+      | inr above ↦ rw above.0 (new, clear)
+    ]
+
+pub clear_written : (xs : List Instance) (rs : List Reserved) (address : ℕ) (w : List ℕ) → AreClear xs rs → AreClear (with_bytes xs address w) rs
+clear_written [] rs address w clear = tt
+clear_written (x ∷ xs) rs address w clear =
+    elim (eqb_tells x.address address) [
+      | inl same ↦ (let P : ℕ → Type 0 = λ n. IsClear x.address (x.address + taken n) rs × AreClear xs rs in rw same.0 (subst P (sym (length-fitted x.bytes w)) clear))
+      | inr other ↦ rw other.0 (clear.0, clear_written xs rs address w clear.1)
+    ]

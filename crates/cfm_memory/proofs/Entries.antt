@@ -1,5 +1,5 @@
 -- The instances as the map has them, by their addresses.
-use Rattle.std.proofs.Common.{◌≡◌, ◌&&◌, ◌+◌, ◌-◌, ◌≤◌, ◌<◌, ℕ, suc, not, true, false, List, [], ◌∷◌, ◌++◌, Option, Some, None, IsTrue, MutBor, leb, length, map, refl, sym, ap, subst, ◌∙◌, inl, inr, arith}
+use Rattle.std.proofs.Common.{◌≡◌, ◌⊎◌, ◌&&◌, ◌+◌, ◌-◌, ◌≤◌, ◌<◌, ℕ, suc, not, true, false, List, [], ◌∷◌, ◌++◌, Option, Some, None, IsTrue, MutBor, leb, length, map, refl, sym, ap, subst, ◌∙◌, inl, inr, arith}
 use Rattle.std.specs.Global.{Vec}
 use Rattle.std.specs.Map.{lookup, remove_entry, set_value}
 use Rattle.std.specs.BTreeMap.{insert_entry}
@@ -12,6 +12,7 @@ use Rattle.std.proofs.lemmas.Bool.Decides.{Decides-eqb, eqb_tells, leb_tells, na
 use Rattle.std.proofs.lemmas.Option.{same_Some}
 use Rattle.pef_words.proofs.Laws.Numbers.{cmp_equal, cmp_greater}
 use Rattle.cfm_memory.specs.declared.place.Place.{Place}
+use Rattle.cfm_memory.specs.declared.place.Reserved.{Reserved}
 use Rattle.cfm_memory.specs.Instances.{Instance, Layout, bytes_at, has_length, holds_place, fitted, with_bytes, with_instance, without, range_at, range_in}
 use Rattle.cfm_memory.specs.Kept.Searches.{part_of}
 use Rattle.cfm_memory.specs.Views.{instance_seen}
@@ -50,8 +51,8 @@ some_found None size held = absurd (cc)
 some_found (Some v) size held = refl
 
 -- the map has an entry at the address of an instance that is held
-pub held_found : (es : List (ℕ × Vec ℕ)) (limit : ℕ) (place : Place) (m : Layout) → record { limit = limit; instances = instances es } ≡ m → IsTrue (holds_place m place) → IsSome (found es place.address)
-held_found es limit place m view_is held =
+pub held_found : (es : List (ℕ × Vec ℕ)) (limit : ℕ) (rs : List Reserved) (place : Place) (m : Layout) → record { limit = limit; instances = instances es; reserved = rs } ≡ m → IsTrue (holds_place m place) → IsSome (found es place.address)
+held_found es limit rs place m view_is held =
     let is : has_length (bytes_at (instances es) place.address) place.size ≡ true = rw (← view_is) at held in
     some_found (found es place.address) place.size (rw (← found_is es place.address) at is)
 
@@ -60,9 +61,9 @@ some_is None some = absurd (cc)
 some_is (Some v) some = (v, refl)
 
 -- and it has bytes
-pub held_bytes : (es : List (ℕ × Vec ℕ)) (limit : ℕ) (place : Place) (m : Layout) → record { limit = limit; instances = instances es } ≡ m → IsTrue (holds_place m place) → (bytes : List ℕ) × (bytes_at (instances es) place.address ≡ Some bytes)
-held_bytes es limit place m view_is held =
-    let there = some_is (found es place.address) (held_found es limit place m view_is held) in
+pub held_bytes : (es : List (ℕ × Vec ℕ)) (limit : ℕ) (rs : List Reserved) (place : Place) (m : Layout) → record { limit = limit; instances = instances es; reserved = rs } ≡ m → IsTrue (holds_place m place) → (bytes : List ℕ) × (bytes_at (instances es) place.address ≡ Some bytes)
+held_bytes es limit rs place m view_is held =
+    let there = some_is (found es place.address) (held_found es limit rs place m view_is held) in
     (there.0.items, bytes_found es place.address there.0 there.1)
 
 -- a borrow of the map exists if the map has the entry
@@ -74,8 +75,8 @@ some_length : (bytes : List ℕ) (size : ℕ) → has_length (Some bytes) size �
 some_length bytes size held = (Decides-eqb (length bytes) size).0 held
 
 -- and it has the size of the place
-pub held_length : (es : List (ℕ × Vec ℕ)) (limit : ℕ) (place : Place) (m : Layout) (bytes : List ℕ) → record { limit = limit; instances = instances es } ≡ m → IsTrue (holds_place m place) → bytes_at (instances es) place.address ≡ Some bytes → length bytes ≡ place.size
-held_length es limit place m bytes view_is held is =
+pub held_length : (es : List (ℕ × Vec ℕ)) (limit : ℕ) (rs : List Reserved) (place : Place) (m : Layout) (bytes : List ℕ) → record { limit = limit; instances = instances es; reserved = rs } ≡ m → IsTrue (holds_place m place) → bytes_at (instances es) place.address ≡ Some bytes → length bytes ≡ place.size
+held_length es limit rs place m bytes view_is held is =
     let there : has_length (bytes_at (instances es) place.address) place.size ≡ true = rw (← view_is) at held in
     some_length bytes place.size (rw is at there)
 
@@ -234,6 +235,66 @@ last_after from limit (x ∷ es) (b ∷ before) e address laid is =
     elim (leb_tells x.0 address) [
       | inl begins ↦ (let h = last_after (end_of (instance_seen x)) limit es before e address laid.2 (ap others_of (rw (to_is address x.0, begins.0) at is)) in omega (arith, h, laid.0))
       | inr behind ↦ (let h = last_after (end_of (instance_seen x)) limit es (b ∷ before) e address laid.2 (rw (to_is address x.0, behind.0) at is) in omega (arith, h, laid.0))
+    ]
+
+-- it ends below the limit
+pub last_ends : (from limit : ℕ) (es before : List (ℕ × Vec ℕ)) (e : ℕ × Vec ℕ) (address : ℕ) → IsLaidOut from limit (instances es) → entries_to address es ≡ before ++ e ∷ [] → end_of (instance_seen e) ≤ limit
+last_ends from limit [] [] e address laid is = absurd (cc)
+last_ends from limit [] (b ∷ before) e address laid is = absurd (cc)
+last_ends from limit (x ∷ es) [] e address laid is =
+    elim (leb_tells x.0 address) [
+      | inl begins ↦ (let there : x ∷ entries_to address es ≡ e ∷ [] = rw (to_is address x.0, begins.0) at is in let same : x ≡ e = ap (first_or e) there in rw (← same) laid.1)
+      | inr behind ↦ last_ends (end_of (instance_seen x)) limit es [] e address laid.2 (rw (to_is address x.0, behind.0) at is)
+    ]
+last_ends from limit (x ∷ es) (b ∷ before) e address laid is =
+    elim (leb_tells x.0 address) [
+      | inl begins ↦ last_ends (end_of (instance_seen x)) limit es before e address laid.2 (ap others_of (rw (to_is address x.0, begins.0) at is))
+      | inr behind ↦ last_ends (end_of (instance_seen x)) limit es (b ∷ before) e address laid.2 (rw (to_is address x.0, behind.0) at is)
+    ]
+
+-- if no instance begins up to an address, what ends there meets none
+pub free_of_none : (es : List (ℕ × Vec ℕ)) (start address : ℕ) → entries_to address es ≡ [] → IsFree start (address + 1) (instances es)
+free_of_none [] start address none = tt
+free_of_none (e ∷ es) start address none =
+    elim (leb_tells e.0 address) [
+      | inl begins ↦ (let there : e ∷ entries_to address es ≡ [] = rw (to_is address e.0, begins.0) at none in absurd (cc))
+      | inr behind ↦ (inl (omega (arith, behind.1)), free_of_none es start address (rw (to_is address e.0, behind.0) at none))
+    ]
+
+-- what begins after the end of the last one, and ends at an address, meets none
+pub free_of_last : (from limit : ℕ) (es before : List (ℕ × Vec ℕ)) (e : ℕ × Vec ℕ) (start address : ℕ) → IsLaidOut from limit (instances es) → entries_to address es ≡ before ++ e ∷ [] → end_of (instance_seen e) ≤ start → IsFree start (address + 1) (instances es)
+free_of_last from limit [] [] e start address laid is ends = absurd (cc)
+free_of_last from limit [] (b ∷ before) e start address laid is ends = absurd (cc)
+free_of_last from limit (x ∷ es) [] e start address laid is ends =
+    elim (leb_tells x.0 address) [
+      | inl begins ↦
+          (let there : x ∷ entries_to address es ≡ e ∷ [] = rw (to_is address x.0, begins.0) at is in
+          let same : x ≡ e = ap (first_or e) there in
+          (inr (rw same ends), free_of_none es start address (ap others_of there)))
+      | inr behind ↦ (inl (omega (arith, behind.1)), free_of_last (end_of (instance_seen x)) limit es [] e start address laid.2 (rw (to_is address x.0, behind.0) at is) ends)
+    ]
+free_of_last from limit (x ∷ es) (b ∷ before) e start address laid is ends =
+    elim (leb_tells x.0 address) [
+      | inl begins ↦
+          (let there = ap others_of (rw (to_is address x.0, begins.0) at is) in
+          let low = last_after (end_of (instance_seen x)) limit es before e address laid.2 there in
+          (inr (omega (arith, low, ends)), free_of_last (end_of (instance_seen x)) limit es before e start address laid.2 there ends))
+      | inr behind ↦ (inl (omega (arith, behind.1)), free_of_last (end_of (instance_seen x)) limit es (b ∷ before) e start address laid.2 (rw (to_is address x.0, behind.0) at is) ends)
+    ]
+
+-- what meets none doesn't meet the last one
+pub last_free : (es before : List (ℕ × Vec ℕ)) (e : ℕ × Vec ℕ) (start end address : ℕ) → entries_to address es ≡ before ++ e ∷ [] → IsFree start end (instances es) → (end ≤ e.0) ⊎ (end_of (instance_seen e) ≤ start)
+last_free [] [] e start end address is free = absurd (cc)
+last_free [] (b ∷ before) e start end address is free = absurd (cc)
+last_free (x ∷ es) [] e start end address is free =
+    elim (leb_tells x.0 address) [
+      | inl begins ↦ (let there : x ∷ entries_to address es ≡ e ∷ [] = rw (to_is address x.0, begins.0) at is in let same : x ≡ e = ap (first_or e) there in rw (← same) free.0)
+      | inr behind ↦ last_free es [] e start end address (rw (to_is address x.0, behind.0) at is) free.1
+    ]
+last_free (x ∷ es) (b ∷ before) e start end address is free =
+    elim (leb_tells x.0 address) [
+      | inl begins ↦ last_free es before e start end address (ap others_of (rw (to_is address x.0, begins.0) at is)) free.1
+      | inr behind ↦ last_free es (b ∷ before) e start end address (rw (to_is address x.0, behind.0) at is) free.1
     ]
 
 -- a range is that of the last instance that begins up to its address

@@ -5,7 +5,8 @@ use Rattle.std.proofs.lemmas.Bool.Decides.{eqb_tells}
 use Rattle.cfm_memory.specs.Extents.{ArePlaced, Extent, HasNoRoomFor, IsPlaceFor, LackRoom}
 use Rattle.cfm_memory.specs.Instances.{Instance, Layout}
 use Rattle.cfm_memory.specs.Limits.{first_address}
-use Rattle.cfm_memory.specs.Placement.{IsFree, IsLowest, IsRoom, end_of, step_of, taken, with_new}
+use Rattle.cfm_memory.specs.Placement.{IsClear, IsFree, IsLowest, IsRoom, end_of, step_of, taken, with_new}
+use Rattle.cfm_memory.specs.declared.place.Reserved.{Reserved}
 use Rattle.cfm_memory.specs.declared.place.Place.{Place}
 
 -- it holds or it doesn't
@@ -32,16 +33,21 @@ free-decided : (address end : ℕ) (xs : List Instance) → Decided (IsFree addr
 free-decided address end [] = inl tt
 free-decided address end (x ∷ xs) = both-decided (either-decided (le-decided end x.address) (le-decided (end_of x) address)) (free-decided address end xs)
 
+clear-decided : (address end : ℕ) (rs : List Reserved) → Decided (IsClear address end rs)
+clear-decided address end [] = inl tt
+clear-decided address end (r ∷ rs) = both-decided (either-decided (le-decided end r.from) (le-decided r.to address)) (clear-decided address end rs)
+
 -- an address has room or it hasn't
 room-decided : (m : Layout) (size alignment address : ℕ) → Decided (IsRoom m size alignment address)
 room-decided m size alignment address =
     go (both-decided (le-decided first_address address)
     (both-decided (zero-decided (address % step_of alignment))
-    (both-decided (le-decided (address + taken size) m.limit) (free-decided address (address + taken size) m.instances))))
+    (both-decided (le-decided (address + taken size) m.limit)
+    (both-decided (free-decided address (address + taken size) m.instances) (clear-decided address (address + taken size) m.reserved)))))
   where
-    go : Decided ((first_address ≤ address) × ((address % step_of alignment ≡ 0) × ((address + taken size ≤ m.limit) × IsFree address (address + taken size) m.instances))) → Decided (IsRoom m size alignment address)
-    go (inl (from, (aligned, (inside, free)))) = inl (record { from = from; aligned = aligned; inside = inside; free = free })
-    go (inr none) = inr (λ room. none (room.from, (room.aligned, (room.inside, room.free))))
+    go : Decided ((first_address ≤ address) × ((address % step_of alignment ≡ 0) × ((address + taken size ≤ m.limit) × (IsFree address (address + taken size) m.instances × IsClear address (address + taken size) m.reserved)))) → Decided (IsRoom m size alignment address)
+    go (inl (from, (aligned, (inside, (free, clear))))) = inl (record { from = from; aligned = aligned; inside = inside; free = free; clear = clear })
+    go (inr none) = inr (λ room. none (room.from, (room.aligned, (room.inside, (room.free, room.clear)))))
 
 -- one of the n first addresses is the lowest with room, or none of them has room
 lowest-among : (m : Layout) (size alignment n : ℕ) → ((address : ℕ) × IsLowest m size alignment address) ⊎ ((address : ℕ) → address < n → IsRoom m size alignment address → ⊥)

@@ -1,11 +1,12 @@
 -- The address below which nothing is free.
-use Rattle.std.proofs.Common.{◌≡◌, ◌+◌, ◌≤◌, ◌<◌, ℕ, suc, min, List, [], ◌∷◌, Some, length, ap, ◌∙◌, ◌⊎◌, sym, subst, inl, inr, arith}
+use Rattle.std.proofs.Common.{◌≡◌, ◌+◌, ◌≤◌, ◌<◌, ℕ, zero, suc, min, get_or, List, [], ◌∷◌, Some, length, ap, ◌∙◌, ◌⊎◌, sym, subst, inl, inr, arith}
 use Rattle.std.proofs.lemmas.Bool.{cases_lt}
 use Rattle.std.proofs.lemmas.Bool.Decides.{eqb_tells, leb_tells}
 use Rattle.cfm_memory.specs.Limits.{first_address}
 use Rattle.cfm_memory.specs.Instances.{Instance, bytes_at, with_bytes, with_instance, without}
 use Rattle.cfm_memory.specs.Kept.Searches.{IsFront}
-use Rattle.cfm_memory.specs.Placement.{end_of, taken, IsFree, IsLaidOut}
+use Rattle.cfm_memory.specs.Placement.{end_of, taken, AreClear, IsClear, IsFree, IsLaidOut}
+use Rattle.cfm_memory.specs.declared.place.Reserved.{Reserved}
 use Rattle.cfm_memory.proofs.Changes.{length-fitted}
 use Rattle.std.proofs.lemmas.Option.{same_Some}
 use Rattle.cfm_memory.proofs.Placing.{some_taken, free_before}
@@ -29,11 +30,11 @@ free_with_new address end (x ∷ xs) y apart free =
     ]
 
 -- a new instance is at the front or after it
-pub front_with_new : (xs : List Instance) (y : Instance) (front : ℕ) → front ≤ y.address → IsFront xs front → IsFront (with_instance xs y) front
-front_with_new xs y front behind is = record {
+pub front_with_new : (xs : List Instance) (rs : List Reserved) (y : Instance) (front : ℕ) → front ≤ y.address → IsFront xs rs front → IsFront (with_instance xs y) rs front
+front_with_new xs rs y front behind is = record {
   low = is.low;
   between = free_with_new front front xs y (inl behind) is.between;
-  full = λ other low free. is.full other low (free_without_new other (other + 1) xs y free);
+  full = λ other low free clear. is.full other low (free_without_new other (other + 1) xs y free) clear;
 }
 
 -- a range that is free for some bytes is free for one
@@ -42,8 +43,13 @@ free_for_one address end [] some free = tt
 free_for_one address end (x ∷ xs) some free =
     (elim (free.0) as (λ _. (address + 1 ≤ x.address) ⊎ (end_of x ≤ address)) [ inl h ↦ inl (omega (arith, h, some)) | inr h ↦ inr h ], free_for_one address end xs some free.1)
 
-pub front_below : (xs : List Instance) (front address end : ℕ) → IsFront xs front → first_address ≤ address → address < end → IsFree address end xs → front ≤ address
-front_below xs front address end is low some free = is.full address low (free_for_one address end xs some free)
+clear_for_one : (address end : ℕ) (rs : List Reserved) → address < end → IsClear address end rs → IsClear address (address + 1) rs
+clear_for_one address end [] some clear = tt
+clear_for_one address end (r ∷ rs) some clear =
+    (elim (clear.0) as (λ _. (address + 1 ≤ r.from) ⊎ (r.to ≤ address)) [ inl h ↦ inl (omega (arith, h, some)) | inr h ↦ inr h ], clear_for_one address end rs some clear.1)
+
+pub front_below : (xs : List Instance) (rs : List Reserved) (front address end : ℕ) → IsFront xs rs front → first_address ≤ address → address < end → IsFree address end xs → IsClear address end rs → front ≤ address
+front_below xs rs front address end is low some free clear = is.full address low (free_for_one address end xs some free) (clear_for_one address end rs some clear)
 
 -- the instance at an address ends after it, and no other lies across its end
 ends_between : (from limit : ℕ) (xs : List Instance) (address : ℕ) (bytes : List ℕ) → IsLaidOut from limit xs → bytes_at xs address ≡ Some bytes → IsFree (address + taken (length bytes)) (address + taken (length bytes)) xs
@@ -73,11 +79,11 @@ none_inside (x ∷ xs) address other bytes is free low =
     ]
 
 -- the front passes the instance that is at it
-pub front_after : (limit : ℕ) (xs : List Instance) (front : ℕ) (bytes : List ℕ) → IsLaidOut first_address limit xs → bytes_at xs front ≡ Some bytes → IsFront xs front → IsFront xs (front + taken (length bytes))
-front_after limit xs front bytes laid at is = record {
+pub front_after : (limit : ℕ) (xs : List Instance) (rs : List Reserved) (front : ℕ) (bytes : List ℕ) → IsLaidOut first_address limit xs → bytes_at xs front ≡ Some bytes → IsFront xs rs front → IsFront xs rs (front + taken (length bytes))
+front_after limit xs rs front bytes laid at is = record {
   low = (let h = is.low in omega arith);
   between = ends_between first_address limit xs front bytes laid at;
-  full = λ other low free. none_inside xs front other bytes at free (is.full other low free);
+  full = λ other low free clear. none_inside xs front other bytes at free (is.full other low free clear);
 }
 
 -- which ends below the limit
@@ -130,12 +136,12 @@ min_between a b xs at_a at_b =
     ]
 
 -- a removed instance leaves its address free
-pub front_without : (limit : ℕ) (xs : List Instance) (front address : ℕ) (bytes : List ℕ) → first_address ≤ address → IsLaidOut first_address limit xs → bytes_at xs address ≡ Some bytes → IsFront xs front → IsFront (without xs address) (min front address)
-front_without limit xs front address bytes from laid at is = record {
+pub front_without : (limit : ℕ) (xs : List Instance) (rs : List Reserved) (front address : ℕ) (bytes : List ℕ) → first_address ≤ address → IsLaidOut first_address limit xs → bytes_at xs address ≡ Some bytes → IsFront xs rs front → IsFront (without xs address) rs (min front address)
+front_without limit xs rs front address bytes from laid at is = record {
   low = (let h = is.low in omega arith);
   between = min_between front address (without xs address) (free_without front front address xs is.between) (free_without address address address xs (begins_between first_address limit xs address bytes laid at));
-  full = λ other low free. elim (cases_lt other address) as (λ _. min front address ≤ other) [
-    | inl less ↦ (let h = is.full other low (free_below xs other address less free) in omega arith)
+  full = λ other low free clear. elim (cases_lt other address) as (λ _. min front address ≤ other) [
+    | inl less ↦ (let h = is.full other low (free_below xs other address less free) clear in omega arith)
     | inr le ↦ omega arith
   ];
 }
@@ -157,9 +163,33 @@ free_unwritten address end other w (x ∷ xs) free =
     ]
 
 -- a write moves nothing
-pub front_written : (xs : List Instance) (front address : ℕ) (w : List ℕ) → IsFront xs front → IsFront (with_bytes xs address w) front
-front_written xs front address w is = record {
+pub front_written : (xs : List Instance) (rs : List Reserved) (front address : ℕ) (w : List ℕ) → IsFront xs rs front → IsFront (with_bytes xs address w) rs front
+front_written xs rs front address w is = record {
   low = is.low;
   between = free_written front front address w xs is.between;
-  full = λ other low free. is.full other low (free_unwritten other (other + 1) address w xs free);
+  full = λ other low free clear. is.full other low (free_unwritten other (other + 1) address w xs free) clear;
+}
+
+-- what meets none of some ranges doesn't meet one of them
+pub clear_at : (address end k : ℕ) (rs : List Reserved) (d : Reserved) → k < length rs → IsClear address end rs → (end ≤ (get_or rs k d).from) ⊎ ((get_or rs k d).to ≤ address)
+clear_at address end k [] d under clear = absurd (omega arith)
+clear_at address end zero (r ∷ rs) d under clear = clear.0
+clear_at address end (suc k) (r ∷ rs) d under clear = clear_at address end k rs d (omega arith) clear.1
+
+-- no instance lies across the end of a reserved range
+pub between_past : (xs : List Instance) (rs : List Reserved) (k : ℕ) (d : Reserved) → k < length rs → (get_or rs k d).from < (get_or rs k d).to → AreClear xs rs → IsFree (get_or rs k d).to (get_or rs k d).to xs
+between_past [] rs k d under some clear = tt
+between_past (x ∷ xs) rs k d under some clear = (
+  elim (clear_at x.address (end_of x) k rs d under clear.0) as (λ _. ((get_or rs k d).to ≤ x.address) ⊎ (end_of x ≤ (get_or rs k d).to)) [ inl h ↦ inr (omega (arith, h, some)) | inr h ↦ inl h ],
+  between_past xs rs k d under some clear.1,
+)
+
+-- a front inside a reserved range moves past it
+pub front_past : (xs : List Instance) (rs : List Reserved) (k front : ℕ) (d : Reserved) → k < length rs → (get_or rs k d).from ≤ front → front < (get_or rs k d).to → AreClear xs rs → IsFront xs rs front → IsFront xs rs (get_or rs k d).to
+front_past xs rs k front d under from to clear is = record {
+  low = (let h = is.low in omega arith);
+  between = between_past xs rs k d under (omega arith) clear;
+  full = λ other low free apart.
+      let h = is.full other low free apart in
+      elim (clear_at other (other + 1) k rs d under apart) as (λ _. (get_or rs k d).to ≤ other) [ inl e ↦ absurd (omega (arith, e, from, h)) | inr e ↦ e ];
 }

@@ -27,3 +27,5 @@ pub use Rattle.cfm_memory.proofs.GivenBack.{given_back_elsewhere, held_elsewhere
 pub use Rattle.cfm_memory.proofs.Found.{extents-found}
 -- new instances with bytes that are given: they have these, all others stay, and are left when the new ones are removed
 pub use Rattle.cfm_memory.proofs.Filled.{filled_elsewhere, filled_given_back, filled_stand, with_filled}
+-- an instance meets no reserved range
+pub use Rattle.cfm_memory.proofs.Changes.{part_clear}

@@ -9,5 +9,6 @@ mod InTurn
 mod Placed
 mod Placing
 mod Ranges
+mod Reserving
 mod Rooms
 pub mod Laws

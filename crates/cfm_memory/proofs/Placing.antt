@@ -33,6 +33,11 @@ free_before address end from limit [] before laid = tt
 free_before address end from limit (x ∷ xs) before laid =
     (inl (omega arith), free_before address end (end_of x) limit xs (omega arith) laid.2)
 
+-- a range after the limit overlaps none of them
+pub free_past : (from limit address end : ℕ) (xs : List Instance) → limit ≤ address → IsLaidOut from limit xs → IsFree address end xs
+free_past from limit address end [] past laid = tt
+free_past from limit address end (x ∷ xs) past laid = (inr (omega arith), free_past (end_of x) limit address end xs past laid.2)
+
 -- before the next instance there is room at once
 pub first_before : (n step at from limit : ℕ) (x : Instance) (xs : List Instance) → at % step ≡ 0 → at + n ≤ x.address → IsLaidOut from limit (x ∷ xs) → IsFirstFree n step at (x ∷ xs) at
 first_before n step at from limit x xs aligned before laid = record {

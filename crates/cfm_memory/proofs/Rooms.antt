@@ -1,11 +1,11 @@
 -- How much memory is enough for some extents.
-use Rattle.std.proofs.Common.{ℕ, ◌+◌, ◌*◌, ◌/◌, ◌<◌, ◌≤◌, ◌^◌, Bool, true, false, List, [], ◌∷◌, cond, ltb, inl, inr, length, replicate, arith}
+use Rattle.std.proofs.Common.{◌≡◌, refl, subst, sym, ℕ, ◌+◌, ◌*◌, ◌/◌, ◌<◌, ◌≤◌, ◌^◌, Bool, true, false, List, [], ◌∷◌, cond, ltb, inl, inr, length, replicate, arith}
 use Rattle.std.proofs.Math.Nat.{div-add-mod, le-max_left, mod-lt, mul-mod_right}
 use Rattle.std.proofs.lemmas.List.{length-replicate}
 use Rattle.cfm_memory.specs.Extents.{Extent, LackRoom, no_instances}
 use Rattle.cfm_memory.specs.Instances.{Instance, Layout, with_instance}
 use Rattle.cfm_memory.specs.Limits.{first_address}
-use Rattle.cfm_memory.specs.Placement.{IsFree, IsRoom, end_of, step_of, taken, with_new}
+use Rattle.cfm_memory.specs.Placement.{IsClear, IsFree, IsRoom, end_of, step_of, taken, with_new}
 use Rattle.cfm_memory.proofs.Placing.{taken_most}
 
 -- the most that some extents take: for each its size, the bytes that it is rounded up by, and those left
@@ -48,26 +48,27 @@ unfolding step_of
 some_step alignment = le-max_left 16 (2 ^ alignment)
 
 -- after all instances an extent has room
-room_after : (m : Layout) (e : Extent) (from : ℕ) → first_address ≤ from → from + (e.size + 16 + step_of e.alignment) ≤ m.limit → EndBy from m.instances → IsRoom m e.size e.alignment (next_step (step_of e.alignment) from)
-room_after m e from low limit ends =
+room_after : (m : Layout) (e : Extent) (from : ℕ) → first_address ≤ from → from + (e.size + 16 + step_of e.alignment) ≤ m.limit → EndBy from m.instances → m.reserved ≡ [] → IsRoom m e.size e.alignment (next_step (step_of e.alignment) from)
+room_after m e from low limit ends none =
     let near = next_near (step_of e.alignment) from (omega (arith, some_step e.alignment)) in
     record {
       from = omega (arith, low, near.0);
       aligned = mul-mod_right (step_of e.alignment) (from / step_of e.alignment + 1);
       inside = omega (arith, near.1, taken_most e.size, limit);
       free = free_after _ _ from m.instances near.0 ends;
+      clear = subst (IsClear (next_step (step_of e.alignment) from) (next_step (step_of e.alignment) from + taken e.size)) (sym none) tt;
     }
 
-none_lacks : (m : Layout) (extents : List Extent) (from : ℕ) → first_address ≤ from → from + most_taken extents ≤ m.limit → EndBy from m.instances → LackRoom m extents → ⊥
-none_lacks m [] from low limit ends lack = lack
-none_lacks m (e ∷ extents) from low limit ends (inl none) = none _ (room_after m e from low (omega (arith, limit)) ends)
-none_lacks m (e ∷ extents) from low limit ends (inr (p, placed, later)) =
+none_lacks : (m : Layout) (extents : List Extent) (from : ℕ) → first_address ≤ from → from + most_taken extents ≤ m.limit → EndBy from m.instances → m.reserved ≡ [] → LackRoom m extents → ⊥
+none_lacks m [] from low limit ends clear lack = lack
+none_lacks m (e ∷ extents) from low limit ends clear (inl none) = none _ (room_after m e from low (omega (arith, limit)) ends clear)
+none_lacks m (e ∷ extents) from low limit ends clear (inr (p, placed, later)) =
     let near = next_near (step_of e.alignment) from (omega (arith, some_step e.alignment)) in
-    let lowest = placed.lowest.lowest _ (room_after m e from low (omega (arith, limit)) ends) in
+    let lowest = placed.lowest.lowest _ (room_after m e from low (omega (arith, limit)) ends clear) in
     let size : taken (length {A = ℕ} (replicate p.size 0)) ≤ e.size + 16 = rw (length-replicate {A = ℕ} p.size 0, placed.size) (taken_most e.size) in
     let to = from + (e.size + 16 + step_of e.alignment) in
-    none_lacks (with_new m p) extents to (omega (arith, low)) (omega (arith, limit)) (ends_with to m.instances (record { address = p.address; bytes = replicate p.size 0 }) (omega (arith, lowest, near.1, size)) (ends_later from to m.instances (omega arith) ends)) later
+    none_lacks (with_new m p) extents to (omega (arith, low)) (omega (arith, limit)) (ends_with to m.instances (record { address = p.address; bytes = replicate p.size 0 }) (omega (arith, lowest, near.1, size)) (ends_later from to m.instances (omega arith) ends)) clear later
 
 -- extents that take no more than the space below the limit find room in empty memory
 pub all_find_room : (limit : ℕ) (extents : List Extent) → first_address + most_taken extents ≤ limit → LackRoom (no_instances limit) extents → ⊥
-all_find_room limit extents enough lack = none_lacks (no_instances limit) extents first_address (omega arith) enough tt lack
+all_find_room limit extents enough lack = none_lacks (no_instances limit) extents first_address (omega arith) enough tt refl lack

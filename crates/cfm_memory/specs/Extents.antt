@@ -40,9 +40,9 @@ abbrev pub MayNotPlace : MemoryFault → Layout → List Extent → Type 0
 MayNotPlace NoRoom m extents = LackRoom m extents
 MayNotPlace OutOfMemory m extents = ⊤
 
--- memory without instances
+-- memory without instances and reserved ranges
 abbrev pub no_instances : ℕ → Layout
-no_instances limit = record { limit = limit; instances = [] }
+no_instances limit = record { limit = limit; instances = []; reserved = [] }
 
 -- place k
 abbrev pub place_at : List Place → ℕ → Place

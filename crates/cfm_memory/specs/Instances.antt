@@ -1,18 +1,21 @@
 -- The instances of a memory: which bytes are where, and how they change when an instance is placed, removed
--- or written to.
+-- or written to; and the reserved ranges.
 use Rattle.std.specs.Prelude.{ℕ, ◌+◌, ◌-◌, ◌==◌, ◌&&◌, Bool, false, List, [], ◌∷◌, ◌++◌, Option, None, Some, if◌then◌else◌, length, take, drop, nat_le, nat_lt}
 use Rattle.std.specs.Option.{option_or}
 use Rattle.cfm_memory.specs.declared.place.Place.{Place}
+use Rattle.cfm_memory.specs.declared.place.Reserved.{Reserved}
 
 -- an instance of a section: where it begins, and its readable bytes
 pub record Instance : Type 0 where
   pub address : ℕ
   pub bytes : List ℕ
 
--- a memory: the address that no instance may exceed, and the instances in the order of their addresses
+-- a memory: the address that no instance may exceed, the instances in the order of their addresses, and the reserved
+-- ranges in theirs
 pub record Layout : Type 0 where
   pub limit : ℕ
   pub instances : List Instance
+  pub reserved : List Reserved
 
 -- a memory with other instances
 abbrev pub with_instances : Layout → List Instance → Layout

@@ -5,4 +5,5 @@ pub mod Kept
 pub mod Lending
 pub mod Limits
 pub mod Placement
+pub mod Reservation
 pub mod Views

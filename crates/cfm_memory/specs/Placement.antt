@@ -1,10 +1,11 @@
 -- Where an instance may lie: at the lowest free address that has its alignment. The format says how a
 -- section's memory is aligned (Mac OS Runtime Architectures, "PEF Structure", section headers: alignment,
 -- an exponent of two), but not where it lies. So the rest is this project's own rule of placement.
-use Rattle.std.specs.Prelude.{◌≡◌, ℕ, ◌+◌, ◌%◌, ◌^◌, ◌≤◌, ◌⊎◌, max, List, [], ◌∷◌, length, replicate}
+use Rattle.std.specs.Prelude.{◌≡◌, ℕ, ◌+◌, ◌%◌, ◌^◌, ◌≤◌, ◌<◌, ◌⊎◌, max, List, [], ◌∷◌, length, replicate}
 use Rattle.std.specs.Int.{next_multiple_of}
 use Rattle.cfm_memory.specs.Instances.{Instance, Layout, with_instance, with_instances}
 use Rattle.cfm_memory.specs.declared.place.Place.{Place}
+use Rattle.cfm_memory.specs.declared.place.Reserved.{Reserved}
 use Rattle.cfm_memory.specs.declared.place.MemoryFault.{MemoryFault}
 use Rattle.cfm_memory.specs.declared.place.MemoryFault.TheVariants.{NoRoom, OutOfMemory}
 use Rattle.cfm_memory.specs.Limits.{first_address, grain}
@@ -26,12 +27,18 @@ abbrev pub IsFree : ℕ → ℕ → List Instance → Type 0
 IsFree address end [] = Unit {0}
 IsFree address end (x ∷ xs) = ((end ≤ x.address) ⊎ (end_of x ≤ address)) × IsFree address end xs
 
+-- they meet no reserved range
+abbrev pub IsClear : ℕ → ℕ → List Reserved → Type 0
+IsClear address end [] = Unit {0}
+IsClear address end (r ∷ rs) = ((end ≤ r.from) ⊎ (r.to ≤ address)) × IsClear address end rs
+
 -- an address at which an instance of some size and alignment has room
 pub record IsRoom (m : Layout) (size alignment address : ℕ) : Type 0 where
   pub from : first_address ≤ address
   pub aligned : address % step_of alignment ≡ 0
   pub inside : address + taken size ≤ m.limit
   pub free : IsFree address (address + taken size) m.instances
+  pub clear : IsClear address (address + taken size) m.reserved
 
 -- the lowest address with room
 pub record IsLowest (m : Layout) (size alignment address : ℕ) : Type 0 where
@@ -53,6 +60,19 @@ abbrev pub IsLaidOut : ℕ → ℕ → List Instance → Type 0
 IsLaidOut from limit [] = Unit {0}
 IsLaidOut from limit (x ∷ xs) = (from ≤ x.address) × (end_of x ≤ limit) × IsLaidOut (end_of x) limit xs
 
--- the instances of a memory lie in the order of their addresses, and none overlaps another
-abbrev pub IsInOrder : Layout → Type 0
-IsInOrder m = IsLaidOut first_address m.limit m.instances
+-- reserved ranges from an address on, one after the other, none of them empty
+abbrev pub AreInTurn : ℕ → List Reserved → Type 0
+AreInTurn from [] = from ≤ 2 ^ 32
+AreInTurn from (r ∷ rs) = (from ≤ r.from) × (r.from < r.to) × AreInTurn r.to rs
+
+-- no instance meets a reserved range
+abbrev pub AreClear : List Instance → List Reserved → Type 0
+AreClear [] rs = Unit {0}
+AreClear (x ∷ xs) rs = IsClear x.address (end_of x) rs × AreClear xs rs
+
+-- the instances of a memory lie in the order of their addresses, its reserved ranges in theirs, and none of them
+-- overlaps another
+pub record IsInOrder (m : Layout) : Type 0 where
+  pub laid_out : IsLaidOut first_address m.limit m.instances
+  pub in_turn : AreInTurn 0 m.reserved
+  pub clear : AreClear m.instances m.reserved

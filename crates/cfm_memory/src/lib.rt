@@ -9,4 +9,4 @@ mod memory;
 mod place;
 
 pub use memory::Memory;
-pub use place::{MemoryFault, Place};
+pub use place::{MemoryFault, Place, Reserved};

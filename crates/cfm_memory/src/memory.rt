@@ -1,14 +1,15 @@
-ghost use Rattle.std.specs.Prelude.{◌≡◌, ℕ, ◌+◌, ◌*◌, ◌/◌, ◌^◌, ◌<◌, ◌≤◌, [], length, map, replicate, IfOk, MatchOption, IsTrue, Some};
-ghost use Rattle.std.specs.Option.{option_copied};
+ghost use Rattle.std.specs.Prelude.{◌≡◌, ℕ, ◌+◌, ◌*◌, ◌/◌, ◌^◌, ◌<◌, ◌≤◌, [], insert, length, map, replicate, IfOk, IfSome, MatchOption, IsTrue, OnOk, OnSome, Some, false, true};
+ghost use Rattle.std.specs.Option.{IfNone, option_copied};
 ghost use Rattle.std.specs.Result.{IfErr, OnErr};
 ghost use Rattle.std.specs.Borrow.{sem};
 ghost use Rattle.cfm_memory.specs.Instances.{bytes_at, holds_place, range_at, with_instances, without};
 ghost use Rattle.cfm_memory.specs.Lending.{LendsPart};
 ghost use Rattle.cfm_memory.specs.Limits.{first_address, greatest_alignment};
-ghost use Rattle.cfm_memory.specs.Placement.{taken, step_of, IsInOrder, IsLowest, IsRoom, MayRefuse, with_new};
-ghost use Rattle.cfm_memory.specs.Kept.Searches.{IsFirstFree, IsFront, part_of};
+ghost use Rattle.cfm_memory.specs.Placement.{taken, step_of, AreInTurn, IsClear, IsFree, IsInOrder, IsLowest, IsRoom, MayRefuse, with_new};
+ghost use Rattle.cfm_memory.specs.Reservation.{IsVacant, MayNotReserve, Reserves, reserved_range, with_range};
+ghost use Rattle.cfm_memory.specs.Kept.Searches.{IsFirstFree, IsFirstVacant, IsFront, part_of};
 
-use crate::place::{MemoryFault, Place};
+use crate::place::{MemoryFault, Place, Reserved};
 use std::alloc::{AllocError, Global};
 use std::collections::BTreeMap;
 use std::fmt;
@@ -19,6 +20,9 @@ const FIRST_ADDRESS: u32 = 0x0001_0000;
 
 /// The addresses of instances, and their sizes rounded up, are multiples of this.
 const GRAIN: u64 = 16;
+
+/// The address after the last one.
+const GREATEST_END: u64 = 1 << 32;
 
 /// Memory that holds instances of sections, each at an address of its own.
 ///
@@ -31,6 +35,8 @@ pub struct Memory {
     front: u32,
     /// The readable bytes of the instances, by their addresses.
     instances: BTreeMap<u32, Vec<u8>>,
+    /// The reserved ranges, in the order of their addresses.
+    reserved: Vec<Reserved>,
 }
 
 impl Model for Memory {
@@ -44,7 +50,7 @@ impl Model for Memory {
 
     ghost view = { layout };
 
-    ghost invariant = { λ m. IsKept m.limit (map instance_seen m.instances.entries) m.front };
+    ghost invariant = { λ m. IsKept m.limit (map instance_seen m.instances.entries) m.reserved.items m.front };
 }
 
 /// Prints the limit and the number of instances, without their bytes.
@@ -58,15 +64,16 @@ impl fmt::Debug for Memory {
 }
 
 impl Memory {
-    /// Returns memory without instances, in which none may exceed the address `limit`.
+    /// Returns memory without instances and reserved ranges, in which none may exceed the address `limit`.
     pub fn new(alloc: Global, limit: u32) -> Memory
-        ensures { result ≡ record { limit = limit; instances = [] } }
+        ensures { result ≡ record { limit = limit; instances = []; reserved = [] } }
     {
         Memory {
             alloc,
             limit,
             front: FIRST_ADDRESS,
             instances: BTreeMap::new(alloc),
+            reserved: Vec::new(alloc),
         }
     }
 
@@ -80,7 +87,7 @@ impl Memory {
     ///
     /// `NoRoom` if no address has room below the limit; otherwise `OutOfMemory` if an allocation
     /// fails. Neither changes the memory.
-    #[tactic(auto, using(crate::proofs::Changes::laid_out_seen))]
+    #[tactic(auto, using(crate::proofs::Changes::in_order_seen))]
     pub fn place(&mut self, size: u32, alignment: u8) -> Result<Place, MemoryFault>
         requires { alignment ≤ greatest_alignment }
         ensures lowest { IfOk result (λ place. IsLowest self.old size alignment place.address) }
@@ -107,22 +114,47 @@ impl Memory {
     {
         let limit = self.limit;
         let taken = taken_by(u64::from(size));
-        let address = self.first_free(taken, step_by(alignment));
+        let address = self.first_vacant(taken, step_by(alignment));
         if address + taken > u64::from(limit) {
             return None;
         }
         Some(address as u32)
     }
 
-    /// Returns the lowest multiple of `step` from which `taken` bytes overlap no instance.
-    fn first_free(&self, taken: u64, step: u64) -> u64
+    /// Returns the lowest multiple of `step` from which `taken` bytes meet no instance and no reserved range.
+    fn first_vacant(&self, taken: u64, step: u64) -> u64
         requires taken { (0 < taken) × (taken ≤ 2 ^ 33) }
         requires step { (0 < step) × (step ≤ 2 ^ 31) }
-        ensures first { IsFirstFree taken step first_address self.now.instances result }
+        ensures first { IsFirstVacant taken step first_address self.now.instances self.now.reserved result }
         ensures bound { result < 2 ^ 33 }
     {
-        let mut address = u64::from(self.front).next_multiple_of(step);
-        for (start, bytes) in self.instances.range(self.front..) {
+        let mut address = self.first_free(u64::from(self.front), taken, step);
+        for range in &self.reserved {
+            if address + taken <= range.from {
+                return address;
+            }
+            if address < range.to {
+                address = self.first_free(range.to, taken, step);
+            }
+        }
+        address
+    }
+
+    /// Returns the lowest multiple of `step` from `from` on at which `taken` bytes overlap no instance. No instance may
+    /// lie across `from`.
+    fn first_free(&self, from: u64, taken: u64, step: u64) -> u64
+        requires from { from ≤ 2 ^ 32 }
+        requires between { IsFree from from self.now.instances }
+        requires taken { (0 < taken) × (taken ≤ 2 ^ 33) }
+        requires step { (0 < step) × (step ≤ 2 ^ 31) }
+        ensures first { IsFirstFree taken step from self.now.instances result }
+        ensures bound { result < 2 ^ 33 }
+    {
+        let mut address = from.next_multiple_of(step);
+        if from > u64::from(self.limit) {
+            return address;
+        }
+        for (start, bytes) in self.instances.range(from as u32..) {
             let start = u64::from(*start);
             if address + taken <= start {
                 return address;
@@ -133,21 +165,84 @@ impl Memory {
         address
     }
 
-    /// Returns the address after the instances that follow one another from the front on.
+    /// Returns the lowest address that may be free: the one after the instances and the reserved ranges that follow one
+    /// another from the front on.
     fn next_front(&self) -> u32
-        ensures { IsFront self.now.instances result }
+        ensures { IsFront self.now.instances self.now.reserved result }
     {
-        let mut front = self.front;
+        let mut front = self.after_instances(self.front);
+        for range in &self.reserved {
+            if range.from <= u64::from(front)
+                && u64::from(front) < range.to
+                && range.to <= u64::from(u32::MAX)
+            {
+                front = self.after_instances(range.to as u32);
+            }
+        }
+        front
+    }
+
+    /// Returns the address after the instances that follow one another from a front on.
+    fn after_instances(&self, from: u32) -> u32
+        requires { IsFront self.now.instances self.now.reserved from }
+        ensures { IsFront self.now.instances self.now.reserved result }
+    {
+        let mut front = from;
         while let Some(bytes) = self.instances.get(&front) {
             front = (u64::from(front) + taken_by(bytes.len() as u64)) as u32;
         }
         front
     }
 
+    /// Takes `size` addresses from `address` on out of use, as long as this memory lives. No instance is placed there.
+    ///
+    /// The range begins at the multiple of 16 at or below `address`, and ends at the one at or above its end. If `size` is
+    /// 0, nothing is taken.
+    ///
+    /// # Errors
+    ///
+    /// `NoRoom` if the range meets the addresses that an instance takes, or another range, or passes the last address.
+    /// Otherwise `OutOfMemory` if an allocation fails. Neither changes the memory.
+    pub fn reserve(&mut self, address: u32, size: u32) -> Result<(), MemoryFault>
+        ensures reserved { OnOk result (Reserves self.old address size self.new) }
+        ensures refused { IfErr result (λ fault. MayNotReserve self.old address size fault) }
+        ensures unchanged { OnErr result (self.new ≡ self.old) }
+    {
+        if size == 0 {
+            return Ok(());
+        }
+        let range = rounded(address, size);
+        if range.to > GREATEST_END || !self.is_free(range) {
+            return Err(MemoryFault::NoRoom);
+        }
+        let Some(rank) = rank_of(&self.reserved, range) else {
+            return Err(MemoryFault::NoRoom);
+        };
+        self.reserved.insert(rank, range)?;
+        Ok(())
+    }
+
+    /// Returns whether no instance takes an address of a range.
+    fn is_free(&self, range: Reserved) -> bool
+        requires some { range.from < range.to }
+        requires inside { range.to ≤ 2 ^ 32 }
+        ensures yes { result ≡ true → IsFree range.from range.to self.now.instances }
+        ensures no { result ≡ false → IsFree range.from range.to self.now.instances → ⊥ }
+    {
+        let last = (range.to - 1) as u32;
+        match self.instances.range(..=last).next_back() {
+            Some((start, bytes)) => {
+                u64::from(*start) + taken_by(bytes.len() as u64) <= range.from
+            }
+            None => true,
+        }
+    }
+
     /// Returns whether an instance has exactly this address and size.
-    #[tactic(auto, using(crate::proofs::Changes::laid_out_seen))]
+    #[tactic(auto, using(crate::proofs::Changes::in_order_seen))]
     pub fn holds(&self, place: Place) -> bool
         ensures held { result ≡ holds_place self.now place }
+        ensures clear { result ≡ true → IsClear place.address (place.address + taken place.size) self.now.reserved }
         ensures in_order { IsInOrder self.now }
     {
         match self.instances.get(&place.address) {
@@ -157,7 +252,7 @@ impl Memory {
     }
 
     /// Returns the bytes of the instance at `place`.
-    #[tactic(auto, using(crate::proofs::Changes::laid_out_seen))]
+    #[tactic(auto, using(crate::proofs::Changes::in_order_seen))]
     pub fn part(&self, place: Place) -> &[u8]
         requires { IsTrue (holds_place self.now place) }
         ensures bytes { bytes_at self.now.instances place.address ≡ Some result.now }
@@ -180,7 +275,7 @@ impl Memory {
     }
 
     /// Removes the instance at `place`. The addresses and bytes of all others are unchanged.
-    #[tactic(auto, using(crate::proofs::Changes::laid_out_seen))]
+    #[tactic(auto, using(crate::proofs::Changes::in_order_seen))]
     pub fn give_back(&mut self, place: Place)
         requires { IsTrue (holds_place self.old place) }
         ensures given_back { self.new ≡ with_instances self.old (without self.old.instances place.address) }
@@ -191,15 +286,54 @@ impl Memory {
     }
 
     /// Returns the `len` bytes from `address` on, or `None` if they don't lie inside one instance. An
-    /// empty range may also be at an instance's end.
-    #[tactic(auto, using(crate::proofs::Changes::laid_out_seen))]
+    /// empty range may also be at an instance's end. No address inside a reserved range has bytes.
+    #[tactic(auto, using(crate::proofs::Changes::in_order_seen))]
     pub fn at(&self, address: u32, len: u32) -> Option<&[u8]>
         ensures range { option_copied result ≡ range_at self.now.instances address len }
+        ensures clear { OnSome result (IsClear address (address + len) self.now.reserved) }
         ensures in_order { IsInOrder self.now }
     {
         let (start, bytes) = self.instances.range(..=address).next_back()?;
         range_of(bytes, address - *start, len)
     }
+}
+
+/// Returns the range that `size` bytes from `address` on take.
+#[tactic(auto, unfolding(crate::specs::Reservation::reserved_range))]
+fn rounded(address: u32, size: u32) -> Reserved
+    requires { 0 < size }
+    ensures range { result ≡ reserved_range address size }
+    ensures some { result.from < result.to }
+    ensures bound { result.to < 2 ^ 34 }
+{
+    let address = u64::from(address);
+    Reserved {
+        from: address - address % GRAIN,
+        to: (address + u64::from(size)).next_multiple_of(GRAIN),
+    }
+}
+
+/// Returns how many of some ranges, which lie in the order of their addresses, end before another one. `None` if one of
+/// them meets it.
+fn rank_of(ranges: &[Reserved], range: Reserved) -> Option<usize>
+    requires in_turn { AreInTurn 0 ranges.now }
+    requires some { range.from < range.to }
+    ensures inside { IfSome result (λ rank. rank ≤ length ranges.now) }
+    ensures clear { IfSome result (λ rank. IsClear range.from range.to ranges.now) }
+    ensures inserted { IfSome result (λ rank. insert ranges.now rank range ≡ with_range ranges.now range) }
+    ensures meets { IfNone result (IsClear range.from range.to ranges.now → ⊥) }
+{
+    let mut rank = 0;
+    for other in ranges {
+        if range.to <= other.from {
+            return Some(rank);
+        }
+        if range.from < other.to {
+            return None;
+        }
+        rank += 1;
+    }
+    Some(rank)
 }
 
 /// Returns the `len` bytes of an instance from an offset on, if they lie inside it.

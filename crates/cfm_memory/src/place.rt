@@ -14,12 +14,21 @@ pub struct Place {
     pub size: u32,
 }
 
-/// Why an instance isn't placed. The text is the refusal's name.
+/// A range of addresses in which no instance is placed.
+#[derive(Clone, Copy, Debug, PartialEq, Eq)]
+pub struct Reserved {
+    /// Its first address.
+    pub from: u64,
+    /// The address after its last one.
+    pub to: u64,
+}
+
+/// Why an instance isn't placed, or a range isn't reserved. The text is the refusal's name.
 #[derive(Clone, Copy, Debug, PartialEq, Eq, Error)]
 pub enum MemoryFault {
-    /// No address below the limit has room for the instance.
+    /// No address below the limit has room for the instance, or an address of the range is taken.
     NoRoom,
-    /// An address has room, but an allocation for the instance failed.
+    /// An address has room, but an allocation failed.
     OutOfMemory,
 }
 

@@ -3,7 +3,8 @@ use Rattle.std.proofs.Common.{◌≡◌, ℕ, [], ◌∷◌, ◌++◌, sym, ◌�
 use Rattle.std.specs.Global.{Vec}
 use Rattle.cfm_memory.specs.Views.{instance_seen}
 use Rattle.cfm_memory.specs.Limits.{first_address}
-use Rattle.cfm_memory.proofs.Entries.{entries_to, last_begins, none_to, part_is, range_of_last}
+use Rattle.cfm_memory.proofs.Changes.{found_clear, in_order_seen}
+use Rattle.cfm_memory.proofs.Entries.{entries_to, instances, last_begins, none_to, part_is, range_of_last}
 use Rattle.cfm_memory.proofs.memory.Memory.at.Goals as goal
 
 pub returns-in_err-start-clause-range : goal.returns-in_err-start-clause-range
@@ -20,3 +21,8 @@ returns-clause-range c =
     let begins = last_begins es c.next_back.new.self last c.args.address is in
     let there = range_of_last first_address c.self.inside.limit es c.next_back.new.self last c.args.address c.args.len c.self.invariant.laid_out is in
     rw (c.range_of.ensures, c.deref.ensures.value, ← c.self.view_is) (part_is (instance_seen last) c.args.address c.args.len begins ∙ sym there)
+
+pub returns-clause-clear : goal.returns-clause-clear
+returns-clause-clear c =
+    let order = in_order_seen c.self.inside.limit c.self.inside.front (instances c.self.inside.instances.entries) c.self.inside.reserved.items c.args.self.now c.self.view_is c.self.invariant in
+    found_clear c.args.self.now c.range_of.result c.args.address c.args.len order (returns-clause-range c)

@@ -4,14 +4,13 @@ use Rattle.std.specs.Global.{Vec}
 use Rattle.std.specs.Map.Iter.{TakesFirst, deref_pair}
 use Rattle.std.proofs.lemmas.Bool.{cases_lt}
 use Rattle.std.proofs.lemmas.Map.Iter.{rest_more}
-use Rattle.cfm_memory.specs.Kept.Searches.{IsFirstFree, IsFront}
+use Rattle.cfm_memory.specs.Kept.Searches.{IsFirstFree}
 use Rattle.cfm_memory.specs.Views.{instance_seen}
 use Rattle.cfm_memory.specs.Limits.{first_address}
-use Rattle.cfm_memory.specs.Placement.{end_of, taken}
+use Rattle.cfm_memory.specs.Placement.{end_of, taken, IsFree}
 use Rattle.cfm_memory.proofs.Changes.{laid_out_to}
 use Rattle.cfm_memory.proofs.Entries.{entries_from, free_among, free_of_all, instances, laid_out_among}
-use Rattle.cfm_memory.proofs.Fronts.{front_below}
-use Rattle.cfm_memory.proofs.Placing.{no_multiple_between, first_before, first_after, first_from, within_taken}
+use Rattle.cfm_memory.proofs.Placing.{free_past, no_multiple_between, first_before, first_after, first_from, within_taken}
 use Rattle.cfm_memory.proofs.memory.Memory.first_free.Goals as goal
 
 max_aligned : (a b r n : ℕ) → r ≡ max a b → a % n ≡ 0 → b % n ≡ 0 → r % n ≡ 0
@@ -22,26 +21,37 @@ max_aligned a b r n is a_is b_is =
       | inr le ↦ (let e : a ≡ r = omega arith in subst P e a_is)
     ]
 
--- the first free address from the front on, among the instances from there on, is the first of all
-first_of_all : (bytes step front : ℕ) (es : List (ℕ × Vec ℕ)) (r : ℕ) → 0 < bytes → IsFront (instances es) front → IsFirstFree bytes step front (instances (entries_from front es)) r → IsFirstFree bytes step first_address (instances es) r
-first_of_all bytes step front es r some is first = record {
-  low = (let h = first.low in let k = is.low in omega arith);
+-- the first free address from an address on, among the instances from there on, is the first of all
+first_of_all : (bytes step from : ℕ) (es : List (ℕ × Vec ℕ)) (r : ℕ) → IsFree from from (instances es) → IsFirstFree bytes step from (instances (entries_from from es)) r → IsFirstFree bytes step from (instances es) r
+first_of_all bytes step from es r between first = record {
+  low = first.low;
   aligned = first.aligned;
-  free = free_of_all r (r + bytes) front es first.low is.between first.free;
-  first = λ other low aligned free. first.first other (front_below (instances es) front other (other + bytes) is low (omega (arith, some)) free) aligned (free_among other (other + bytes) front es free);
+  free = free_of_all r (r + bytes) from es first.low between first.free;
+  first = λ other low aligned free. first.first other low aligned (free_among other (other + bytes) from es free);
 }
 
 pub loop-start-init : goal.loop-start-init
 loop-start-init c =
-    let e : c.into_iter-start-iterator.result ≡ entries_from c.self.inside.front c.self.inside.instances.entries = c.into_iter-start-iterator.ensures.into_iter_gives ∙ c.range-start-items.ensures.between tt in
+    let e : c.into_iter-start-iterator.result ≡ entries_from c.args.from c.self.inside.instances.entries = c.into_iter-start-iterator.ensures.into_iter_gives ∙ c.range-start-items.ensures.between tt in
     let next = c.next_multiple_of-address.ensures in
     record {
       aligned = next.multiple;
-      bound = omega (arith, next.upper_bound, c.from.ensures);
-      laid_out = (first_address, rw e (laid_out_among first_address (2 ^ 32) c.self.inside.front c.self.inside.instances.entries (laid_out_to first_address c.self.inside.limit (2 ^ 32) _ (omega (arith, c.self.invariant.small)) c.self.invariant.laid_out)));
-      rest = λ r h. rw (← c.self.view_is) (first_of_all c.args.taken c.args.step c.self.inside.front c.self.inside.instances.entries r (omega arith) c.self.invariant.is_front
-          (first_from _ _ _ _ _ r (omega (arith, next.lower_bound, c.from.ensures)) (λ b low aligned. no_multiple_between _ b c.args.step (omega arith) next.multiple aligned (omega (arith, next.upper_bound, c.from.ensures))) (rw e at h)));
+      bound = omega (arith, next.upper_bound);
+      laid_out = (first_address, rw e (laid_out_among first_address (2 ^ 32) c.args.from c.self.inside.instances.entries (laid_out_to first_address c.self.inside.limit (2 ^ 32) _ (omega (arith, c.self.invariant.small)) c.self.invariant.laid_out)));
+      rest = λ r h. rw (← c.self.view_is) (first_of_all c.args.taken c.args.step c.args.from c.self.inside.instances.entries r (rw (← c.self.view_is) at c.requires.between)
+          (first_from _ _ _ _ _ r (omega (arith, next.lower_bound)) (λ b low aligned. no_multiple_between _ b c.args.step (omega arith) next.multiple aligned (omega (arith, next.upper_bound))) (rw e at h)));
     }
+
+-- past the limit there is no instance
+pub returns-then-from-clause-first : goal.returns-then-from-clause-first
+returns-then-from-clause-first c =
+    let next = c.next_multiple_of-address.ensures in
+    rw (← c.self.view_is) (record {
+      low = next.lower_bound;
+      aligned = next.multiple;
+      free = free_past first_address c.self.inside.limit _ _ (instances c.self.inside.instances.entries) (omega (arith, next.lower_bound)) c.self.invariant.laid_out;
+      first = λ b low aligned free. no_multiple_between _ b c.args.step (omega arith) next.multiple aligned (omega (arith, next.upper_bound));
+    })
 
 -- the rest begins with the current instance
 next_is : (s t : List (ℕ × Vec ℕ)) (r : Option (Bor ℕ × Bor (Vec ℕ))) (start : Bor ℕ) (bytes : Bor (Vec ℕ)) → r ≡ Some (start, bytes) → TakesFirst deref_pair s r t → instances s ≡ instance_seen (start.now, bytes.now) ∷ instances t

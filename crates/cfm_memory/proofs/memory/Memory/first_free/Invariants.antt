@@ -1,6 +1,5 @@
 -- The first free address after the instances so far is the first of all.
 use Rattle.std.proofs.Common.{◌≡◌, ℕ, ◌%◌, ◌^◌, ◌<◌, map}
-use Rattle.cfm_memory.specs.Limits.{first_address}
 use Rattle.cfm_memory.specs.Placement.{IsLaidOut}
 use Rattle.cfm_memory.specs.Views.{instance_seen}
 use Rattle.cfm_memory.specs.Kept.Searches.{IsFirstFree}
@@ -11,5 +10,5 @@ invariant-loop-start l = record {
   aligned : l.address % l.step ≡ 0;
   bound : l.address < 2 ^ 33;
   laid_out : (from : ℕ) × IsLaidOut from (2 ^ 32) (map instance_seen l.start-iterator);
-  rest : (r : ℕ) → IsFirstFree l.taken l.step l.address (map instance_seen l.start-iterator) r → IsFirstFree l.taken l.step first_address l.self.instances r;
+  rest : (r : ℕ) → IsFirstFree l.taken l.step l.address (map instance_seen l.start-iterator) r → IsFirstFree l.taken l.step l.from l.self.instances r;
 }

@@ -3,8 +3,8 @@ use Rattle.std.proofs.Common.{arith}
 use Rattle.cfm_memory.proofs.Placing.{some_taken, taken_most}
 use Rattle.cfm_memory.proofs.memory.Memory.lowest_room.Goals as goal
 
-pub first_free-address-requires-clause-taken : goal.first_free-address-requires-clause-taken
-first_free-address-requires-clause-taken c =
+pub first_vacant-address-requires-clause-taken : goal.first_vacant-address-requires-clause-taken
+first_vacant-address-requires-clause-taken c =
     let some = some_taken c.from.result in
     let most = taken_most c.from.result in
     (omega arith, omega arith)

@@ -1,46 +1,19 @@
--- An instance that is at the front ends below the limit, and the front moves past it.
-use Rattle.std.proofs.Common.{length, ap, ◌∙◌, arith}
-use Rattle.cfm_memory.specs.Limits.{first_address}
-use Rattle.cfm_memory.specs.Placement.{taken}
-use Rattle.cfm_memory.proofs.Entries.{bytes_found, instances}
-use Rattle.cfm_memory.proofs.Fronts.{ends_below, front_after}
-use Rattle.cfm_memory.proofs.Placing.{some_taken, within_taken}
+-- A front inside a reserved range moves past it.
+use Rattle.std.proofs.Common.{List, sym, subst, arith}
+use Rattle.cfm_memory.specs.Kept.Searches.{IsFront}
+use Rattle.cfm_memory.specs.Placement.{AreClear}
+use Rattle.cfm_memory.specs.declared.place.Reserved.{Reserved}
+use Rattle.cfm_memory.proofs.Entries.{instances}
+use Rattle.cfm_memory.proofs.Fronts.{front_past}
 use Rattle.cfm_memory.proofs.memory.Memory.next_front.Goals as goal
 
-pub loop-bytes-init : goal.loop-bytes-init
-loop-bytes-init c = rw (← c.self.view_is) c.self.invariant.is_front
-
-pub taken_by-requires : goal.taken_by-requires
-taken_by-requires c =
-    let here = bytes_found c.self.inside.instances.entries c.loop-bytes.front c.in-Some.bytes.now c.in-Some.ensures.value in
-    let ends = ends_below first_address c.self.inside.limit (instances c.self.inside.instances.entries) c.loop-bytes.front c.in-Some.bytes.now.items c.self.invariant.laid_out here in
-    let inside = within_taken (length c.in-Some.bytes.now.items) in
-    omega (arith, c.self.invariant.small, ends, inside, c.len.ensures, c.in-Some.bytes.now.ok.0)
-
-pub overflow_add-front : goal.overflow_add-front
-overflow_add-front c =
-    let here = bytes_found c.self.inside.instances.entries c.loop-bytes.front c.in-Some.bytes.now c.in-Some.ensures.value in
-    let ends = ends_below first_address c.self.inside.limit (instances c.self.inside.instances.entries) c.loop-bytes.front c.in-Some.bytes.now.items c.self.invariant.laid_out here in
-    let taken_is = c.taken_by.ensures ∙ ap taken (c.len.ensures ∙ c.in-Some.bytes.now.ok.0) in
-    omega (arith, c.self.invariant.small, ends, taken_is)
-
-pub overflow_cast-front : goal.overflow_cast-front
-overflow_cast-front c =
-    let here = bytes_found c.self.inside.instances.entries c.loop-bytes.front c.in-Some.bytes.now c.in-Some.ensures.value in
-    let ends = ends_below first_address c.self.inside.limit (instances c.self.inside.instances.entries) c.loop-bytes.front c.in-Some.bytes.now.items c.self.invariant.laid_out here in
-    let taken_is = c.taken_by.ensures ∙ ap taken (c.len.ensures ∙ c.in-Some.bytes.now.ok.0) in
-    omega (arith, c.self.invariant.small, ends, taken_is, c.from.ensures)
-
-pub loop-bytes-smaller : goal.loop-bytes-smaller
-loop-bytes-smaller c =
-    let here = bytes_found c.self.inside.instances.entries c.loop-bytes.front c.in-Some.bytes.now c.in-Some.ensures.value in
-    let ends = ends_below first_address c.self.inside.limit (instances c.self.inside.instances.entries) c.loop-bytes.front c.in-Some.bytes.now.items c.self.invariant.laid_out here in
-    let taken_is = c.taken_by.ensures ∙ ap taken (c.len.ensures ∙ c.in-Some.bytes.now.ok.0) in
-    let some = some_taken (length c.in-Some.bytes.now.items) in
-    omega (arith, c.self.invariant.small, ends, taken_is, c.from.ensures, some)
-
-pub loop-bytes-preserved : goal.loop-bytes-preserved
-loop-bytes-preserved c =
-    let here = bytes_found c.self.inside.instances.entries c.loop-bytes.front c.in-Some.bytes.now c.in-Some.ensures.value in
-    let is = front_after c.self.inside.limit (instances c.self.inside.instances.entries) c.loop-bytes.front c.in-Some.bytes.now.items c.self.invariant.laid_out here (rw (← c.self.view_is) at c.loop-bytes.invariant) in
-    rw (← c.self.view_is, c.from.ensures, c.taken_by.ensures, c.len.ensures, c.in-Some.bytes.now.ok.0) is
+pub after_instances-front-requires-then-range-from-2 : goal.after_instances-front-requires-then-range-from-2
+after_instances-front-requires-then-range-from-2 c =
+    let rs = c.deref-range-items.result.now in
+    let is = c.deref-range-items.ensures.value in
+    let xs = instances c.self.inside.instances.entries in
+    let clear = subst (AreClear xs) (sym is) c.self.invariant.clear in
+    let P : List Reserved → Type 0 = λ ranges. IsFront xs ranges c.loop-range.front in
+    let front = subst P (sym is) (rw (← c.self.view_is) at c.loop-range.invariant) in
+    let past = front_past xs rs c.loop-range.range-index c.loop-range.front (record { from = 0; to = 0 }) c.loop-range-test.true (omega (arith, c.if-range-from.true, c.from.ensures)) (omega (arith, c.if-from-range.true, c.from-then-range-from.ensures)) clear front in
+    rw (← c.self.view_is, ← is) past

@@ -1,10 +1,6 @@
--- So far all instances that were passed follow one another.
-use Rattle.std.proofs.Common.{◌-◌, ◌^◌}
+-- So far nothing below the front is free.
 use Rattle.cfm_memory.specs.Kept.Searches.{IsFront}
 use Rattle.cfm_memory.proofs.memory.Memory.next_front.Given as goal
 
-abbrev pub invariant-loop-bytes : goal.invariant-loop-bytes
-invariant-loop-bytes l = IsFront l.self.instances l.front
-
-abbrev pub decreases-loop-bytes : goal.decreases-loop-bytes
-decreases-loop-bytes l = 2 ^ 32 - l.front
+abbrev pub invariant-loop-range : goal.invariant-loop-range
+invariant-loop-range l = IsFront l.self.instances l.self.reserved l.front
