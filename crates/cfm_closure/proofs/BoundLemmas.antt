@@ -42,7 +42,7 @@ pub met_if : {A : Type 0} (b : Bool) (o : Option A) (x : A) → cond b o None �
 met_if true o x is = refl
 met_if false o x is = absurd (cc)
 
-library_of-below : (l : Loaded) (i : ℕ) (x : Library) → library_of l i ≡ Some x → i < l.header.library_count
+pub library_of-below : (l : Loaded) (i : ℕ) (x : Library) → library_of l i ≡ Some x → i < l.header.library_count
 unfolding library_of library_in
 library_of-below l i x is = ltb-true i l.header.library_count (met_if (nat_lt i l.header.library_count) _ x is)
 

@@ -23,13 +23,13 @@ use Rattle.cfm_closure.proofs.LoopLemmas.{again_in_store, follow-order, for_ever
 use Rattle.cfm_closure.proofs.Ranks.{contains_cases}
 
 -- the parts of a closure
-record IsClosed (pairs : List Pair) (root : ℕ) (c : Closed) : Type 0 where
+pub record IsClosed (pairs : List Pair) (root : ℕ) (c : Closed) : Type 0 where
   pub store : c.pairs ≡ pairs
   pub order : order_of pairs root ≡ Ok c.order
   pub passes : first_refused pairs c.order ≡ None
   pub init_order : init_order_of pairs c.order ≡ Ok c.init_order
 
-is_closed : (pairs : List Pair) (root : ℕ) (c : Closed) → closed_of pairs root ≡ Ok c → IsClosed pairs root c
+pub is_closed : (pairs : List Pair) (root : ℕ) (c : Closed) → closed_of pairs root ≡ Ok c → IsClosed pairs root c
 unfolding closed_of
 is_closed pairs root c is =
     let a = came (order_of pairs root) (λ order. unless (first_refused pairs order) (init_order_of pairs order >>= (λ init_order. Ok (record { pairs = pairs; order = order; init_order = init_order })))) c is in

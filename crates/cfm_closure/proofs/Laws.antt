@@ -4,6 +4,8 @@
 pub use Rattle.cfm_closure.proofs.PlaceLemmas.{place_of-below, place_of-first, place_of-named}
 -- a closure is one of its store; its order has each fragment once, with all its libraries, and its root last
 pub use Rattle.cfm_closure.proofs.ClosedLemmas.{closed-complete, closed-root, closed-store}
+-- its initialization order has the same fragments
+pub use Rattle.cfm_closure.proofs.InitOrderLemmas.{closed-init}
 -- each import of a closure's fragments has a target, or none
 pub use Rattle.cfm_closure.proofs.ClosedLemmas.{closed-target}
 -- a target that is a place is in an instantiated section of a fragment of the closure
@@ -17,3 +19,5 @@ pub use Rattle.cfm_closure.proofs.ClosedLemmas.{closed-order}
 -- a closure is refused as a loop of re-exports exactly if an import of its order visits an export again, before which
 -- no import is refused
 pub use Rattle.cfm_closure.proofs.EndlessLemmas.{closed-endless}
+-- a pair that is added leaves the fragments, and the closures that may stay and their targets, as they are
+pub use Rattle.cfm_closure.proofs.AdditionLemmas.{closed-with, fragment_of-with, place_of-kept, target-with}

@@ -1,3 +1,4 @@
+mod AdditionLemmas
 mod BoundLemmas
 mod ClosedLemmas
 mod EndlessLemmas
@@ -23,6 +24,10 @@ mod Ranks
 mod ReadLemmas
 mod RefusalLemmas
 mod RowLemmas
+mod SameClosedLemmas
+mod SameInitLemmas
+mod SameLemmas
+mod SameTargetLemmas
 mod SymbolLemmas
 mod TableLemmas
 mod TargetLemmas

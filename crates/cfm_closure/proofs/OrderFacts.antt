@@ -19,10 +19,10 @@ use Rattle.cfm_closure.proofs.WalkRules.{came, same_ok, unmarked_inside, walk-ru
 
 module _ (pairs : List Pair) where
   -- at the start no fragment is marked
-  unmarked_start : (q : ℕ) → q < length pairs → is_marked (unwalked pairs) q ≡ false
+  pub unmarked_start : (q : ℕ) → q < length pairs → is_marked (unwalked pairs) q ≡ false
   unmarked_start q inside = get_or-replicate (length pairs) q false true inside
 
-  few_left : left (unwalked pairs) ≤ length pairs
+  pub few_left : left (unwalked pairs) ≤ length pairs
   few_left =
       let few : left (unwalked pairs) ≤ length (replicate (length pairs) false) = count_by-le-length not (replicate (length pairs) false) in
       let size : length (replicate (length pairs) false) ≡ length pairs = length-replicate (length pairs) false in

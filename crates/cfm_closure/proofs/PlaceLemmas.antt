@@ -9,7 +9,7 @@ use Rattle.cfm_closure.specs.Stores.{Pair, pair_of, place_from, place_of}
 use Rattle.cfm_closure.specs.Kept.Places.{ArePlaces, NotesPlace}
 
 -- a value, if a test holds
-abbrev if_met : Bool → ℕ → Option ℕ
+abbrev pub if_met : Bool → ℕ → Option ℕ
 if_met true x = Some x
 if_met false x = None
 
@@ -58,7 +58,7 @@ place_below pairs name None is = tt
 place_below pairs name (Some p) is = place_of-below pairs name p is
 
 -- with one more pair, a name has the place that it had, or the last one
-place_from-push : (at : ℕ) (pairs : List Pair) (x : Pair) (name : List ℕ) → place_from at (pairs ++ x ∷ []) name ≡ option_or (place_from at pairs name) (if_met (bytes_eq name x.name) (at + length pairs))
+pub place_from-push : (at : ℕ) (pairs : List Pair) (x : Pair) (name : List ℕ) → place_from at (pairs ++ x ∷ []) name ≡ option_or (place_from at pairs name) (if_met (bytes_eq name x.name) (at + length pairs))
 place_from-push at [] x name = by (bytes_eq name x.name)
   where
     by : (here : Bool) → cond here (Some at) None ≡ if_met here (at + 0)

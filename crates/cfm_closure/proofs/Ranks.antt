@@ -22,7 +22,7 @@ contains_cases p ps q (zero, under, is) = inl is
 contains_cases p ps q (suc k, under, is) = inr (k, omega arith, is)
 
 module _ (pairs : List Pair) where
-  exports-cons : (p : ℕ) (ps : List ℕ) → exports_among pairs (p ∷ ps) ≡ export_count pairs p + exports_among pairs ps
+  pub exports-cons : (p : ℕ) (ps : List ℕ) → exports_among pairs (p ∷ ps) ≡ export_count pairs p + exports_among pairs ps
   exports-cons p ps = sum_by-cons (export_count pairs) p ps
 
   rank-here : (p : ℕ) (ps : List ℕ) (x : ℕ × ℕ) → p ≡ x.0 → rank pairs (p ∷ ps) x ≡ x.1

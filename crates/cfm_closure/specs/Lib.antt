@@ -1,3 +1,4 @@
+pub mod Additions
 pub mod Closures
 pub mod Faults
 pub mod Fragments

@@ -1,4 +1,8 @@
-ghost use Rattle.std.specs.Prelude.{◌≡◌, ◌<◌, Contains, IfSome, Ok, Some};
+ghost use Rattle.std.specs.Prelude.{◌≡◌, ◌≢◌, ◌<◌, ℕ, Contains, IfSome, Ok, Some, false, true};
+ghost use Rattle.std.specs.Option.{option_and_then};
+ghost use Rattle.pef_loader.specs.Library.{Library};
+ghost use Rattle.pef_loader.specs.Loader.{library_of};
+ghost use Rattle.cfm_closure.specs.Additions.{NamesLibrary};
 ghost use Rattle.pef_views.specs.Views.{contained};
 ghost use Rattle.pef_loader.specs.Views.{loaded};
 ghost use Rattle.cfm_closure.specs.Fragments.{container_at, import_count, library_count, loader_at};
@@ -112,5 +116,35 @@ impl<'a> Closure<'a> {
             Some(found) => found.target(),
             None => unreachable!(),
         }
+    }
+
+    /// Returns whether a fragment of the closure has a library entry with a name.
+    pub fn names_library(&self, name: &[u8]) -> bool
+        ensures yes { result ≡ true → NamesLibrary self.now.pairs self.now.order name.now }
+        ensures no { result ≡ false → NamesLibrary self.now.pairs self.now.order name.now → ⊥ }
+    {
+        for p in self.bindings.order() {
+            if self.fragment_names(*p, name) {
+                return true;
+            }
+        }
+        false
+    }
+
+    /// Returns whether a fragment of the closure does.
+    fn fragment_names(&self, p: usize, name: &[u8]) -> bool
+        requires { Contains self.now.order p }
+        ensures yes { result ≡ true → NamesLibrary self.now.pairs self.now.order name.now }
+        ensures no { result ≡ false → (l : ℕ) (library : Library) → option_and_then (λ x. library_of x l) (loader_at self.now.pairs p) ≡ Some library → library.name ≢ name.now }
+    {
+        let loader = self.bindings.fragment(p).loader;
+        for l in 0..loader.libraries() {
+            if let Some(library) = loader.library(l) {
+                if library.name == name {
+                    return true;
+                }
+            }
+        }
+        false
     }
 }

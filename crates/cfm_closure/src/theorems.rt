@@ -1,11 +1,16 @@
 //! Laws of the definitions, for the proofs of other crates. The functions do nothing.
-ghost use Rattle.std.specs.Prelude.{◌≡◌, ◌<◌, ◌↔◌, ℕ, List, None, Ok, Err, Contains, length};
+ghost use Rattle.std.specs.Prelude.{◌≡◌, ◌<◌, ◌↔◌, ℕ, List, None, Some, Ok, Err, Contains, length, true};
 ghost use Rattle.pef_format.specs.declared.place.Place.{Place};
 ghost use Rattle.pef_loader.specs.declared.fault.LoaderFault.{LoaderFault};
 ghost use Rattle.pef_views.specs.declared.fault.ViewFault.{ViewFault};
-ghost use Rattle.cfm_closure.specs.Stores.{Pair};
+ghost use Rattle.cfm_closure.specs.Additions.{MayBeAdded, with_pair};
+ghost use Rattle.cfm_closure.specs.Stores.{Pair, place_of};
 ghost use Rattle.cfm_closure.specs.Faults.{BindRefusal, no_container, no_loader, reexport_loop};
-ghost use Rattle.cfm_closure.specs.Fragments.{import_count};
+ghost use Rattle.cfm_closure.specs.Fragments.{fragment_of, import_count, loader_at};
+ghost use Rattle.cfm_closure.specs.Libraries.{bound_to};
+ghost use Rattle.pef_format.specs.Symbols.{options_of};
+ghost use Rattle.pef_loader.specs.Library.{Library};
+ghost use Rattle.pef_loader.specs.Loader.{Loaded, library_of};
 ghost use Rattle.cfm_closure.specs.Orders.{EndsWith, IsComplete, IsInitOrder};
 ghost use Rattle.cfm_closure.specs.Walk.{order_of};
 ghost use Rattle.cfm_closure.specs.Closures.{Closed, closed_of};
@@ -63,4 +68,17 @@ pub fn unread_fragments()
 /// If all fragments of a store are read, none of its closures is refused for the bytes of a fragment.
 pub fn readable_stores()
     ensures { (pairs : List Pair) (root : ℕ) (r : BindRefusal) → AllRead pairs → root < length pairs → closed_of pairs root ≡ Err r → IsOfBinding r }
+{}
+
+/// A closure stays what it is when a pair is added to its store, unless one of its fragments has a library entry with
+/// the pair's name and the store had no pair of that name: its orders are the same, and so are the targets of all
+/// imports of its fragments. Such an entry is weak, and was bound to nothing. In any case each fragment and each name of
+/// the store stays in its place.
+pub fn added_pairs()
+    ensures fragment { (pairs : List Pair) (n : Pair) (p : ℕ) → p < length pairs → fragment_of (with_pair pairs n) p ≡ fragment_of pairs p }
+    ensures place { (pairs : List Pair) (n : Pair) (name : List ℕ) (p : ℕ) → place_of pairs name ≡ Some p → place_of (with_pair pairs n) name ≡ Some p }
+    ensures closure { (pairs : List Pair) (n : Pair) (root : ℕ) (c : Closed) → root < length pairs → closed_of pairs root ≡ Ok c → MayBeAdded pairs c.order n.name → closed_of (with_pair pairs n) root ≡ Ok (record c { pairs = with_pair pairs n }) }
+    ensures target { (pairs : List Pair) (n : Pair) (root : ℕ) (c : Closed) → root < length pairs → closed_of pairs root ≡ Ok c → MayBeAdded pairs c.order n.name → (p j : ℕ) → Contains c.order p → target_of (with_pair pairs n) p j ≡ target_of pairs p j }
+    ensures missing { (pairs : List Pair) (root : ℕ) (c : Closed) (p l : ℕ) (loader : Loaded) (library : Library) → closed_of pairs root ≡ Ok c → Contains c.order p → loader_at pairs p ≡ Some loader → library_of loader l ≡ Some library → place_of pairs library.name ≡ None
+        → ((options_of library.options).weak ≡ true) × (bound_to pairs p l ≡ Ok None) }
 {}
