@@ -3,6 +3,10 @@ use Rattle.std.proofs.Common.{◌≡◌, ◌+◌, ◌<◌, ◌≤◌, ℕ, zero,
 use Rattle.std.specs.Option.{IfNone}
 use Rattle.std.proofs.Math.ListN.{set}
 use Rattle.std.proofs.lemmas.Bool.Decides.{eqb_tells}
+use Rattle.std.proofs.Common.{drop, subst, ◌⊎◌}
+use Rattle.std.proofs.lemmas.List.{at_drop_more, drop_all}
+use Rattle.cfm_closure.specs.Additions.{NamesLibrary}
+use Rattle.cfm_prepare.specs.Steps.{AnyNames}
 use Rattle.cfm_prepare.specs.Contexts.{Open, open_of, open_without}
 use Rattle.cfm_prepare.specs.Kept.Connections.{AreAtNumbers, open_in}
 
@@ -104,3 +108,37 @@ absent-without (o ∷ os) number none = elim (eqb_tells o.number number) [
 pub none-unchanged : (r : Option Open) (os now : List Open) (number : ℕ) → r ≡ open_of os number → now ≡ open_without os number → IfNone r (now ≡ os)
 none-unchanged None os now number none now_is = now_is ∙ absent-without os number (sym none)
 none-unchanged (Some o) os now number is now_is = tt
+
+-- all open connections whose closures name a library are in the slots from one on
+pub record NamesFrom (slots : List (Option Open)) (i : ℕ) (name : List ℕ) : Type 0 where
+  pub there : AnyNames (open_in (drop i slots)) name → AnyNames (open_in slots) name
+  pub all : AnyNames (open_in slots) name → AnyNames (open_in (drop i slots)) name
+
+pub names-start : (slots : List (Option Open)) (name : List ℕ) → NamesFrom slots 0 name
+names-start slots name = record { there = λ any. any; all = λ any. any }
+
+module _ (slots : List (Option Open)) (i : ℕ) (name : List ℕ) (under : i < length slots) (from : NamesFrom slots i name) where
+  step : (s : Option Open) → get_or slots i None ≡ s → open_in (drop i slots) ≡ open_in (s ∷ drop (i + 1) slots)
+  step s is = at_drop_more open_in slots i None under ∙ ap (λ s. open_in (s ∷ drop (i + 1) slots)) is
+
+  pub names-here : (o : Open) → get_or slots i None ≡ Some o → NamesLibrary o.closed.pairs o.closed.order name → AnyNames (open_in slots) name
+  names-here o is names = from.there (subst (λ os. AnyNames os name) (sym (step (Some o) is)) (inl names))
+
+  pub names-empty : get_or slots i None ≡ None → NamesFrom slots (i + 1) name
+  names-empty is = record {
+    there = λ any. from.there (subst (λ os. AnyNames os name) (sym (step None is)) any);
+    all = λ any. subst (λ os. AnyNames os name) (step None is) (from.all any);
+  }
+
+  pub names-other : (o : Open) → get_or slots i None ≡ Some o → (NamesLibrary o.closed.pairs o.closed.order name → ⊥) → NamesFrom slots (i + 1) name
+  names-other o is not_here = record {
+    there = λ any. from.there (subst (λ os. AnyNames os name) (sym (step (Some o) is)) (inr any));
+    all = λ any. later (subst (λ os. AnyNames os name) (step (Some o) is) (from.all any));
+  }
+    where
+      later : NamesLibrary o.closed.pairs o.closed.order name ⊎ AnyNames (open_in (drop (i + 1) slots)) name → AnyNames (open_in (drop (i + 1) slots)) name
+      later (inl here) = absurd (not_here here)
+      later (inr any) = any
+
+pub names-end : (slots : List (Option Open)) (i : ℕ) (name : List ℕ) → length slots ≤ i → NamesFrom slots i name → AnyNames (open_in slots) name → ⊥
+names-end slots i name past from any = subst (λ (xs : List (Option Open)). AnyNames (open_in xs) name) (drop_all i slots past) (from.all any)

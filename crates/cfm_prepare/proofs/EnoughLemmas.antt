@@ -8,7 +8,7 @@ use Rattle.cfm_closure.specs.Stores.{Pair, pair_of}
 use Rattle.cfm_prepare.specs.declared.image_fault.ImageFault.{ImageFault}
 use Rattle.pef_loader.specs.declared.program_fault.ProgramFault.{ProgramFault}
 use Rattle.cfm_prepare.specs.Addresses.{first_bad_program, section_of}
-use Rattle.cfm_prepare.specs.Contexts.{ContextState}
+use Rattle.cfm_prepare.specs.Contexts.{ContextState, opened}
 use Rattle.cfm_prepare.specs.Fragments.{Present, StandAll, all_given_back, extents_in, first_bad_image, positions, present_at}
 use Rattle.cfm_prepare.specs.Placing.{AllPlaced, AreNew, ArePrepared, LacksRoom}
 use Rattle.cfm_prepare.specs.Refusals.{HasBadImage, HasBadProgram}
@@ -116,7 +116,7 @@ prepares-to s name closure room image program =
         pairs = s.pairs;
         memory = done.1;
         given = s.given + 1;
-        connections = s.connections ++ (record { number = s.given; root = closure.has.root; closed = closure.closed }) ∷ [];
+        connections = s.connections ++ opened s closure.has.root closure.closed ∷ [];
         present = s.present ++ done.0;
       },
       record {

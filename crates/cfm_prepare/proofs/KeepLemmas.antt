@@ -2,7 +2,9 @@
 use Rattle.std.proofs.Common.{◌≡◌, ◌≢◌, ℕ, suc, ◌<◌, ◌==◌, Bool, true, false, List, [], ◌∷◌, ◌++◌, Some, cond, length, refl, sym, ap, subst, ◌∙◌, inl, inr, arith}
 use Rattle.std.proofs.lemmas.Bool.Decides.{eqb_tells}
 use Rattle.cfm_memory.specs.Extents.{given_back, place_at}
+use Rattle.cfm_memory.specs.declared.place.Place.{Place}
 use Rattle.cfm_memory.specs.Instances.{Layout, bytes_at}
+use Rattle.cfm_memory.specs.Reservation.{Reserves}
 use Rattle.cfm_memory.proofs.Laws.{given_back_elsewhere}
 use Rattle.cfm_closure.specs.Stores.{Pair}
 use Rattle.cfm_prepare.specs.Addresses.{section_of}
@@ -10,8 +12,8 @@ use Rattle.cfm_prepare.specs.Fragments.{Present, all_given_back, is_present, pla
 use Rattle.cfm_prepare.proofs.PlacedLemmas.{placed-pairs, placed-new}
 use Rattle.cfm_prepare.proofs.GroupLemmas.{ArePairApart, turned}
 use Rattle.cfm_prepare.specs.Contexts.{ContextState, Open, fresh_state, is_needed, needed_of, unneeded_of}
-use Rattle.cfm_prepare.specs.Runs.{Keeps, Runs, Step, Takes, closed, prepared}
-use Rattle.cfm_prepare.specs.Steps.{Closes, Prepares}
+use Rattle.cfm_prepare.specs.Runs.{Keeps, Runs, Step, Takes, closed, prepared, reserved, stored}
+use Rattle.cfm_prepare.specs.Steps.{Adds, Closes, Prepares, TakesOut}
 use Rattle.cfm_prepare.proofs.RunLemmas.{present-needed}
 
 -- a fact of each of some fragments
@@ -144,10 +146,29 @@ laid-close s t number laid step =
       apart = subst AreApartAll (sym step.present) (apart-needed t.connections s.present laid.apart);
     }
 
+pub laid-store : (s t : ContextState) (name bytes : List ℕ) → IsLaid s → Adds s name bytes t → IsLaid t
+laid-store s t name bytes laid step = subst IsLaid (sym step.is) (record { there = laid.there; apart = laid.apart })
+
+-- a reservation leaves the instances as they are
+reserves-instances : (m after : Layout) (address size : ℕ) → Reserves m address size after → after.instances ≡ m.instances
+reserves-instances m after address size (inl none) = ap (λ (k : Layout). k.instances) none.1
+reserves-instances m after address size (inr some) = ap (λ (k : Layout). k.instances) some.2
+
+pub reserves-keeps : (m after : Layout) (address size : ℕ) (places : List Place) → Reserves m address size after → Keeps m after places
+reserves-keeps m after address size places reserves k under = ap (λ xs. bytes_at xs (place_at places k).address) (reserves-instances m after address size reserves)
+
+pub laid-reserve : (s t : ContextState) (address size : ℕ) → IsLaid s → TakesOut s address size t → IsLaid t
+laid-reserve s t address size laid step = subst IsLaid (sym step.is) (record {
+  there = all-map (IsThere s.memory) (IsThere step.memory) s.present (λ f there. there-kept s.memory step.memory f there (reserves-keeps s.memory step.memory address size f.places step.reserves)) laid.there;
+  apart = laid.apart;
+})
+
 laid-all : (pairs : List Pair) (s t : ContextState) (steps : List Step) → IsLaid s → Runs s steps t → IsLaid t
 laid-all pairs s t [] laid run = subst IsLaid (sym run) laid
 laid-all pairs s t (prepared name number ∷ steps) laid run = laid-all pairs run.0 t steps (laid-prepare pairs s run.0 name number laid run.1) run.2
 laid-all pairs s t (closed number ∷ steps) laid run = laid-all pairs run.0 t steps (laid-close s run.0 number laid run.1) run.2
+laid-all pairs s t (reserved address size ∷ steps) laid run = laid-all pairs run.0 t steps (laid-reserve s run.0 address size laid run.1) run.2
+laid-all pairs s t (stored name bytes ∷ steps) laid run = laid-all pairs run.0 t steps (laid-store s run.0 name bytes laid run.1) run.2
 
 -- a fact of the places of all fragments is one of those of a fragment
 places-keep : (m after : Layout) (fs : List Present) (p : ℕ) → AllBy (λ f. Keeps m after f.places) fs → Keeps m after (places_of fs p)
@@ -191,6 +212,14 @@ step-keeps pairs s t (closed number) p laid step was is =
       ap (λ fs. places_of fs p) step.present ∙ same,
       subst (Keeps s.memory t.memory) same (places-keep s.memory t.memory (needed_of t.connections s.present) p (kept-close s t number laid step)),
     )
+step-keeps pairs s t (reserved address size) p laid step was is = (
+  ap (λ (t : ContextState). places_of t.present p) step.is,
+  subst (λ (t : ContextState). Keeps s.memory t.memory (places_of s.present p)) (sym step.is) (reserves-keeps s.memory step.memory address size (places_of s.present p) step.reserves),
+)
+step-keeps pairs s t (stored name bytes) p laid step was is = (
+  ap (λ (t : ContextState). places_of t.present p) step.is,
+  subst (λ (t : ContextState). Keeps s.memory t.memory (places_of s.present p)) (sym step.is) (λ k under. refl),
+)
 
 pub run-keeps : (pairs : List Pair) (limit : ℕ) (steps : List Step) (s t : ContextState) (x : Step) (p : ℕ) → Runs (fresh_state pairs limit) steps s → Takes s x t → is_present s.present p ≡ true → is_present t.present p ≡ true
     → (places_of t.present p ≡ places_of s.present p) × Keeps s.memory t.memory (places_of s.present p)

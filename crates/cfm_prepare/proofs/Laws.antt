@@ -7,6 +7,9 @@ pub use Rattle.cfm_prepare.proofs.NowLemmas.{run-now, run-prepares}
 pub use Rattle.cfm_prepare.proofs.SlotLemmas.{places-append, present-append}
 pub use Rattle.cfm_prepare.proofs.RunLemmas.{present-needed}
 pub use Rattle.cfm_prepare.proofs.KeepLemmas.{run-keeps}
+-- a fragment that is present is in the store, and needs the same memory if another one is added
+pub use Rattle.cfm_prepare.proofs.RunLemmas.{run-inside}
+pub use Rattle.cfm_prepare.proofs.FragmentLemmas.{extents-stored}
 -- there is a state that a preparation gives, if no new fragment lacks room or is refused
 pub use Rattle.cfm_prepare.proofs.EnoughLemmas.{prepares-to}
 -- if no relocation header is refused, the first refusal is none

@@ -17,6 +17,7 @@ mod PlacedLemmas
 mod PlacingLemmas
 mod ReadyLemmas
 mod ReleaseLemmas
+mod ReserveLemmas
 mod RunLemmas
 mod SectionLemmas
 mod SlotLemmas

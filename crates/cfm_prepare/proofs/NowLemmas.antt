@@ -1,22 +1,26 @@
 -- A fragment that is present is prepared as its container says, with the present addresses, after any list of
 -- steps.
-use Rattle.std.proofs.Common.{◌≡◌, ℕ, zero, suc, ◌+◌, ◌==◌, ◌%◌, ◌^◌, Bool, true, false, List, [], ◌∷◌, ◌++◌, Option, None, Some, Ok, Err, Contains, cond, refl, sym, ap, ap₂, subst, ◌∙◌, inl, inr}
-use Rattle.std.specs.Prelude.{Result}
-use Rattle.std.specs.Result.{result_unwrap_or}
+use Rattle.std.proofs.Common.{◌≡◌, ℕ, zero, suc, ◌+◌, ◌==◌, ◌<◌, length, ◌%◌, ◌^◌, Bool, true, false, List, [], ◌∷◌, ◌++◌, Option, None, Some, Ok, Err, Contains, cond, refl, sym, ap, ap₂, subst, ◌∙◌, inl, inr}
+use Rattle.std.specs.Prelude.{Result, option_map}
+use Rattle.std.specs.Option.{option_map_or}
+use Rattle.std.specs.Result.{result_ok, result_unwrap_or}
 use Rattle.std.proofs.lemmas.Bool.Decides.{eqb_tells}
-use Rattle.cfm_memory.specs.Extents.{Stand, place_at}
+use Rattle.cfm_memory.specs.Extents.{ArePlaced, Stand, place_at}
 use Rattle.cfm_memory.specs.Instances.{Layout}
 use Rattle.cfm_memory.specs.declared.place.Place.{Place}
 use Rattle.cfm_closure.specs.Stores.{Pair}
 use Rattle.cfm_closure.specs.Faults.{BindRefusal}
-use Rattle.cfm_closure.specs.Fragments.{import_count}
+use Rattle.cfm_closure.specs.Additions.{MayBeAdded}
+use Rattle.cfm_closure.specs.Fragments.{Fragment, container_at, fragment_of, import_count, loader_at}
+use Rattle.pef_loader.specs.Loader.{Loaded}
+use Rattle.cfm_prepare.specs.Images.{extents_of}
 use Rattle.cfm_closure.specs.Closures.{closed_of}
 use Rattle.cfm_closure.specs.Promises.{LiesInside}
 use Rattle.cfm_closure.specs.Targets.{target_of}
 use Rattle.cfm_closure.specs.declared.targets.Target.{Target}
 use Rattle.cfm_closure.specs.declared.targets.Target.TheVariants.{Absolute, At}
-use Rattle.cfm_closure.proofs.Laws.{closed-complete, target-inside}
-use Rattle.cfm_prepare.specs.Prepared.{addresses_at}
+use Rattle.cfm_closure.proofs.Laws.{closed-complete, fragment_of-with, target-inside, target-with}
+use Rattle.cfm_prepare.specs.Prepared.{addresses_at, prepared_at}
 use Rattle.cfm_prepare.specs.Addresses.{addresses_from, import_address, section_of, target_address}
 use Rattle.cfm_prepare.specs.Lists.{has}
 use Rattle.cfm_prepare.specs.Fragments.{Present, is_present, places_of, prepared_in}
@@ -24,12 +28,12 @@ use Rattle.cfm_prepare.specs.Placing.{Fits}
 use Rattle.cfm_prepare.proofs.ListLemmas.{has-at, has-contains}
 use Rattle.cfm_prepare.proofs.PlacedLemmas.{placed-fit}
 use Rattle.pef_words.proofs.Laws.Tests.{cond-later}
-use Rattle.cfm_prepare.specs.Contexts.{ContextState, Open, fresh_state, is_needed, needed_of}
+use Rattle.cfm_prepare.specs.Contexts.{ContextState, Open, added, fresh_state, is_needed, needed_of, opened}
 use Rattle.cfm_prepare.specs.Now.{IsPreparedNow}
-use Rattle.cfm_prepare.specs.Runs.{AreClosed, Keeps, Runs, Step, closed, prepared}
-use Rattle.cfm_prepare.specs.Steps.{Closes, Prepares}
-use Rattle.cfm_prepare.proofs.KeepLemmas.{AllBy, IsLaid, IsThere, all-append, all-both, all-index, all-map, all-needed, kept-close, kept-new, laid-close, laid-prepare, places-before, places-needed}
-use Rattle.cfm_prepare.proofs.RunLemmas.{IsSound, after-close, after-prepare, fresh-sound, needed-either}
+use Rattle.cfm_prepare.specs.Runs.{AreClosed, Keeps, Runs, Step, closed, prepared, reserved, stored}
+use Rattle.cfm_prepare.specs.Steps.{Adds, Closes, Prepares, TakesOut}
+use Rattle.cfm_prepare.proofs.KeepLemmas.{AllBy, IsLaid, IsThere, all-append, all-both, all-index, all-map, all-needed, kept-close, kept-new, laid-close, laid-prepare, laid-reserve, laid-store, places-before, places-needed, reserves-keeps}
+use Rattle.cfm_prepare.proofs.RunLemmas.{AllMayStay, IsSound, all-may, after-close, after-prepare, after-reserve, after-store, may-now, fresh-sound, needed-either}
 
 -- two lists of fragments have the places that some connections need
 abbrev AgreeOn : List Open → List Present → List Present → Type 0
@@ -51,7 +55,8 @@ result-same pairs os all now order (Err e) agree needed inside = refl
 -- an open connection whose closure has a fragment
 record HasOpen (pairs : List Pair) (os : List Open) (p : ℕ) : Type 0 where
   link : Open
-  closes : closed_of pairs link.root ≡ Ok link.closed
+  inside : link.root < length pairs
+  closes : closed_of pairs link.root ≡ Ok (record link.closed { pairs = pairs })
   has_it : has link.closed.order p ≡ true
   needed : (q : ℕ) → has link.closed.order q ≡ true → is_needed os q ≡ true
 
@@ -64,17 +69,17 @@ open-with pairs [] p are is = absurd (cc)
 open-with pairs (o ∷ os) p are is = by (has o.closed.order p) refl is (λ left. open-with pairs os p are.1 left)
   where
     by : (b : Bool) → has o.closed.order p ≡ b → cond b true (is_needed os p) ≡ true → (is_needed os p ≡ true → HasOpen pairs os p) → HasOpen pairs (o ∷ os) p
-    by true was is later = record { link = o; closes = are.0; has_it = was; needed = λ q there. needed-first (has o.closed.order q) (is_needed os q) there }
+    by true was is later = record { link = o; inside = are.0.inside; closes = are.0.closed; has_it = was; needed = λ q there. needed-first (has o.closed.order q) (is_needed os q) there }
     by false was is later =
         let rest = later is in
-        record { link = rest.link; closes = rest.closes; has_it = rest.has_it; needed = λ q there. cond-later (has o.closed.order q) (is_needed os q) (rest.needed q there) }
+        record { link = rest.link; inside = rest.inside; closes = rest.closes; has_it = rest.has_it; needed = λ q there. cond-later (has o.closed.order q) (is_needed os q) (rest.needed q there) }
 
 module _ (pairs : List Pair) (os : List Open) (are : AreClosed pairs os) (all now : List Present) (agree : AgreeOn os all now) where
   import-same : (p j : ℕ) → is_needed os p ≡ true → import_address pairs now p j ≡ import_address pairs all p j
   import-same p j needed =
       let o = open-with pairs os p are needed in
       let order = o.link.closed.order in
-      let complete = closed-complete pairs o.link.root o.link.closed o.closes in
+      let complete = closed-complete pairs o.link.root (record o.link.closed { pairs = pairs }) o.closes in
       result-same pairs os all now order (target_of pairs p j) agree o.needed (λ t is. target-inside pairs order complete p j t (has-contains order p o.has_it) is)
 
   imports-same : (p from n : ℕ) → is_needed os p ≡ true → addresses_from pairs now p from n ≡ addresses_from pairs all p from n
@@ -155,10 +160,89 @@ now-close pairs s t number now step =
       stand = subst (λ fs. AllBy (StandsNow pairs t.memory fs) fs) (sym step.present) stand;
     }
 
-now-all : (pairs : List Pair) (s t : ContextState) (steps : List Step) → IsNow pairs s → Runs s steps t → IsNow pairs t
-now-all pairs s t [] now run = subst (IsNow pairs) (sym run) now
-now-all pairs s t (prepared name number ∷ steps) now run = now-all pairs run.0 t steps (now-prepare pairs s run.0 name number now run.1) run.2
-now-all pairs s t (closed number ∷ steps) now run = now-all pairs run.0 t steps (now-close pairs s run.0 number now run.1) run.2
+-- the same, where its closure may stay what it is if a pair with a name is added
+may-with : (pairs : List Pair) (name : List ℕ) (os : List Open) (p : ℕ) → AreClosed pairs os → AllMayStay pairs os name → is_needed os p ≡ true → (o : HasOpen pairs os p) × MayBeAdded pairs o.link.closed.order name
+may-with pairs name [] p are may is = absurd (cc)
+may-with pairs name (o ∷ os) p are may is = by (has o.closed.order p) refl is (λ left. may-with pairs name os p are.1 may.1 left)
+  where
+    by : (b : Bool) → has o.closed.order p ≡ b → cond b true (is_needed os p) ≡ true → (is_needed os p ≡ true → (h : HasOpen pairs os p) × MayBeAdded pairs h.link.closed.order name) → (h : HasOpen pairs (o ∷ os) p) × MayBeAdded pairs h.link.closed.order name
+    by true was is later = (record { link = o; inside = are.0.inside; closes = are.0.closed; has_it = was; needed = λ q there. needed-first (has o.closed.order q) (is_needed os q) there }, may-now pairs o name are.0 may.0)
+    by false was is later =
+        let rest = later is in
+        (record { link = rest.0.link; inside = rest.0.inside; closes = rest.0.closes; has_it = rest.0.has_it; needed = λ q there. cond-later (has o.closed.order q) (is_needed os q) (rest.0.needed q there) }, rest.1)
+
+-- a fragment that is needed is prepared in the same way if a pair is added
+module _ (pairs : List Pair) (n : Pair) (os : List Open) (are : AreClosed pairs os) (may : AllMayStay pairs os n.name) (p : ℕ) (needed : is_needed os p ≡ true) where
+  stored-fragment : fragment_of (pairs ++ n ∷ []) p ≡ fragment_of pairs p
+  stored-fragment =
+      let o = open-with pairs os p are needed in
+      let complete = closed-complete pairs o.link.root (record o.link.closed { pairs = pairs }) o.closes in
+      fragment_of-with pairs n p (complete.members p (has-contains o.link.closed.order p o.has_it)).place
+
+  stored-target : (j : ℕ) → target_of (pairs ++ n ∷ []) p j ≡ target_of pairs p j
+  stored-target j =
+      let m = may-with pairs n.name os p are may needed in
+      target-with pairs n m.0.link.root (record m.0.link.closed { pairs = pairs }) m.0.inside m.0.closes m.1 p j (has-contains m.0.link.closed.order p m.0.has_it)
+
+  stored-container : container_at (pairs ++ n ∷ []) p ≡ container_at pairs p
+  stored-container = ap (λ r. option_map (λ (f : Fragment). f.container) (result_ok r)) stored-fragment
+
+  stored-loader : loader_at (pairs ++ n ∷ []) p ≡ loader_at pairs p
+  stored-loader = ap (λ r. option_map (λ (f : Fragment). f.loader) (result_ok r)) stored-fragment
+
+  stored-addresses : (all : List Present) (from k : ℕ) → addresses_from (pairs ++ n ∷ []) all p from k ≡ addresses_from pairs all p from k
+  stored-addresses all from zero = refl
+  stored-addresses all from (suc k) = ap₂ (λ (a : ℕ) (rest : List ℕ). a ∷ rest) (ap (λ r. target_address all (result_unwrap_or r None)) (stored-target from)) (stored-addresses all (from + 1) k)
+
+  stored-section : (all : List Present) (places : List Place) (k : ℕ)
+      → section_of (pairs ++ n ∷ []) all (record { position = p; places = places }) k ≡ section_of pairs all (record { position = p; places = places }) k
+  stored-section all places k =
+      ap (λ c. option_map_or (λ c. option_map_or (λ l. prepared_at c l (addresses_at places (addresses_from (pairs ++ n ∷ []) all p 0 (import_count (pairs ++ n ∷ []) p))) k) (loader_at (pairs ++ n ∷ []) p) []) c []) stored-container
+      ∙ ap (λ l. option_map_or (λ c. option_map_or (λ l. prepared_at c l (addresses_at places (addresses_from (pairs ++ n ∷ []) all p 0 (import_count (pairs ++ n ∷ []) p))) k) l []) (container_at pairs p) []) stored-loader
+      ∙ ap (λ (is : List ℕ). prepared_in pairs (addresses_at places is) p k)
+      (ap (λ l. addresses_from (pairs ++ n ∷ []) all p 0 (option_map_or (λ (l : Loaded). l.header.import_count) l 0)) stored-loader ∙ stored-addresses all 0 (import_count pairs p))
+
+  stored-fits : (places : List Place) → Fits pairs (record { position = p; places = places }) → Fits (pairs ++ n ∷ []) (record { position = p; places = places })
+  stored-fits places fits = record {
+    before = fits.before;
+    after = fits.after;
+    placed = subst (λ es. ArePlaced fits.before es places fits.after) (sym (ap (λ c. option_map_or extents_of c []) stored-container)) fits.placed;
+  }
+
+now-store : (s t : ContextState) (name bytes : List ℕ) → IsNow s.pairs s → Adds s name bytes t → IsNow t.pairs t
+now-store s t name bytes now step =
+    let n : Pair = record { name = name; bytes = bytes } in
+    let N : Present → Type 0 = λ f. is_needed s.connections f.position ≡ true in
+    let own : AllBy N s.present = own-needed s.pairs s now.sound in
+    let fits : AllBy (Fits (s.pairs ++ n ∷ [])) s.present =
+    all-both N (Fits s.pairs) (Fits (s.pairs ++ n ∷ [])) s.present (λ f needed fits. stored-fits s.pairs n s.connections now.sound.closures (all-may s.pairs s.connections name step.may) f.position needed f.places fits) own now.fits in
+    let stand : AllBy (StandsNow (s.pairs ++ n ∷ []) s.memory s.present) s.present =
+    all-both N (StandsNow s.pairs s.memory s.present) (StandsNow (s.pairs ++ n ∷ []) s.memory s.present) s.present
+    (λ f needed stand k under. stand k under ∙ ap Some (sym (stored-section s.pairs n s.connections now.sound.closures (all-may s.pairs s.connections name step.may) f.position needed s.present f.places k))) own now.stand in
+    subst (λ (t : ContextState). IsNow t.pairs t) (sym step.is) (record {
+      sound = after-store s (added s name bytes) name bytes now.sound (record { may = step.may; is = refl });
+      laid = laid-store s (added s name bytes) name bytes now.laid (record { may = step.may; is = refl });
+      fits = fits;
+      stand = stand;
+    })
+
+now-reserve : (s t : ContextState) (address size : ℕ) → IsNow s.pairs s → TakesOut s address size t → IsNow t.pairs t
+now-reserve s t address size now step =
+    let u : ContextState = record s { memory = step.memory } in
+    let same : TakesOut s address size u = record { memory = step.memory; reserves = step.reserves; is = refl } in
+    subst (λ (t : ContextState). IsNow t.pairs t) (sym step.is) (record {
+      sound = after-reserve s u address size now.sound same;
+      laid = laid-reserve s u address size now.laid same;
+      fits = now.fits;
+      stand = all-map (StandsNow s.pairs s.memory s.present) (StandsNow s.pairs step.memory s.present) s.present (λ f stand k under. reserves-keeps s.memory step.memory address size f.places step.reserves k under ∙ stand k under) now.stand;
+    })
+
+now-all : (s t : ContextState) (steps : List Step) → IsNow s.pairs s → Runs s steps t → IsNow t.pairs t
+now-all s t [] now run = subst (λ (t : ContextState). IsNow t.pairs t) (sym run) now
+now-all s t (prepared name number ∷ steps) now run = now-all run.0 t steps (subst (λ ps. IsNow ps run.0) (sym run.1.pairs) (now-prepare s.pairs s run.0 name number now run.1)) run.2
+now-all s t (closed number ∷ steps) now run = now-all run.0 t steps (subst (λ ps. IsNow ps run.0) (sym run.1.pairs) (now-close s.pairs s run.0 number now run.1)) run.2
+now-all s t (reserved address size ∷ steps) now run = now-all run.0 t steps (now-reserve s run.0 address size now run.1) run.2
+now-all s t (stored name bytes ∷ steps) now run = now-all run.0 t steps (now-store s run.0 name bytes now run.1) run.2
 
 fresh-now : (pairs : List Pair) (limit : ℕ) → IsNow pairs (fresh_state pairs limit)
 fresh-now pairs limit = record { sound = fresh-sound pairs limit; laid = record { there = tt; apart = tt }; fits = tt; stand = tt }
@@ -181,14 +265,14 @@ now-at pairs s p now is =
       stand = at-position (λ q places. StandsNow pairs s.memory s.present (record { position = q; places = places })) s.present p now.stand is;
     }
 
-pub run-now : (pairs : List Pair) (limit : ℕ) (steps : List Step) (s : ContextState) (p : ℕ) → Runs (fresh_state pairs limit) steps s → is_present s.present p ≡ true → IsPreparedNow pairs s p
-run-now pairs limit steps s p run is = now-at pairs s p (now-all pairs (fresh_state pairs limit) s steps (fresh-now pairs limit) run) is
+pub run-now : (pairs : List Pair) (limit : ℕ) (steps : List Step) (s : ContextState) (p : ℕ) → Runs (fresh_state pairs limit) steps s → is_present s.present p ≡ true → IsPreparedNow s.pairs s p
+run-now pairs limit steps s p run is = now-at s.pairs s p (now-all (fresh_state pairs limit) s steps (fresh-now pairs limit) run) is
 
 -- and a step that prepares leaves each fragment of its closure so
 pub run-prepares : (pairs : List Pair) (limit : ℕ) (steps : List Step) (s t : ContextState) (name : List ℕ) (number p : ℕ) → Runs (fresh_state pairs limit) steps s → (step : Prepares s name number t) → Contains step.closure.closed.order p
-    → (is_present t.present p ≡ true) × IsPreparedNow pairs t p
+    → (is_present t.present p ≡ true) × IsPreparedNow t.pairs t p
 run-prepares pairs limit steps s t name number p run step there =
-    let now = now-prepare pairs s t name number (now-all pairs (fresh_state pairs limit) s steps (fresh-now pairs limit) run) step in
-    let o : Open = record { number = s.given; root = step.closure.has.root; closed = step.closure.closed } in
+    let now = subst (λ ps. IsNow ps t) (sym step.pairs) (now-prepare s.pairs s t name number (now-all (fresh_state pairs limit) s steps (fresh-now pairs limit) run) step) in
+    let o : Open = opened s step.closure.has.root step.closure.closed in
     let is : is_present t.present p ≡ true =
-    now.sound.same p ∙ ap (λ os. is_needed os p) step.connections ∙ needed-either s.connections o p ∙ cond-later (is_needed s.connections p) (has o.closed.order p) (has-at o.closed.order p there) in (is, now-at pairs t p now is)
+    now.sound.same p ∙ ap (λ os. is_needed os p) step.connections ∙ needed-either s.connections o p ∙ cond-later (is_needed s.connections p) (has o.closed.order p) (has-at o.closed.order p there) in (is, now-at t.pairs t p now is)

@@ -1,16 +1,24 @@
 -- After any list of steps the fragments that are present are those of the open connections' closures.
-use Rattle.std.proofs.Common.{◌≡◌, ℕ, ◌==◌, Bool, true, false, List, [], ◌∷◌, ◌++◌, Ok, cond, refl, sym, ap, subst, ◌∙◌, inl, inr}
+use Rattle.std.proofs.Common.{◌≡◌, ℕ, ◌==◌, ◌<◌, Bool, true, false, List, [], ◌∷◌, ◌++◌, Ok, cond, refl, sym, ap, subst, ◌∙◌, inl, inr, length, arith}
 use Rattle.std.proofs.lemmas.Bool.Decides.{eqb_tells}
-use Rattle.cfm_closure.specs.Stores.{Pair}
-use Rattle.cfm_closure.specs.Closures.{closed_of}
+use Rattle.cfm_closure.specs.Stores.{Pair, place_of}
+use Rattle.std.specs.Prelude.{option_map, IsSome, ◌⊎◌}
+use Rattle.std.specs.Result.{result_ok}
+use Rattle.cfm_closure.specs.Additions.{MayBeAdded, NamesLibrary}
+use Rattle.cfm_closure.specs.Fragments.{Fragment, fragment_of}
+use Rattle.cfm_closure.specs.Targets.{target_of}
+use Rattle.cfm_closure.specs.Closures.{Closed, closed_of}
+use Rattle.cfm_closure.proofs.Laws.{closed-complete, closed-store, closed-with, fragment_of-with, place_of-below, target-with}
+use Rattle.std.proofs.lemmas.List.{length_push}
 use Rattle.cfm_prepare.specs.Lists.{has}
+use Rattle.cfm_prepare.proofs.ListLemmas.{has-contains}
 use Rattle.cfm_prepare.specs.Fragments.{Present, is_present, new_among}
 use Rattle.pef_words.proofs.Laws.Tests.{cond-later}
 use Rattle.cfm_prepare.proofs.SlotLemmas.{present-append}
 use Rattle.cfm_prepare.proofs.FoundLemmas.{present-has}
-use Rattle.cfm_prepare.specs.Contexts.{ContextState, Open, fresh_state, is_needed, needed_of, open_without}
-use Rattle.cfm_prepare.specs.Runs.{AreClosed, Runs, Step, closed, prepared}
-use Rattle.cfm_prepare.specs.Steps.{Closes, Prepares}
+use Rattle.cfm_prepare.specs.Contexts.{ContextState, Open, fresh_state, is_needed, needed_of, open_without, opened}
+use Rattle.cfm_prepare.specs.Runs.{AreClosed, IsStill, Runs, Step, closed, prepared, reserved, stored}
+use Rattle.cfm_prepare.specs.Steps.{Adds, AnyNames, Closes, Prepares, TakesOut}
 
 never : (b : Bool) → false ≡ cond b false false
 never true = refl
@@ -90,9 +98,57 @@ within true c gives = gives refl
 within false c gives = refl
 
 -- the closures of open connections
-closed-push : (pairs : List Pair) (os : List Open) (o : Open) → AreClosed pairs os → closed_of pairs o.root ≡ Ok o.closed → AreClosed pairs (os ++ o ∷ [])
+closed-push : (pairs : List Pair) (os : List Open) (o : Open) → AreClosed pairs os → IsStill pairs o → AreClosed pairs (os ++ o ∷ [])
 closed-push pairs [] o are is = (is, tt)
 closed-push pairs (x ∷ os) o are is = (are.0, closed-push pairs os o are.1 is)
+
+-- the store has a name, or no fragment of an open connection's closure has a library entry with it
+abbrev pub MayStay : List Pair → Open → List ℕ → Type 0
+MayStay pairs o name = IsSome (place_of pairs name) ⊎ (NamesLibrary o.closed.pairs o.closed.order name → ⊥)
+
+abbrev pub AllMayStay : List Pair → List Open → List ℕ → Type 0
+AllMayStay pairs [] name = Unit {0}
+AllMayStay pairs (o ∷ os) name = MayStay pairs o name × AllMayStay pairs os name
+
+pub all-may : (pairs : List Pair) (os : List Open) (name : List ℕ) → IsSome (place_of pairs name) ⊎ (AnyNames os name → ⊥) → AllMayStay pairs os name
+all-may pairs [] name may = tt
+all-may pairs (o ∷ os) name may = elim may [
+  | inl has ↦ (inl has, all-may pairs os name (inl has))
+  | inr none ↦ (inr (λ names. none (inl names)), all-may pairs os name (inr (λ names. none (inr names))))
+]
+
+-- the library entries of a closure are still those of its fragments
+pub may-now : (pairs : List Pair) (o : Open) (name : List ℕ) → IsStill pairs o → MayStay pairs o name → MayBeAdded pairs o.closed.order name
+may-now pairs o name is may = elim may [
+  | inl has ↦ inl has
+  | inr none ↦ inr (λ names. none (record {
+    fragment = names.fragment;
+    member = names.member;
+    loader = names.loader;
+    read = sym (ap (λ r. option_map (λ (f : Fragment). f.loader) (result_ok r)) (is.fragments names.fragment names.member)) ∙ names.read;
+    index = names.index;
+    library = names.library;
+    entry = names.entry;
+    named = names.named;
+  }))
+]
+
+-- they stay if a pair is added
+still-stored : (pairs : List Pair) (n : Pair) (o : Open) → MayStay pairs o n.name → IsStill pairs o → IsStill (pairs ++ n ∷ []) o
+still-stored pairs n o may is =
+    let may' = may-now pairs o n.name is may in
+    let now : Closed = record o.closed { pairs = pairs } in
+    let complete = closed-complete pairs o.root now is.closed in
+    record {
+      inside = (let long = length_push pairs n in let inside = is.inside in omega arith);
+      closed = closed-with pairs n o.root now is.inside is.closed may';
+      fragments = λ p there. fragment_of-with pairs n p (complete.members p there).place ∙ is.fragments p there;
+      targets = λ p j there. target-with pairs n o.root now is.inside is.closed may' p j there ∙ is.targets p j there;
+    }
+
+closed-stored : (pairs : List Pair) (n : Pair) (os : List Open) → AllMayStay pairs os n.name → AreClosed pairs os → AreClosed (pairs ++ n ∷ []) os
+closed-stored pairs n [] may are = tt
+closed-stored pairs n (o ∷ os) may are = (still-stored pairs n o may.0 are.0, closed-stored pairs n os may.1 are.1)
 
 closed-without : (pairs : List Pair) (os : List Open) (number : ℕ) → AreClosed pairs os → AreClosed pairs (open_without os number)
 closed-without pairs [] number are = are
@@ -106,11 +162,20 @@ pub record IsSound (pairs : List Pair) (s : ContextState) : Type 0 where
 
 pub after-prepare : (pairs : List Pair) (s t : ContextState) (name : List ℕ) (number : ℕ) → IsSound pairs s → Prepares s name number t → IsSound pairs t
 after-prepare pairs s t name number sound step =
-    let o : Open = record { number = s.given; root = step.closure.has.root; closed = step.closure.closed } in
-    let closes : closed_of pairs o.root ≡ Ok o.closed = ap (λ ps. closed_of ps o.root) (sym sound.store) ∙ step.closure.is in
+    let o : Open = opened s step.closure.has.root step.closure.closed in
+    let own : closed_of pairs o.root ≡ Ok o.closed = ap (λ ps. closed_of ps o.root) (sym sound.store) ∙ step.closure.is in
+    let store = closed-store pairs o.root o.closed own in
+    let closes : closed_of pairs o.root ≡ Ok (record o.closed { pairs = pairs }) = own ∙ ap (λ ps. Ok (record o.closed { pairs = ps })) store in
+    let inside = subst (λ (ps : List Pair). o.root < length ps) sound.store (place_of-below s.pairs name o.root step.closure.has.is) in
+    let still : IsStill pairs o = record {
+      inside = inside;
+      closed = closes;
+      fragments = λ p there. ap (λ ps. fragment_of ps p) (sym store);
+      targets = λ p j there. ap (λ ps. target_of ps p j) (sym store);
+    } in
     record {
       store = step.pairs ∙ sound.store;
-      closures = subst (AreClosed pairs) (sym step.connections) (closed-push pairs s.connections o sound.closures closes);
+      closures = subst (AreClosed pairs) (sym step.connections) (closed-push pairs s.connections o sound.closures still);
       same = λ p.
           ap (λ fs. is_present fs p) step.present ∙ present-append s.present step.fresh p
           ∙ ap (λ b. cond (is_present s.present p) true b) (present-has step.fresh p ∙ ap (λ ps. has ps p) step.prepared.are.are ∙ has-new s.present o.closed.order p)
@@ -128,16 +193,44 @@ after-close pairs s t number sound step =
           ∙ within (is_needed t.connections p) (is_needed s.connections p) (λ is. needed-without s.connections number p (ap (λ os. is_needed os p) (sym step.connections) ∙ is));
     }
 
-after-all : (pairs : List Pair) (s t : ContextState) (steps : List Step) → IsSound pairs s → Runs s steps t → IsSound pairs t
-after-all pairs s t [] sound run = subst (IsSound pairs) (sym run) sound
-after-all pairs s t (prepared name number ∷ steps) sound run = after-all pairs run.0 t steps (after-prepare pairs s run.0 name number sound run.1) run.2
-after-all pairs s t (closed number ∷ steps) sound run = after-all pairs run.0 t steps (after-close pairs s run.0 number sound run.1) run.2
+pub after-store : (s t : ContextState) (name bytes : List ℕ) → IsSound s.pairs s → Adds s name bytes t → IsSound t.pairs t
+after-store s t name bytes sound step =
+    subst (λ (t : ContextState). IsSound t.pairs t) (sym step.is) (record {
+      store = refl;
+      closures = closed-stored s.pairs (record { name = name; bytes = bytes }) s.connections (all-may s.pairs s.connections name step.may) sound.closures;
+      same = sound.same;
+    })
+
+pub after-reserve : (s t : ContextState) (address size : ℕ) → IsSound s.pairs s → TakesOut s address size t → IsSound t.pairs t
+after-reserve s t address size sound step =
+    subst (λ (t : ContextState). IsSound t.pairs t) (sym step.is) (record { store = sound.store; closures = sound.closures; same = sound.same })
+
+after-all : (s t : ContextState) (steps : List Step) → IsSound s.pairs s → Runs s steps t → IsSound t.pairs t
+after-all s t [] sound run = subst (λ (t : ContextState). IsSound t.pairs t) (sym run) sound
+after-all s t (prepared name number ∷ steps) sound run = after-all run.0 t steps (subst (λ ps. IsSound ps run.0) (sym run.1.pairs) (after-prepare s.pairs s run.0 name number sound run.1)) run.2
+after-all s t (closed number ∷ steps) sound run = after-all run.0 t steps (subst (λ ps. IsSound ps run.0) (sym run.1.pairs) (after-close s.pairs s run.0 number sound run.1)) run.2
+after-all s t (reserved address size ∷ steps) sound run = after-all run.0 t steps (after-reserve s run.0 address size sound run.1) run.2
+after-all s t (stored name bytes ∷ steps) sound run = after-all run.0 t steps (after-store s run.0 name bytes sound run.1) run.2
 
 pub fresh-sound : (pairs : List Pair) (limit : ℕ) → IsSound pairs (fresh_state pairs limit)
 fresh-sound pairs limit = record { store = refl; closures = tt; same = λ p. refl }
 
 pub run-present : (pairs : List Pair) (limit : ℕ) (steps : List Step) (t : ContextState) (p : ℕ) → Runs (fresh_state pairs limit) steps t → is_present t.present p ≡ is_needed t.connections p
-run-present pairs limit steps t p run = (after-all pairs (fresh_state pairs limit) t steps (fresh-sound pairs limit) run).same p
+run-present pairs limit steps t p run = (after-all (fresh_state pairs limit) t steps (fresh-sound pairs limit) run).same p
 
-pub run-closed : (pairs : List Pair) (limit : ℕ) (steps : List Step) (t : ContextState) → Runs (fresh_state pairs limit) steps t → AreClosed pairs t.connections
-run-closed pairs limit steps t run = (after-all pairs (fresh_state pairs limit) t steps (fresh-sound pairs limit) run).closures
+pub run-closed : (pairs : List Pair) (limit : ℕ) (steps : List Step) (t : ContextState) → Runs (fresh_state pairs limit) steps t → AreClosed t.pairs t.connections
+run-closed pairs limit steps t run = (after-all (fresh_state pairs limit) t steps (fresh-sound pairs limit) run).closures
+
+-- a fragment that an open connection's closure has is in the store
+needed-inside : (pairs : List Pair) (os : List Open) (p : ℕ) → AreClosed pairs os → is_needed os p ≡ true → p < length pairs
+needed-inside pairs [] p are is = absurd (cc)
+needed-inside pairs (o ∷ os) p are is = by (has o.closed.order p) refl is (λ left. needed-inside pairs os p are.1 left)
+  where
+    by : (b : Bool) → has o.closed.order p ≡ b → cond b true (is_needed os p) ≡ true → (is_needed os p ≡ true → p < length pairs) → p < length pairs
+    by true was is later = ((closed-complete pairs o.root (record o.closed { pairs = pairs }) are.0.closed).members p (has-contains o.closed.order p was)).place
+    by false was is later = later is
+
+-- so is one that is present
+pub run-inside : (pairs : List Pair) (limit : ℕ) (steps : List Step) (s : ContextState) (p : ℕ) → Runs (fresh_state pairs limit) steps s → is_present s.present p ≡ true → p < length s.pairs
+run-inside pairs limit steps s p run is =
+    needed-inside s.pairs s.connections p (run-closed pairs limit steps s run) (sym (run-present pairs limit steps s p run) ∙ is)

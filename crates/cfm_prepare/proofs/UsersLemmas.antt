@@ -1,15 +1,17 @@
 -- The counts of the users of fragments.
-use Rattle.std.proofs.Common.{◌≡◌, ◌≢◌, ℕ, zero, suc, ◌+◌, ◌<◌, ◌≤◌, Bool, true, false, List, [], ◌∷◌, ◌++◌, Some, nat_lt, not, length, refl, sym, ap, ap₂, subst, ◌∙◌, inl, inr, cond, arith}
+use Rattle.std.proofs.Common.{◌≡◌, ◌≢◌, ℕ, zero, suc, ◌==◌, ◌+◌, ◌<◌, ◌≤◌, Bool, true, false, List, [], ◌∷◌, ◌++◌, Some, nat_lt, not, length, refl, sym, ap, ap₂, subst, ◌∙◌, inl, inr, cond, arith}
 use Rattle.std.proofs.Math.ListN.{set}
 use Rattle.std.proofs.lemmas.Bool.Decides.{eqb_tells, nat_tests}
 use Rattle.std.proofs.lemmas.List.{get_or-set_other, get_or-set_same}
 use Rattle.cfm_prepare.specs.Lists.{has}
+use Rattle.cfm_prepare.specs.Readers.{needless_among}
+use Rattle.pef_words.proofs.Laws.Tests.{cond-later}
 use Rattle.cfm_prepare.specs.Fragments.{Present, is_present}
 use Rattle.cfm_prepare.proofs.ListLemmas.{has-first}
 use Rattle.cfm_prepare.proofs.SlotLemmas.{present-append}
 use Rattle.std.proofs.lemmas.Option.{same_Some}
 use Rattle.cfm_prepare.specs.Contexts.{Open, is_needed, needed_of, open_of, open_without, unneeded_of}
-use Rattle.cfm_prepare.specs.Kept.Users.{AreUsedBut, CountsMore, CountUsers, count_at, counted, is_used, unused_of, used_of, users_of}
+use Rattle.cfm_prepare.specs.Kept.Users.{AreUsedBut, CountsMore, CountUsers, count_at, counted, is_used, unshared_among, unused_of, used_of, users_of}
 
 -- a fragment is needed if it has users
 needed-one : (b c : Bool) (n : ℕ) → c ≡ nat_lt 0 n → cond b true c ≡ nat_lt 0 (cond b 1 0 + n)
@@ -159,3 +161,18 @@ entered-used before after there now fresh order more used behind inside p is =
     go : (b : Bool) → is_present there p ≡ b → cond b true (is_present fresh p) ≡ true → 0 < count_at after p
     go true here some = (let a = more p in let u = used p here in omega (arith, a, u))
     go false none here = (let a = more p in let one : counted order p ≡ 1 = rw (inside p here) refl in omega (arith, a, one))
+
+one-more : (a n u : ℕ) → a ≡ n → n ≡ 1 + u → nat_lt 1 a ≡ nat_lt 0 u
+one-more a n u same more = grind (arith, nat_tests)
+
+-- a fragment of a connection's closure has one user at most exactly if no other connection needs it
+pub unshared-needless : (os : List Open) (number : ℕ) (o : Open) (counts ps : List ℕ) → open_of os number ≡ Some o → CountUsers counts os → ((p : ℕ) → has ps p ≡ true → has o.closed.order p ≡ true)
+    → unshared_among counts ps ≡ needless_among (open_without os number) ps
+unshared-needless os number o counts [] is users inside = refl
+unshared-needless os number o counts (p ∷ ps) is users inside =
+    let there : has o.closed.order p ≡ true = inside p (has-first p ps) in
+    let one : counted o.closed.order p ≡ 1 = rw there refl in
+    let split : users_of os p ≡ 1 + users_of (open_without os number) p = users-without os number o p is ∙ ap (λ n. n + users_of (open_without os number) p) one in
+    let same : nat_lt 1 (count_at counts p) ≡ is_needed (open_without os number) p =
+    one-more (count_at counts p) (users_of os p) (users_of (open_without os number) p) (users p) split ∙ sym (needed-is (open_without os number) p) in
+    ap₂ (λ b (qs : List ℕ). cond b qs (p ∷ qs)) same (unshared-needless os number o counts ps is users (λ q here. inside q (cond-later (p == q) (has ps q) here)))

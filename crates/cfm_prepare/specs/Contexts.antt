@@ -5,21 +5,23 @@
 use Rattle.std.specs.Prelude.{◌==◌, ℕ, Bool, false, true, List, [], ◌∷◌, ◌++◌, Option, None, Some, if◌then◌else◌}
 use Rattle.cfm_memory.specs.Extents.{no_instances}
 use Rattle.cfm_memory.specs.Instances.{Layout}
+use Rattle.cfm_memory.specs.declared.place.Reserved.{Reserved}
 use Rattle.cfm_closure.specs.Stores.{Pair}
 use Rattle.cfm_closure.specs.Closures.{Closed}
-use Rattle.cfm_prepare.specs.Fragments.{Present}
+use Rattle.cfm_prepare.specs.Fragments.{Present, new_among}
 use Rattle.cfm_prepare.specs.Lists.{has}
 
 -- how many connections a context gives in all
 abbrev pub most_connections : ℕ
 most_connections = 65536
 
--- an open connection: its number, the requested fragment by its place in the store, and that fragment's
--- closure
+-- an open connection: its number, the requested fragment by its place in the store, that fragment's closure, and the
+-- fragments that its preparation placed, in the order of their initialization
 pub record Open : Type 0 where
   pub number : ℕ
   pub root : ℕ
   pub closed : Closed
+  pub placed : List ℕ
 
 -- a context: its store and its memory, how many numbers were given, the open connections, and the fragments
 -- that are present
@@ -34,9 +36,17 @@ pub record ContextState : Type 0 where
 abbrev pub fresh_state : List Pair → ℕ → ContextState
 fresh_state pairs limit = record { pairs = pairs; memory = no_instances limit; given = 0; connections = []; present = [] }
 
+-- nothing was prepared, and some ranges of addresses are out of use
+abbrev pub unused_state : List Pair → ℕ → List Reserved → ContextState
+unused_state pairs limit ranges = record (fresh_state pairs limit) { memory = record (no_instances limit) { reserved = ranges } }
+
 -- a context with one fragment more in its store, after the others
 abbrev pub added : ContextState → List ℕ → List ℕ → ContextState
 added s name bytes = record s { pairs = s.pairs ++ (record { name = name; bytes = bytes }) ∷ [] }
+
+-- the connection that a preparation opens to a fragment with a closure
+abbrev pub opened : ContextState → ℕ → Closed → Open
+opened s root c = record { number = s.given; root = root; closed = c; placed = new_among s.present c.init_order }
 
 -- the open connection with a number
 abbrev pub open_of : List Open → ℕ → Option Open

@@ -1,7 +1,10 @@
--- The steps of a context: a fragment is prepared, or a connection closed; and why a fragment isn't added or
+-- The steps of a context: a fragment is added or prepared, addresses are reserved, or a connection is closed; and why a fragment isn't added or
 -- prepared. The order of the refusals is this project's own rule.
-use Rattle.std.specs.Prelude.{◌≡◌, ◌≤◌, ◌<◌, ℕ, ◌+◌, List, [], ◌∷◌, ◌++◌, None, Some, Ok, length}
+use Rattle.std.specs.Prelude.{◌≡◌, ◌⊎◌, IsSome, ◌≤◌, ◌<◌, ℕ, ◌+◌, List, [], ◌∷◌, ◌++◌, None, Some, Ok, length}
 use Rattle.cfm_closure.specs.Limits.{most_pairs}
+use Rattle.cfm_memory.specs.Instances.{Layout}
+use Rattle.cfm_memory.specs.Reservation.{Reserves}
+use Rattle.cfm_closure.specs.Additions.{NamesLibrary}
 use Rattle.cfm_closure.specs.Stores.{place_of}
 use Rattle.cfm_closure.specs.Faults.{FailsAs}
 use Rattle.cfm_closure.specs.Closures.{Closed, closed_of}
@@ -9,17 +12,37 @@ use Rattle.cfm_prepare.specs.Fragments.{Present, all_given_back, new_among}
 use Rattle.cfm_prepare.specs.Placing.{ArePrepared}
 use Rattle.cfm_prepare.specs.Refusals.{MayNotPrepareNew}
 use Rattle.cfm_prepare.specs.declared.fragment_fault.FragmentFault.{FragmentFault}
-use Rattle.cfm_prepare.specs.Contexts.{ContextState, Open, most_connections, needed_of, open_of, open_without, unneeded_of}
+use Rattle.cfm_prepare.specs.Contexts.{ContextState, Open, added, most_connections, needed_of, open_of, open_without, opened, unneeded_of}
 use Rattle.cfm_prepare.specs.declared.add_fault.AddFault.{AddFault}
 use Rattle.cfm_prepare.specs.declared.add_fault.AddFault.TheVariants as add
 use Rattle.cfm_prepare.specs.declared.fault.PrepareFault.{PrepareFault}
 use Rattle.cfm_prepare.specs.declared.fault.PrepareFault.TheVariants as fault
 
--- why a fragment isn't added: a connection was given, or else the store is full, or an allocation fails
-abbrev pub MayNotAdd : ContextState → AddFault → Type 0
-MayNotAdd s add.AddedTooLate = 0 < s.given
-MayNotAdd s add.StoreFull = (s.given ≡ 0) × (most_pairs ≤ length s.pairs)
-MayNotAdd s add.OutOfMemory = (s.given ≡ 0) × (length s.pairs < most_pairs)
+-- the closure of an open connection has a fragment with a library entry of this name
+abbrev pub AnyNames : List Open → List ℕ → Type 0
+AnyNames [] name = ⊥
+AnyNames (o ∷ os) name = NamesLibrary o.closed.pairs o.closed.order name ⊎ AnyNames os name
+
+-- so a pair with this name can be added: the store has one, or no open connection's closure lacks it
+abbrev pub MayAdd : ContextState → List ℕ → Type 0
+MayAdd s name = IsSome (place_of s.pairs name) ⊎ (AnyNames s.connections name → ⊥)
+
+-- a fragment is added to the store
+pub record Adds (s : ContextState) (name bytes : List ℕ) (t : ContextState) : Type 0 where
+  pub may : MayAdd s name
+  pub is : t ≡ added s name bytes
+
+-- why a fragment isn't added: an open connection's closure lacks it, or else the store is full, or an allocation fails
+abbrev pub MayNotAdd : ContextState → List ℕ → AddFault → Type 0
+MayNotAdd s name add.AddedTooLate = (place_of s.pairs name ≡ None) × AnyNames s.connections name
+MayNotAdd s name add.StoreFull = MayAdd s name × (most_pairs ≤ length s.pairs)
+MayNotAdd s name add.OutOfMemory = MayAdd s name × (length s.pairs < most_pairs)
+
+-- some bytes from an address on are taken out of use, and nothing else changes
+pub record TakesOut (s : ContextState) (address size : ℕ) (t : ContextState) : Type 0 where
+  pub memory : Layout
+  pub reserves : Reserves s.memory address size memory
+  pub is : t ≡ record s { memory = memory }
 
 -- a number is left, and the fragment with a name is in this place
 pub record HasRoot (s : ContextState) (name : List ℕ) : Type 0 where
@@ -45,7 +68,7 @@ pub record Prepares (s : ContextState) (name : List ℕ) (n : ℕ) (t : ContextS
   pub number : n ≡ s.given
   pub pairs : t.pairs ≡ s.pairs
   pub given : t.given ≡ s.given + 1
-  pub connections : t.connections ≡ s.connections ++ (record { number = s.given; root = closure.has.root; closed = closure.closed }) ∷ []
+  pub connections : t.connections ≡ s.connections ++ opened s closure.has.root closure.closed ∷ []
   pub present : t.present ≡ s.present ++ fresh
 
 -- the fragment has a closure, whose new fragments aren't prepared

@@ -1,12 +1,14 @@
-ghost use Rattle.std.specs.Prelude.{◌≡◌, Contains, IsTrue, Some};
+ghost use Rattle.std.specs.Prelude.{◌≡◌, Contains, IsTrue, None, Some, if◌then◌else◌, nat_lt};
 ghost use Rattle.pef_loader.specs.Export.{is_there};
 ghost use Rattle.pef_loader.specs.Views.{loaded};
-ghost use Rattle.cfm_closure.specs.Fragments.{loader_at};
+ghost use Rattle.cfm_closure.specs.Fragments.{import_count, loader_at};
+ghost use Rattle.cfm_prepare.specs.Kept.Connections.{AreOfClosure};
 ghost use Rattle.cfm_prepare.specs.Lists.{IsOnce, has};
-ghost use Rattle.cfm_prepare.specs.Readers.{entries_of, export_address, main_address, section_header_of, symbol_address, symbol_at, symbol_of};
+ghost use Rattle.cfm_prepare.specs.Readers.{entries_of, export_address, export_at, import_at, import_target_of, main_address, numbered_export, section_header_of, symbol_address, symbol_at, symbol_of};
 
 use crate::entries::{Entries, find_entries};
 use crate::fragments::Fragments;
+use crate::imports::ImportTarget;
 use crate::places::section_address;
 use cfm_closure::Closure;
 use pef_format::ExportValue;
@@ -20,6 +22,8 @@ pub(crate) struct Connected<'a> {
     number: u32,
     root: usize,
     closure: Closure<'a>,
+    /// The fragments that its preparation placed, in the order of their initialization.
+    placed: Vec<usize>,
 }
 
 impl<'a> Model for Connected<'a> {
@@ -28,23 +32,26 @@ impl<'a> Model for Connected<'a> {
     ghost Value = { Open };
 
     ghost use Rattle.std.specs.Prelude.{Contains};
+    ghost use Rattle.cfm_prepare.specs.Kept.Connections.{AreOfClosure};
     ghost use Rattle.cfm_prepare.specs.Lists.{IsOnce};
 
-    ghost view = { λ c. record { number = c.number; root = c.root; closed = c.closure } };
+    ghost view = { λ c. record { number = c.number; root = c.root; closed = c.closure; placed = c.placed.items } };
 
-    ghost invariant = { λ c. Contains c.closure.order c.root × IsOnce c.closure.order };
+    ghost invariant = { λ c. Contains c.closure.order c.root × IsOnce c.closure.order × AreOfClosure c.closure };
 }
 
 impl<'a> Connected<'a> {
-    pub fn new(number: u32, root: usize, closure: Closure<'a>) -> Connected<'a>
+    pub fn new(number: u32, root: usize, closure: Closure<'a>, placed: Vec<usize>) -> Connected<'a>
         requires root { Contains closure.order root }
         requires once { IsOnce closure.order }
-        ensures { result ≡ record { number = number; root = root; closed = closure.entry } }
+        requires init { AreOfClosure closure }
+        ensures { result ≡ record { number = number; root = root; closed = closure.entry; placed = placed.items } }
     {
         Connected {
             number,
             root,
             closure,
+            placed,
         }
     }
 
@@ -60,9 +67,17 @@ impl<'a> Connected<'a> {
         self.root
     }
 
+    /// Returns the fragments that its preparation placed, in the order of their initialization.
+    pub fn placed(&self) -> &[usize]
+        ensures { result.now ≡ self.now.placed }
+    {
+        &self.placed
+    }
+
     pub fn closure(&self) -> &Closure<'a>
         ensures closure { result.now ≡ self.now.closed }
         ensures once { IsOnce self.now.closed.order }
+        ensures init { AreOfClosure self.now.closed }
     {
         &self.closure
     }
@@ -94,6 +109,64 @@ impl<'a> Connected<'a> {
         let index = loader.export_named(name)?;
         let export = loader.export(index)?;
         Some(self.export_address(fragments, position, &loader, export.value()))
+    }
+
+    /// Returns the address of export `number` of a fragment of the closure.
+    pub fn numbered_export(
+        &self,
+        fragments: &Fragments,
+        position: usize,
+        number: usize,
+    ) -> Option<u32>
+        ensures { result ≡ numbered_export fragments.now.present self.now position number }
+    {
+        if !has(self.closure.order(), position) {
+            return None;
+        }
+        self.export_at(fragments, position, number)
+    }
+
+    /// Returns the same for a fragment of the closure.
+    fn export_at(&self, fragments: &Fragments, position: usize, number: usize) -> Option<u32>
+        requires { Contains self.now.closed.order position }
+        ensures { result ≡ export_at self.now.closed.pairs fragments.now.present position number }
+    {
+        let loader = self.closure.loader(position);
+        let export = loader.export(number)?;
+        Some(self.export_address(fragments, position, &loader, export.value()))
+    }
+
+    /// Returns what import `number` of a fragment of the closure means.
+    pub fn import_target(
+        &self,
+        fragments: &Fragments,
+        position: usize,
+        number: usize,
+    ) -> Option<ImportTarget>
+        ensures { result ≡ import_target_of fragments.now.present self.now position number }
+    {
+        if !has(self.closure.order(), position) {
+            return None;
+        }
+        self.import_at(fragments, position, number)
+    }
+
+    /// Returns the same for a fragment of the closure.
+    fn import_at(
+        &self,
+        fragments: &Fragments,
+        position: usize,
+        number: usize,
+    ) -> Option<ImportTarget>
+        requires { Contains self.now.closed.order position }
+        ensures { result ≡ (if nat_lt number (import_count self.now.closed.pairs position) then Some (import_at self.now.closed.pairs fragments.now.present position number) else None) }
+    {
+        if number >= self.closure.loader(position).imports() {
+            return None;
+        }
+        let target = self.closure.target(position, number);
+        let address = fragments.target_address(target);
+        Some(ImportTarget { target, address })
     }
 
     /// Returns the address of an export of a fragment that the closure has.

@@ -1,4 +1,5 @@
-ghost use Rattle.std.specs.Prelude.{◌≡◌, ◌+◌, ◌++◌, ◌<◌, [], ◌∷◌, OnOk};
+ghost use Rattle.std.specs.Prelude.{◌≡◌, ◌+◌, ◌++◌, ◌<◌, [], ◌∷◌, OnOk, false, true};
+ghost use Rattle.cfm_prepare.specs.Steps.{AnyNames};
 ghost use Rattle.std.specs.Option.{IfNone, option_copied};
 ghost use Rattle.cfm_prepare.specs.Contexts.{open_of, open_without};
 
@@ -48,6 +49,21 @@ impl<'a> Connections<'a> {
         ensures { option_copied result ≡ open_of self.now.items number }
     {
         slot(&self.slots, number as usize)
+    }
+
+    /// Returns whether an open connection's closure has a fragment with a library entry of this name.
+    pub fn names_library(&self, name: &[u8]) -> bool
+        ensures yes { result ≡ true → AnyNames self.now.items name.now }
+        ensures no { result ≡ false → AnyNames self.now.items name.now → ⊥ }
+    {
+        for slot in &self.slots {
+            if let Some(connected) = slot {
+                if connected.closure().names_library(name) {
+                    return true;
+                }
+            }
+        }
+        false
     }
 
     /// Makes room for one more connection.

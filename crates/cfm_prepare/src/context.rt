@@ -1,11 +1,13 @@
-ghost use Rattle.std.specs.Prelude.{◌≡◌, ◌<◌, ◌≤◌, ◌+◌, ℕ, List, IfErr, IfOk, MatchOption, None, OnErr, OnOk, Some, length, option_map, slice_get};
+ghost use Rattle.std.specs.Prelude.{◌≡◌, ◌<◌, ◌≤◌, ◌+◌, ℕ, List, IfErr, IfOk, IfSome, MatchOption, None, OnErr, OnOk, Some, length, option_map, slice_get};
 ghost use Rattle.std.specs.Option.{option_and_then, option_copied};
 ghost use Rattle.cfm_closure.specs.Stores.{place_of};
+ghost use Rattle.cfm_memory.specs.Placement.{IsClear};
+ghost use Rattle.cfm_memory.specs.Reservation.{MayNotReserve};
 ghost use Rattle.cfm_prepare.specs.Fragments.{places_of};
 ghost use Rattle.cfm_prepare.specs.Sections.{section_present, section_seen, sections_at, sections_left};
-ghost use Rattle.cfm_prepare.specs.Contexts.{added, fresh_state, most_connections, open_of};
-ghost use Rattle.cfm_prepare.specs.Readers.{entries_of, main_address, root_section, section_header_of, symbol_address, symbol_of};
-ghost use Rattle.cfm_prepare.specs.Steps.{Closes, MayNotAdd, MayNotPrepare, Prepares};
+ghost use Rattle.cfm_prepare.specs.Contexts.{fresh_state, most_connections, open_of};
+ghost use Rattle.cfm_prepare.specs.Readers.{entries_of, import_target_of, main_address, numbered_export, released_by, root_section, section_header_of, symbol_address, symbol_of};
+ghost use Rattle.cfm_prepare.specs.Steps.{Adds, Closes, MayNotAdd, MayNotPrepare, Prepares, TakesOut};
 
 use crate::add_fault::AddFault;
 use crate::connected::Connected;
@@ -13,12 +15,14 @@ use crate::connections::Connections;
 use crate::entries::Entries;
 use crate::fault::{CloseFault, PrepareFault};
 use crate::fragments::Fragments;
+use crate::imports::ImportTarget;
 use crate::releasing::release;
 use crate::sections::Sections;
-use crate::users::{enter, leave, make_room};
+use crate::users::{enter, leave, make_room, unshared_among};
 use cfm_closure::{Closure, Store, StoreFault, closure};
+use cfm_memory::MemoryFault;
 use pef_views::SectionHeader;
-use std::alloc::Global;
+use std::alloc::{AllocError, Global};
 use std::fmt;
 use std::marker::Model;
 
@@ -84,14 +88,15 @@ impl<'a> Context<'a> {
     ///
     /// # Errors
     ///
-    /// `AddedTooLate` if a connection was ever given. Otherwise `StoreFull` if the store is full.
+    /// `AddedTooLate` if the store has no fragment with this name, and a fragment of an open connection's closure
+    /// has a library entry with it: it was prepared without. Otherwise `StoreFull` if the store is full.
     /// `OutOfMemory` if an allocation fails. After an error the context is unchanged.
     pub fn add(&mut self, name: &'a [u8], bytes: &'a [u8]) -> Result<(), AddFault>
-        ensures added { OnOk result ((self.old.given ≡ 0) × (self.new ≡ added self.old name.now bytes.now)) }
-        ensures refused { IfErr result (λ fault. MayNotAdd self.old fault) }
+        ensures added { OnOk result (Adds self.old name.now bytes.now self.new) }
+        ensures refused { IfErr result (λ fault. MayNotAdd self.old name.now fault) }
         ensures unchanged { OnErr result (self.new ≡ self.old) }
     {
-        if self.connections.given() > 0 {
+        if self.store.find(name).is_none() && self.connections.names_library(name) {
             return Err(AddFault::AddedTooLate);
         }
         if self.store.is_full() {
@@ -101,6 +106,24 @@ impl<'a> Context<'a> {
             Ok(()) => Ok(()),
             Err(StoreFault::OutOfMemory) => Err(AddFault::OutOfMemory),
         }
+    }
+
+    /// Takes `size` addresses from `address` on out of use, as long as the context lives. No section is placed there.
+    ///
+    /// The range begins at the multiple of 16 at or below `address`, and ends at the one at or above its end. If `size` is
+    /// 0, nothing is taken.
+    ///
+    /// # Errors
+    ///
+    /// `NoRoom` if the range meets a section or another range, or passes the last address of 32 bits. Otherwise
+    /// `OutOfMemory` if an allocation fails. After an error the context is unchanged.
+    pub fn reserve(&mut self, address: u32, size: u32) -> Result<(), MemoryFault>
+        ensures reserved { OnOk result (TakesOut self.old address size self.new) }
+        ensures refused { IfErr result (λ fault. MayNotReserve self.old.memory address size fault) }
+        ensures unchanged { OnErr result (self.new ≡ self.old) }
+    {
+        self.fragments.reserve(address, size)?;
+        Ok(())
     }
 
     /// Opens a connection to the fragment with a name: the fragments of its closure that aren't present are
@@ -138,10 +161,12 @@ impl<'a> Context<'a> {
         make_room(&mut self.users, self.store.len())?;
         self.connections.reserve()?;
         let closure = closure(self.alloc, &self.store, root)?;
+        let placed = self.fragments.new_among(closure.init_order())?;
         self.fragments.prepare(&closure)?;
         enter(&mut self.users, closure.order());
         let number = self.connections.given() as u32;
-        self.connections.push(Connected::new(number, root, closure));
+        self.connections
+            .push(Connected::new(number, root, closure, placed));
         Ok(Connection(number))
     }
 
@@ -206,6 +231,63 @@ impl<'a> Context<'a> {
         Some(connected.closure().order())
     }
 
+    /// Returns the fragments that the preparation of a connection placed, in the order of their initialization, by
+    /// their places in the store. Exactly these have to be initialized: the others were present already. `None` if the
+    /// connection isn't open.
+    pub fn new_fragments(&self, connection: Connection) -> Option<&[usize]>
+        ensures { option_copied result ≡ option_map (λ o. o.placed) (open_of self.now.connections connection.0) }
+    {
+        let connected = self.connections.get(connection.0)?;
+        Some(connected.placed())
+    }
+
+    /// Returns the fragments that closing a connection releases, by their places in the store: the last to be
+    /// initialized comes first, as their termination routines are called. `None` if the connection isn't open.
+    ///
+    /// # Errors
+    ///
+    /// `AllocError` if an allocation fails.
+    pub fn released_by(&self, connection: Connection) -> Result<Option<Vec<usize>>, AllocError>
+        ensures { IfOk result (λ released. option_map (λ v. v.items) released ≡ released_by self.now connection.0) }
+    {
+        let Some(connected) = self.connections.get(connection.0) else {
+            return Ok(None);
+        };
+        let order = connected.closure().init_order();
+        let mut released = unshared_among(self.alloc, &self.users, order)?;
+        released.reverse();
+        Ok(Some(released))
+    }
+
+    /// Returns what import `number` of a fragment of a connection's closure means, with the address that was added
+    /// for it. The fragment is given by its place in the store. `None` past the last import, if the closure lacks the
+    /// fragment, or the connection isn't open.
+    pub fn import_target(
+        &self,
+        connection: Connection,
+        position: usize,
+        number: usize,
+    ) -> Option<ImportTarget>
+        ensures { result ≡ option_and_then (λ o. import_target_of self.now.present o position number) (open_of self.now.connections connection.0) }
+    {
+        let connected = self.connections.get(connection.0)?;
+        connected.import_target(&self.fragments, position, number)
+    }
+
+    /// Returns the address of export `number` of a fragment of a connection's closure, given by its place in the
+    /// store. `None` past the last export, if the closure lacks the fragment, or the connection isn't open.
+    pub fn export_address(
+        &self,
+        connection: Connection,
+        position: usize,
+        number: usize,
+    ) -> Option<u32>
+        ensures { result ≡ option_and_then (λ o. numbered_export self.now.present o position number) (open_of self.now.connections connection.0) }
+    {
+        let connected = self.connections.get(connection.0)?;
+        connected.numbered_export(&self.fragments, position, number)
+    }
+
     /// Returns a connection's closure: the containers and the loader sections of its fragments, and the targets of
     /// their imports. `None` if the connection isn't open.
     pub fn closure(&self, connection: Connection) -> Option<&Closure<'a>>
@@ -223,10 +305,11 @@ impl<'a> Context<'a> {
     }
 
     /// Returns the address and the bytes of section `i` of the fragment in a place of the store. `None` if the
-    /// fragment isn't present, or has no such section.
+    /// fragment isn't present, or has no such section. None lies in a reserved range.
     pub fn fragment_section(&self, position: usize, i: usize) -> Option<(u32, &[u8])>
         ensures section { option_map section_seen result ≡ section_present self.now.memory self.now.present position i }
         ensures within { MatchOption result (length (places_of self.now.present position) ≤ i) (λ s. s.0 + length s.1.now ≤ self.now.memory.limit) }
+        ensures clear { IfSome result (λ s. IsClear s.0 (s.0 + length s.1.now) self.now.memory.reserved) }
     {
         self.fragments.section(position, i)
     }

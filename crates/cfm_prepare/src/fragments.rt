@@ -1,4 +1,6 @@
-ghost use Rattle.std.specs.Prelude.{◌≡◌, ◌≤◌, ◌+◌, ◌++◌, List, IfErr, MatchOption, OnErr, OnOk, length, option_map};
+ghost use Rattle.std.specs.Prelude.{◌≡◌, ◌≤◌, ◌+◌, ◌++◌, List, IfErr, IfOk, IfSome, MatchOption, OnErr, OnOk, length, option_map};
+ghost use Rattle.cfm_memory.specs.Placement.{IsClear};
+ghost use Rattle.cfm_memory.specs.Reservation.{MayNotReserve, Reserves};
 ghost use Rattle.cfm_prepare.specs.Addresses.{target_address};
 ghost use Rattle.cfm_prepare.specs.Fragments.{IsGivenBack, Present, new_among, none_present, places_of};
 ghost use Rattle.cfm_prepare.specs.Lists.{IsOnce};
@@ -13,8 +15,8 @@ use crate::relocating::target_address;
 use crate::sections::Sections;
 use crate::slots::{Slots, new_among};
 use cfm_closure::{Closure, Target};
-use cfm_memory::{Memory, Place};
-use std::alloc::Global;
+use cfm_memory::{Memory, MemoryFault, Place};
+use std::alloc::{AllocError, Global};
 use std::marker::Model;
 
 /// Fragments that are present in one memory, by their places in a store.
@@ -72,6 +74,28 @@ impl Fragments {
         )
     }
 
+    /// Returns those of some fragments, by their places in the store, that aren't present, in their order.
+    pub fn new_among(&self, positions: &[usize]) -> Result<Vec<usize>, AllocError>
+        ensures { IfOk result (λ new. new.items ≡ new_among self.now.present positions.now) }
+    {
+        new_among(self.alloc, &self.present, positions)
+    }
+
+    /// Takes `size` addresses from `address` on out of use.
+    ///
+    /// # Errors
+    ///
+    /// `NoRoom` if one of them is taken or passes the last address. Otherwise `OutOfMemory` if an allocation fails. The
+    /// memory is then unchanged.
+    pub fn reserve(&mut self, address: u32, size: u32) -> Result<(), MemoryFault>
+        ensures reserved { OnOk result (Reserves self.old.memory address size self.new.memory × (self.new.present ≡ self.old.present)) }
+        ensures refused { IfErr result (λ fault. MayNotReserve self.old.memory address size fault) }
+        ensures unchanged { OnErr result (self.new ≡ self.old) }
+    {
+        self.memory.reserve(address, size)?;
+        Ok(())
+    }
+
     /// Releases the fragment in a place of the store, if it is present.
     pub fn give_back(&mut self, position: usize)
         ensures { IsGivenBack self.old.memory self.old.present position self.new.memory self.new.present }
@@ -92,6 +116,7 @@ impl Fragments {
     pub fn section(&self, position: usize, i: usize) -> Option<(u32, &[u8])>
         ensures section { option_map section_seen result ≡ section_present self.now.memory self.now.present position i }
         ensures within { MatchOption result (length (places_of self.now.present position) ≤ i) (λ s. s.0 + length s.1.now ≤ self.now.memory.limit) }
+        ensures clear { IfSome result (λ s. IsClear s.0 (s.0 + length s.1.now) self.now.memory.reserved) }
     {
         let place = *self.present.places(position).get(i)?;
         Some((place.address, self.memory.part(place)))

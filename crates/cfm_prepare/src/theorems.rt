@@ -2,20 +2,20 @@
 ghost use Rattle.std.specs.Prelude.{◌≡◌, ◌++◌, ℕ, List, [], ◌∷◌, Contains, true};
 ghost use Rattle.cfm_closure.specs.Stores.{Pair};
 ghost use Rattle.cfm_prepare.specs.Fragments.{is_present, places_of};
-ghost use Rattle.cfm_prepare.specs.Contexts.{ContextState, added, fresh_state, is_needed};
+ghost use Rattle.cfm_prepare.specs.Contexts.{ContextState, added, fresh_state, is_needed, unused_state};
 ghost use Rattle.cfm_prepare.specs.Now.{IsPreparedNow};
 ghost use Rattle.cfm_prepare.specs.Placing.{LacksRoom};
 ghost use Rattle.cfm_prepare.specs.Refusals.{HasBadImage, HasBadProgram};
 ghost use Rattle.cfm_prepare.specs.Runs.{AreClosed, Keeps, Runs, Step, Takes};
-ghost use Rattle.cfm_prepare.specs.Steps.{HasClosure, Prepares, new_of};
+ghost use Rattle.cfm_prepare.specs.Steps.{Closes, HasClosure, Prepares, new_of};
 ghost use Rattle.cfm_prepare.specs.declared.image_fault.ImageFault.{ImageFault};
 ghost use Rattle.pef_loader.specs.declared.program_fault.ProgramFault.{ProgramFault};
 
-/// After any list of preparations and closings, a fragment is present exactly if the closure of an open connection
-/// has it. These closures are those of the connections' roots.
+/// After any list of additions, reservations, preparations and closings, a fragment is present exactly if the closure of
+/// an open connection has it. These closures are those of the connections' roots.
 pub fn present_fragments()
     ensures present { (pairs : List Pair) (limit : ℕ) (steps : List Step) (t : ContextState) (p : ℕ) → Runs (fresh_state pairs limit) steps t → is_present t.present p ≡ is_needed t.connections p }
-    ensures closed { (pairs : List Pair) (limit : ℕ) (steps : List Step) (t : ContextState) → Runs (fresh_state pairs limit) steps t → AreClosed pairs t.connections }
+    ensures closed { (pairs : List Pair) (limit : ℕ) (steps : List Step) (t : ContextState) → Runs (fresh_state pairs limit) steps t → AreClosed t.pairs t.connections }
 {}
 
 /// A fragment that is present before and after a step, after any list of steps, keeps the places of its sections and
@@ -28,15 +28,15 @@ pub fn kept_fragments()
 /// After any list of steps a fragment that is present is prepared as its container says, with the present addresses.
 /// A preparation leaves each fragment of its closure present and prepared in this way.
 pub fn prepared_fragments()
-    ensures now { (pairs : List Pair) (limit : ℕ) (steps : List Step) (s : ContextState) (p : ℕ) → Runs (fresh_state pairs limit) steps s → is_present s.present p ≡ true → IsPreparedNow pairs s p }
+    ensures now { (pairs : List Pair) (limit : ℕ) (steps : List Step) (s : ContextState) (p : ℕ) → Runs (fresh_state pairs limit) steps s → is_present s.present p ≡ true → IsPreparedNow s.pairs s p }
     ensures closure { (pairs : List Pair) (limit : ℕ) (steps : List Step) (s t : ContextState) (name : List ℕ) (number p : ℕ) → Runs (fresh_state pairs limit) steps s → (step : Prepares s name number t) → Contains step.closure.closed.order p
-        → (is_present t.present p ≡ true) × IsPreparedNow pairs t p }
+        → (is_present t.present p ≡ true) × IsPreparedNow t.pairs t p }
 {}
 
-/// A context that never gave a connection is equal to a new one. If a fragment is added to it, it is equal to a new
-/// one over the longer store. So the other laws also hold for contexts to which fragments were added.
+/// A context that never gave a connection is equal to a new one over its store, but for its reserved ranges. If a
+/// fragment is added to a new one, it is equal to a new one over the longer store.
 pub fn added_fragments()
-    ensures unused { (pairs : List Pair) (limit : ℕ) (steps : List Step) (t : ContextState) → Runs (fresh_state pairs limit) steps t → t.given ≡ 0 → t ≡ fresh_state pairs limit }
+    ensures unused { (pairs : List Pair) (limit : ℕ) (steps : List Step) (t : ContextState) → Runs (fresh_state pairs limit) steps t → t.given ≡ 0 → t ≡ unused_state t.pairs limit t.memory.reserved }
     ensures added { (pairs : List Pair) (limit : ℕ) (name bytes : List ℕ) → added (fresh_state pairs limit) name bytes ≡ fresh_state (pairs ++ (record { name = name; bytes = bytes }) ∷ []) limit }
 {}
 
@@ -46,4 +46,11 @@ pub fn possible_preparations()
     ensures { (s : ContextState) (name : List ℕ) (closure : HasClosure s name) → ((other : List ℕ) → LacksRoom s.pairs s.memory (new_of s closure.closed) other → ⊥)
         → ((other : List ℕ) (k : ImageFault) → HasBadImage s.pairs s.memory (new_of s closure.closed) other k → ⊥)
         → ((other : List ℕ) (k : ProgramFault) → HasBadProgram s.pairs s.present s.memory (new_of s closure.closed) other k → ⊥) → (t : ContextState) × Prepares s name s.given t }
+{}
+
+/// Only reservations change which ranges of addresses are out of use, and add to them alone: a preparation and a closing
+/// leave them as they are, and so does an addition by its definition.
+pub fn reserved_ranges()
+    ensures prepared { (s t : ContextState) (name : List ℕ) (number : ℕ) → Prepares s name number t → t.memory.reserved ≡ s.memory.reserved }
+    ensures closed { (s t : ContextState) (number : ℕ) → Closes s number t → t.memory.reserved ≡ s.memory.reserved }
 {}

@@ -1,8 +1,8 @@
-ghost use Rattle.std.specs.Prelude.{◌≡◌, ◌≤◌, ◌<◌, ◌^◌, ℕ, true, OnOk, length, nat_lt};
+ghost use Rattle.std.specs.Prelude.{◌≡◌, ◌≤◌, ◌<◌, ◌^◌, ℕ, true, IfOk, OnOk, length, nat_lt};
 ghost use Rattle.cfm_prepare.specs.Lists.{IsOnce, has};
-ghost use Rattle.cfm_prepare.specs.Kept.Users.{CountsMore, count_at};
+ghost use Rattle.cfm_prepare.specs.Kept.Users.{CountsMore, count_at, unshared_among};
 
-use std::alloc::AllocError;
+use std::alloc::{AllocError, Global};
 
 /// Makes room for the counts of this many fragments.
 pub(crate) fn make_room(users: &mut Vec<usize>, fragments: usize) -> Result<(), AllocError>
@@ -23,6 +23,33 @@ pub(crate) fn has_users(users: &[usize], position: usize) -> bool
         Some(count) => *count > 0,
         None => false,
     }
+}
+
+/// Returns whether a fragment has more than one user.
+fn is_shared(users: &[usize], position: usize) -> bool
+    ensures { result ≡ nat_lt 1 (count_at users.now position) }
+{
+    match users.get(position) {
+        Some(count) => *count > 1,
+        None => false,
+    }
+}
+
+/// Returns the fragments of an order that have one user at most, in this order.
+pub(crate) fn unshared_among(
+    alloc: Global,
+    users: &[usize],
+    order: &[usize],
+) -> Result<Vec<usize>, AllocError>
+    ensures { IfOk result (λ unshared. unshared.items ≡ unshared_among users.now order.now) }
+{
+    let mut unshared = Vec::new(alloc);
+    for position in order {
+        if !is_shared(users, *position) {
+            unshared.push(*position)?;
+        }
+    }
+    Ok(unshared)
 }
 
 /// Counts one more user for each fragment of an order.

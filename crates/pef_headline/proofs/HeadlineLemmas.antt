@@ -17,20 +17,12 @@ use Rattle.pef_headline.specs.Placed.{IsPlacedOrKept, WasPlaced}
 use Rattle.pef_headline.proofs.ImportLemmas.{imports-described}
 use Rattle.pef_headline.proofs.LeastLemmas.{linked_least}
 use Rattle.pef_headline.proofs.NowLemmas.{closure-described, linked-filled, linked-read, linked-relocated, present-described}
-use Rattle.pef_headline.proofs.PlacedLemmas.{run-pairs}
 use Rattle.pef_headline.proofs.RefusedLemmas.{refused-bound, same-closed}
-
-pub reached-pairs : (s : ContextState) (reached : IsReached s) → s.pairs ≡ reached.pairs
-reached-pairs s reached = run-pairs reached.steps _ s reached.run
 
 -- a present fragment has the described memory
 pub headline-present : (script : DescribedScript) (s : ContextState) (p : ℕ) (reached : IsReached s) → HasLinked s.pairs p script → is_present s.present p ≡ true → StaysAsDescribed s reached p script
 headline-present script s p reached linked is =
-    let same = reached-pairs s reached in
-    let here : HasLinked reached.pairs p script = subst (λ pairs. HasLinked pairs p script) same linked in
-    let start = fresh_state reached.pairs reached.limit in
-    let P : List Pair → Type 0 = λ pairs. (d : IsDescribedNow pairs s script p) × WasPlaced reached.steps start s reached.run p d.before in
-    let now : P s.pairs = subst P (sym same) (present-described script here.container reached.pairs reached.limit reached.steps s p here.linked here.bytes reached.run is) in
+    let now = present-described script linked.container reached.pairs reached.limit reached.steps s p linked.linked linked.bytes reached.run is in
     record {
       described = record { present = is; imports = imports-described script linked.container linked.linked s.pairs p linked.bytes; memory = now.0 };
       placed = now.1;
@@ -40,18 +32,9 @@ headline-present script s p reached linked is =
 pub prepared-present : (script : DescribedScript) (s t : ContextState) (name : List ℕ) (number p : ℕ) → IsReached s → HasLinked s.pairs p script → (step : Prepares s name number t) → Contains step.closure.closed.order p
     → (has : HasDescribedMemory t p script) × IsPlacedOrKept s t p has.memory.before
 prepared-present script s t name number p reached linked step there =
-    let same = reached-pairs s reached in
-    let here : HasLinked reached.pairs p script = subst (λ pairs. HasLinked pairs p script) same linked in
+    let here : HasLinked t.pairs p script = subst (λ pairs. HasLinked pairs p script) (sym step.pairs) linked in
     let now = closure-described script here.container reached.pairs reached.limit reached.steps s t name number p here.linked here.bytes reached.run step there in
-    let P : List Pair → Type 0 = λ pairs. (d : IsDescribedNow pairs t script p) × IsPlacedOrKept s t p d.before in
-    let described : P t.pairs = subst P (sym (step.pairs ∙ same)) (now.1, now.2) in (
-      record {
-        present = now.0;
-        imports = subst (λ pairs. HasImports pairs p script) (sym step.pairs) (imports-described script linked.container linked.linked s.pairs p linked.bytes);
-        memory = described.0;
-      },
-      described.1,
-    )
+    (record { present = now.0; imports = imports-described script here.container here.linked t.pairs p here.bytes; memory = now.1 }, now.2)
 
 pub headline-prepares : (script : DescribedScript) (s t : ContextState) (name : List ℕ) (p : ℕ) (answer : Result ℕ PrepareFault) → IsReached s → HasLinked s.pairs p script → (resolve : LibrariesResolve s name) → Contains resolve.closed.order p
     → SectionsFindRoom s resolve.closed → OthersAreSound s resolve.closed → MayAnswer s name answer t → PreparesAsDescribed s answer t p script

@@ -27,7 +27,7 @@ use Rattle.pef_headline.specs.Now.{IsDescribedNow}
 use Rattle.pef_headline.specs.Placed.{IsPlacedAnew, IsPlacedOrKept, WasPlaced}
 use Rattle.pef_headline.proofs.DescribedLemmas.{AreAddresses, addresses_are, extents_are, headers_sound, images_sound, length-extents, prepared_is}
 use Rattle.pef_headline.proofs.LinkedLemmas.{FragmentLinked, fragment_linked, read_fragment}
-use Rattle.pef_headline.proofs.PlacedLemmas.{FoundPlaces, begun, run-pairs, still, was-found}
+use Rattle.pef_headline.proofs.PlacedLemmas.{FoundPlaces, begun, still, was-found}
 
 -- there is an address for each import
 length-from : (pairs : List Pair) (all : List Present) (p j n : ℕ) → length (addresses_from pairs all p j n) ≡ n
@@ -91,26 +91,25 @@ module _ (script : DescribedScript) (k : LinkedContainer) (linked : IsLinked scr
   described-in s before now found = described-from s (record { before = before; empty = found.0; placed = found.1; stand = now.stand })
 
 -- after any list of steps, in the memory of the last preparation before which it wasn't present
-pub present-described : (script : DescribedScript) (k : LinkedContainer) (pairs : List Pair) (limit : ℕ) (steps : List Step) (s : ContextState) (p : ℕ) → IsLinked script k → (pair_of pairs p).bytes ≡ k.bytes → (run : Runs (fresh_state pairs limit) steps s)
-    → is_present s.present p ≡ true → (d : IsDescribedNow pairs s script p) × WasPlaced steps (fresh_state pairs limit) s run p d.before
+pub present-described : (script : DescribedScript) (k : LinkedContainer) (pairs : List Pair) (limit : ℕ) (steps : List Step) (s : ContextState) (p : ℕ) → IsLinked script k → (pair_of s.pairs p).bytes ≡ k.bytes → (run : Runs (fresh_state pairs limit) steps s)
+    → is_present s.present p ≡ true → (d : IsDescribedNow s.pairs s script p) × WasPlaced steps (fresh_state pairs limit) s run p d.before
 present-described script k pairs limit steps s p linked holds run is =
     let was = was-found pairs limit p steps s run is in
-    let d = described-in script k linked pairs p holds s was.before (run-now pairs limit steps s p run is) was.found in (d.0, subst (WasPlaced steps (fresh_state pairs limit) s run p) (sym d.1) was.was)
+    let d = described-in script k linked s.pairs p holds s was.before (run-now pairs limit steps s p run is) was.found in (d.0, subst (WasPlaced steps (fresh_state pairs limit) s run p) (sym d.1) was.was)
 
 -- after a preparation of a closure that has it, in that of this preparation, if it wasn't present
-pub closure-described : (script : DescribedScript) (k : LinkedContainer) (pairs : List Pair) (limit : ℕ) (steps : List Step) (s t : ContextState) (name : List ℕ) (number p : ℕ) → IsLinked script k → (pair_of pairs p).bytes ≡ k.bytes → Runs (fresh_state pairs limit) steps s
-    → (step : Prepares s name number t) → Contains step.closure.closed.order p → (is_present t.present p ≡ true) × (d : IsDescribedNow pairs t script p) × IsPlacedOrKept s t p d.before
+pub closure-described : (script : DescribedScript) (k : LinkedContainer) (pairs : List Pair) (limit : ℕ) (steps : List Step) (s t : ContextState) (name : List ℕ) (number p : ℕ) → IsLinked script k → (pair_of t.pairs p).bytes ≡ k.bytes → Runs (fresh_state pairs limit) steps s
+    → (step : Prepares s name number t) → Contains step.closure.closed.order p → (is_present t.present p ≡ true) × (d : IsDescribedNow t.pairs t script p) × IsPlacedOrKept s t p d.before
 closure-described script k pairs limit steps s t name number p linked holds run step there = by (is_present s.present p) refl
   where
-    now : (is_present t.present p ≡ true) × IsPreparedNow pairs t p
+    now : (is_present t.present p ≡ true) × IsPreparedNow t.pairs t p
     now = run-prepares pairs limit steps s t name number p run step there
 
-    by : (b : Bool) → is_present s.present p ≡ b → (is_present t.present p ≡ true) × (d : IsDescribedNow pairs t script p) × IsPlacedOrKept s t p d.before
-    by true was = (now.0, (described-from script k linked pairs p holds t now.1).0, inr (still s t name number p step was))
+    by : (b : Bool) → is_present s.present p ≡ b → (is_present t.present p ≡ true) × (d : IsDescribedNow t.pairs t script p) × IsPlacedOrKept s t p d.before
+    by true was = (now.0, (described-from script k linked t.pairs p holds t now.1).0, inr (still s t name number p step was))
     by false absent =
         let new = begun s t name number p step absent now.0 in
-        let found : FoundPlaces pairs new.before p (places_of t.present p) = subst (λ ps. FoundPlaces ps new.before p (places_of t.present p)) (run-pairs steps (fresh_state pairs limit) s run) new.found in
-        let d = described-in script k linked pairs p holds t new.before now.1 found in (now.0, d.0, inl (subst (IsPlacedAnew s t p) (sym d.1) new.anew))
+        let d = described-in script k linked t.pairs p holds t new.before now.1 new.found in (now.0, d.0, inl (subst (IsPlacedAnew s t p) (sym d.1) new.anew))
 
 -- such a fragment is read, and neither an image nor a relocation header of it is refused
 pub linked-read : (script : DescribedScript) (k : LinkedContainer) (pairs : List Pair) (p : ℕ) → IsLinked script k → (pair_of pairs p).bytes ≡ k.bytes → (f : Fragment) × (fragment_of pairs p ≡ Ok f)

@@ -1,6 +1,7 @@
 -- In which memory a fragment was placed: by a preparation, and by the last one of a run before which it wasn't present.
-use Rattle.std.proofs.Common.{◌≡◌, ◌⊎◌, ℕ, Bool, true, false, List, [], ◌∷◌, ◌++◌, cond, inl, inr, refl, sym, ap, subst, ◌∙◌}
+use Rattle.std.proofs.Common.{◌≡◌, ◌⊎◌, ◌<◌, ℕ, length, arith, Bool, true, false, List, [], ◌∷◌, ◌++◌, cond, inl, inr, refl, sym, ap, subst, ◌∙◌}
 use Rattle.std.proofs.lemmas.Bool.Decides.{eqb_tells}
+use Rattle.std.proofs.lemmas.List.{length_push}
 use Rattle.cfm_closure.specs.Stores.{Pair}
 use Rattle.cfm_memory.specs.Extents.{ArePlaced, Extent}
 use Rattle.cfm_memory.specs.Instances.{Layout}
@@ -9,9 +10,9 @@ use Rattle.cfm_memory.specs.declared.place.Place.{Place}
 use Rattle.cfm_prepare.specs.Contexts.{ContextState, fresh_state, is_needed}
 use Rattle.cfm_prepare.specs.Fragments.{Present, extents_in, is_present, places_of}
 use Rattle.cfm_prepare.specs.Placing.{AllPlaced}
-use Rattle.cfm_prepare.specs.Runs.{Runs, Step, Takes, closed, prepared}
+use Rattle.cfm_prepare.specs.Runs.{Runs, Step, Takes, closed, prepared, reserved, stored}
 use Rattle.cfm_prepare.specs.Steps.{Prepares}
-use Rattle.cfm_prepare.proofs.Laws.{places-append, present-append, present-needed, run-keeps}
+use Rattle.cfm_prepare.proofs.Laws.{extents-stored, places-append, present-append, present-needed, run-inside, run-keeps}
 use Rattle.pef_headline.specs.Placed.{IsPlacedAnew, IsPresentAt, StaysAt, WasPlaced, memory_for, with_places}
 
 -- extents that were placed leave a memory with instances at their places
@@ -39,7 +40,7 @@ found-places pairs m (f ∷ fs) after p placed is = elim (eqb_tells f.position p
 pub record HasBegun (s t : ContextState) (p : ℕ) : Type 0 where
   pub before : Layout
   pub anew : IsPlacedAnew s t p before
-  pub found : FoundPlaces s.pairs before p (places_of t.present p)
+  pub found : FoundPlaces t.pairs before p (places_of t.present p)
 
 -- a preparation placed each fragment that wasn't present before, and is now
 pub begun : (s t : ContextState) (name : List ℕ) (number p : ℕ) → Prepares s name number t → is_present s.present p ≡ false → is_present t.present p ≡ true → HasBegun s t p
@@ -52,19 +53,26 @@ begun s t name number p step absent is =
     record {
       before = memory_for s.memory step.fresh p;
       anew = record { absent = absent; fresh = step.fresh; present = step.present; is = refl };
-      found = subst (FoundPlaces s.pairs (memory_for s.memory step.fresh p) p) (sym places) (found-places s.pairs s.memory step.fresh are.empty p are.placed mine);
+      found = subst (λ (pairs : List Pair). FoundPlaces pairs (memory_for s.memory step.fresh p) p (places_of t.present p)) (sym step.pairs)
+          (subst (FoundPlaces s.pairs (memory_for s.memory step.fresh p) p) (sym places) (found-places s.pairs s.memory step.fresh are.empty p are.placed mine));
     }
 
 never : (b : Bool) → cond b false false ≡ false
 never true = refl
 never false = refl
 
--- and no closing does
+-- and no other step does
 step-begun : (step : Step) (s t : ContextState) (p : ℕ) → Takes s step t → is_present s.present p ≡ false → is_present t.present p ≡ true → HasBegun s t p
 step-begun (prepared name number) s t p takes absent is = begun s t name number p takes absent is
 step-begun (closed number) s t p takes absent is =
     let gone : is_present t.present p ≡ false =
     ap (λ fs. is_present fs p) takes.present ∙ present-needed t.connections s.present p ∙ ap (λ (b : Bool). cond (is_needed t.connections p) b false) absent ∙ never (is_needed t.connections p) in
+    absurd (cc)
+step-begun (reserved address size) s t p takes absent is =
+    let same : is_present t.present p ≡ is_present s.present p = ap (λ (u : ContextState). is_present u.present p) takes.is in
+    absurd (cc)
+step-begun (stored name bytes) s t p takes absent is =
+    let same : is_present t.present p ≡ is_present s.present p = ap (λ (u : ContextState). is_present u.present p) takes.is in
     absurd (cc)
 
 -- a preparation keeps the places of the others
@@ -79,20 +87,34 @@ run-push : (done : List Step) (s a b : ContextState) (step : Step) → Runs s do
 run-push [] s a b step run takes = (b, subst (λ (u : ContextState). Takes u step b) run takes, refl)
 run-push (first ∷ done) s a b step run takes = (run.0, run.1, run-push done run.0 a b step run.2 takes)
 
--- a context keeps its store
-step-pairs : (step : Step) (s t : ContextState) → Takes s step t → t.pairs ≡ s.pairs
-step-pairs (prepared name number) s t takes = takes.pairs
-step-pairs (closed number) s t takes = takes.pairs
+-- a fragment of a store needs the memory that it needed
+record IsAsLong (before after : List Pair) (p : ℕ) : Type 0 where
+  inside : p < length after
+  extents : extents_in after p ≡ extents_in before p
 
-pub run-pairs : (steps : List Step) (s t : ContextState) → Runs s steps t → t.pairs ≡ s.pairs
-run-pairs [] s t run = ap (λ (u : ContextState). u.pairs) run
-run-pairs (step ∷ steps) s t run = run-pairs steps run.0 t run.2 ∙ step-pairs step s run.0 run.1
+as-long : (before after : List Pair) (p : ℕ) → after ≡ before → p < length before → IsAsLong before after p
+as-long before after p same inside = record { inside = subst (λ (pairs : List Pair). p < length pairs) (sym same) inside; extents = ap (λ pairs. extents_in pairs p) same }
+
+step-extents : (step : Step) (s t : ContextState) (p : ℕ) → Takes s step t → p < length s.pairs → IsAsLong s.pairs t.pairs p
+step-extents (prepared name number) s t p takes inside = as-long s.pairs t.pairs p takes.pairs inside
+step-extents (closed number) s t p takes inside = as-long s.pairs t.pairs p takes.pairs inside
+step-extents (reserved address size) s t p takes inside = as-long s.pairs t.pairs p (ap (λ (u : ContextState). u.pairs) takes.is) inside
+step-extents (stored name bytes) s t p takes inside =
+    let n : Pair = record { name = name; bytes = bytes } in
+    let long = length_push s.pairs n in
+    let more : IsAsLong s.pairs (s.pairs ++ n ∷ []) p = record { inside = omega arith; extents = extents-stored s.pairs n p inside } in
+    subst (λ (u : ContextState). IsAsLong s.pairs u.pairs p) (sym takes.is) more
+
+run-extents : (steps : List Step) (s t : ContextState) (p : ℕ) → Runs s steps t → p < length s.pairs → extents_in t.pairs p ≡ extents_in s.pairs p
+run-extents [] s t p run inside = ap (λ (u : ContextState). extents_in u.pairs p) run
+run-extents (step ∷ steps) s t p run inside =
+    let first = step-extents step s run.0 p run.1 inside in run-extents steps run.0 t p run.2 first.inside ∙ first.extents
 
 -- a fragment that a run placed
-pub record WasFound (pairs : List Pair) (steps : List Step) (s t : ContextState) (run : Runs s steps t) (p : ℕ) : Type 0 where
+pub record WasFound (steps : List Step) (s t : ContextState) (run : Runs s steps t) (p : ℕ) : Type 0 where
   pub before : Layout
   pub was : WasPlaced steps s t run p before
-  pub found : FoundPlaces pairs before p (places_of t.present p)
+  pub found : FoundPlaces t.pairs before p (places_of t.present p)
 
 module _ (pairs : List Pair) (limit : ℕ) (p : ℕ) where
   stays-first : (steps : List Step) (s t : ContextState) (run : Runs s steps t) (places : List Place) → StaysAt steps s t run p places → IsPresentAt s p places
@@ -100,11 +122,11 @@ module _ (pairs : List Pair) (limit : ℕ) (p : ℕ) where
   stays-first (step ∷ steps) s t run places stays = stays.0
 
   -- the rest of a run placed it, or it is present all along
-  rest-placed : (steps done : List Step) (s t : ContextState) → Runs (fresh_state pairs limit) done s → (run : Runs s steps t) → is_present t.present p ≡ true → WasFound pairs steps s t run p ⊎ StaysAt steps s t run p (places_of t.present p)
+  rest-placed : (steps done : List Step) (s t : ContextState) → Runs (fresh_state pairs limit) done s → (run : Runs s steps t) → is_present t.present p ≡ true → WasFound steps s t run p ⊎ StaysAt steps s t run p (places_of t.present p)
   rest-placed [] done s t earlier run is = inr (record { present = subst (λ (u : ContextState). is_present u.present p ≡ true) run is; are = ap (λ (u : ContextState). places_of u.present p) (sym run) })
   rest-placed (step ∷ steps) done s t earlier run is = by (rest-placed steps (done ++ step ∷ []) run.0 t (run-push done (fresh_state pairs limit) s run.0 step earlier run.1) run.2 is)
     where
-      onward : (b : Bool) → is_present s.present p ≡ b → StaysAt steps run.0 t run.2 p (places_of t.present p) → WasFound pairs (step ∷ steps) s t run p ⊎ StaysAt (step ∷ steps) s t run p (places_of t.present p)
+      onward : (b : Bool) → is_present s.present p ≡ b → StaysAt steps run.0 t run.2 p (places_of t.present p) → WasFound (step ∷ steps) s t run p ⊎ StaysAt (step ∷ steps) s t run p (places_of t.present p)
       onward true was stays =
           let next = stays-first steps run.0 t run.2 (places_of t.present p) stays in
           let kept = run-keeps pairs limit done s run.0 step p earlier run.1 was next.present in
@@ -112,17 +134,19 @@ module _ (pairs : List Pair) (limit : ℕ) (p : ℕ) where
       onward false absent stays =
           let next = stays-first steps run.0 t run.2 (places_of t.present p) stays in
           let new = step-begun step s run.0 p run.1 absent next.present in
-          let found : FoundPlaces pairs new.before p (places_of run.0.present p) = subst (λ ps. FoundPlaces ps new.before p (places_of run.0.present p)) (run-pairs done (fresh_state pairs limit) s earlier) new.found in
-          inl (record { before = new.before; was = inl (new.anew, stays); found = subst (FoundPlaces pairs new.before p) next.are found })
+          let inside = run-inside pairs limit (done ++ step ∷ []) run.0 p (run-push done (fresh_state pairs limit) s run.0 step earlier run.1) next.present in
+          let found : FoundPlaces t.pairs new.before p (places_of run.0.present p) =
+          subst (λ es. (after : Layout) × ArePlaced new.before es (places_of run.0.present p) after) (sym (run-extents steps run.0 t p run.2 inside)) new.found in
+          inl (record { before = new.before; was = inl (new.anew, stays); found = subst (FoundPlaces t.pairs new.before p) next.are found })
 
-      by : WasFound pairs steps run.0 t run.2 p ⊎ StaysAt steps run.0 t run.2 p (places_of t.present p) → WasFound pairs (step ∷ steps) s t run p ⊎ StaysAt (step ∷ steps) s t run p (places_of t.present p)
+      by : WasFound steps run.0 t run.2 p ⊎ StaysAt steps run.0 t run.2 p (places_of t.present p) → WasFound (step ∷ steps) s t run p ⊎ StaysAt (step ∷ steps) s t run p (places_of t.present p)
       by (inl was) = inl (record { before = was.before; was = inr was.was; found = was.found })
       by (inr stays) = onward (is_present s.present p) refl stays
 
   -- a run from a new context placed each fragment that is present after it
-  pub was-found : (steps : List Step) (t : ContextState) (run : Runs (fresh_state pairs limit) steps t) → is_present t.present p ≡ true → WasFound pairs steps (fresh_state pairs limit) t run p
+  pub was-found : (steps : List Step) (t : ContextState) (run : Runs (fresh_state pairs limit) steps t) → is_present t.present p ≡ true → WasFound steps (fresh_state pairs limit) t run p
   was-found steps t run is = by (rest-placed steps [] (fresh_state pairs limit) t refl run is)
     where
-      by : WasFound pairs steps (fresh_state pairs limit) t run p ⊎ StaysAt steps (fresh_state pairs limit) t run p (places_of t.present p) → WasFound pairs steps (fresh_state pairs limit) t run p
+      by : WasFound steps (fresh_state pairs limit) t run p ⊎ StaysAt steps (fresh_state pairs limit) t run p (places_of t.present p) → WasFound steps (fresh_state pairs limit) t run p
       by (inl was) = was
       by (inr stays) = let first = (stays-first steps (fresh_state pairs limit) t run (places_of t.present p) stays).present in absurd (cc)

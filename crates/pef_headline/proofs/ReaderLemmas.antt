@@ -20,11 +20,11 @@ use Rattle.cfm_memory.specs.Instances.{Layout}
 use Rattle.cfm_memory.specs.declared.place.Place.{Place}
 use Rattle.cfm_memory.proofs.Laws.{length-placed}
 use Rattle.cfm_prepare.specs.Addresses.{addresses_from, import_address, section_of, target_address}
-use Rattle.cfm_prepare.specs.Contexts.{ContextState, Open, fresh_state, open_of, open_without}
+use Rattle.cfm_prepare.specs.Contexts.{ContextState, Open, fresh_state, open_of, open_without, opened}
 use Rattle.cfm_prepare.specs.Fragments.{Present, places_of, present_of}
 use Rattle.cfm_prepare.specs.Now.{IsPreparedNow}
 use Rattle.cfm_prepare.specs.Prepared.{addresses_at}
-use Rattle.cfm_prepare.specs.Runs.{Runs, Step, closed, prepared}
+use Rattle.cfm_prepare.specs.Runs.{Runs, Step, closed, prepared, reserved, stored}
 use Rattle.cfm_prepare.specs.Sections.{held_at, section_present}
 use Rattle.cfm_prepare.specs.Steps.{Closes, Prepares}
 use Rattle.cfm_prepare.proofs.Laws.{container-of, length-there, run-prepares}
@@ -36,7 +36,7 @@ use Rattle.pef_script.specs.Script.{DescribedScript}
 use Rattle.pef_headline.specs.Headline.{HasLinked, IsReached}
 use Rattle.pef_headline.specs.Memory.{HasLinkedText, IsImportAddress, IsTargetAddress, ReadsDescribed, fragment_reader, root_reader}
 use Rattle.pef_headline.specs.Now.{IsDescribedNow, described_extent, described_extents}
-use Rattle.pef_headline.proofs.HeadlineLemmas.{prepared-present, reached-pairs}
+use Rattle.pef_headline.proofs.HeadlineLemmas.{prepared-present}
 use Rattle.pef_headline.proofs.NowLemmas.{count-is}
 
 -- a section that stands at its place is read there
@@ -61,7 +61,7 @@ module _ (s t : ContextState) (name : List ℕ) (number : ℕ) (reached : IsReac
 
   -- each is prepared
   now-of : (q : ℕ) → Contains order q → IsPreparedNow s.pairs t q
-  now-of q there = subst (λ pairs. IsPreparedNow pairs t q) (sym (reached-pairs s reached)) (run-prepares reached.pairs reached.limit reached.steps s t name number q reached.run step there).1
+  now-of q there = subst (λ pairs. IsPreparedNow pairs t q) step.pairs (run-prepares reached.pairs reached.limit reached.steps s t name number q reached.run step there).1
 
   -- the section of a target is read
   target-read : (o : Option Target) → LiesInside s.pairs order o → IsTargetAddress t o (target_address t.present o)
@@ -147,7 +147,7 @@ given-prepare : (s t : ContextState) (name : List ℕ) (number : ℕ) → AreGiv
 given-prepare s t name number given step =
     let B : Open → Type 0 = λ o. o.number < s.given in
     let G : Open → Type 0 = λ o. o.number < t.given in
-    let o : Open = record { number = s.given; root = step.closure.has.root; closed = step.closure.closed } in
+    let o : Open = opened s step.closure.has.root step.closure.closed in
     let one = step.given in
     let more : (x : Open) → x.number < s.given → x.number < t.given = λ x less. omega (arith, less, one) in
     let new : s.given < t.given = omega (arith, one) in
@@ -163,6 +163,8 @@ given-all : (steps : List Step) (s t : ContextState) → AreGiven s → Runs s s
 given-all [] s t given run = subst AreGiven (sym run) given
 given-all (prepared name number ∷ steps) s t given run = given-all steps run.0 t (given-prepare s run.0 name number given run.1) run.2
 given-all (closed number ∷ steps) s t given run = given-all steps run.0 t (given-close s run.0 number given run.1) run.2
+given-all (stored name bytes ∷ steps) s t given run = given-all steps run.0 t (subst AreGiven (sym run.1.is) given) run.2
+given-all (reserved address size ∷ steps) s t given run = given-all steps run.0 t (subst AreGiven (sym run.1.is) given) run.2
 
 -- so a new number is found, after all earlier ones
 open-last : (os : List Open) (o : Open) (n : ℕ) → AllByRecursion (λ (x : Open). x.number < n) os → o.number ≡ n → open_of (os ++ o ∷ []) n ≡ Some o
@@ -179,7 +181,7 @@ reads-root text s t name number p reached has step place =
     let same : root ≡ p = cc in
     let ends = closed-root s.pairs root step.closure.closed (place_of-below s.pairs name root found) step.closure.is in
     let there : Contains step.closure.closed.order p = subst (Contains step.closure.closed.order) same (subst (λ order. Contains order root) (sym ends.1) (Contains-push ends.0 root)) in
-    let o : Open = record { number = s.given; root = root; closed = step.closure.closed } in
+    let o : Open = opened s root step.closure.closed in
     let given : AreGiven s = given-all reached.steps (fresh_state reached.pairs reached.limit) s tt reached.run in
     let open_is : open_of t.connections number ≡ Some o = ap₂ open_of step.connections step.number ∙ open-last s.connections o s.given given refl in
     let at : (k : ℕ) → root_reader t number k ≡ fragment_reader t p k =

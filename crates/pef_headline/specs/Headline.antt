@@ -30,7 +30,8 @@ pub record HasLinked (pairs : List Pair) (p : ℕ) (script : DescribedScript) : 
 abbrev pub IsForeign : List Pair → ℕ → Type 0
 IsForeign pairs p = (script : DescribedScript) → HasLinked pairs p script → ⊥
 
--- the context was made for a store and a memory limit, and any list of preparations and closings followed
+-- the context was made for a store and a memory limit, and any list of additions, reservations, preparations and closings
+-- followed
 pub record IsReached (s : ContextState) : Type 0 where
   pub pairs : List Pair
   pub limit : ℕ

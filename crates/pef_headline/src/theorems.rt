@@ -26,14 +26,15 @@ ghost use Rattle.pef_views.specs.declared.fault.ViewFault.{ViewFault};
 /// room, to exactly the memory that its script describes; and for each section its relocation program has no more
 /// halfwords than any repeat-free program that makes the script's fixups, each once and in address order.
 ///
-/// `prepares`, the first half: a store has the linked bytes in place `p`. After any list of preparations and closings a
-/// root is prepared by its name, and its closure has `p`: it is the root itself, or the root needs it. The call gives
-/// the next connection, and the fragment in `p` is present with the described memory. Its imports are those of the
-/// script, by their names and those of their libraries. If it wasn't present, its sections were placed after those of
-/// the new fragments that come before it in the closure. If it was, they keep their places. The only refusal is 99, for
-/// a failed allocation, and then the context is unchanged. The conditions: the root is in the store, and its closure
-/// isn't refused. Fewer than 65,536 connections were given. The fragments of the closure that aren't present yet find
-/// room. None of these that wasn't linked has an image or a relocation header that is refused.
+/// `prepares`, the first half: a store has the linked bytes in place `p`. After any list of additions, reservations,
+/// preparations and closings a root is prepared by its name, and its closure has `p`: it is the root itself, or the
+/// root needs it. The call gives the next connection, and the fragment in `p` is present with the described memory. Its
+/// imports are those of the script, by their names and those of their libraries. If it wasn't present, its sections
+/// were placed after those of the new fragments that come before it in the closure. If it was, they keep their places.
+/// The only refusal is 99, for a failed allocation, and then the context is unchanged. The conditions: the root is in
+/// the store, and its closure isn't refused. Fewer than 65,536 connections were given. The fragments of the closure
+/// that aren't present yet find room. None of these that wasn't linked has an image or a relocation header that is
+/// refused.
 ///
 /// `present`: whenever the fragment in `p` is present, it has the described memory, under the addresses that its
 /// sections and its imports' targets have now. Its sections are where the last preparation before which it wasn't
@@ -78,8 +79,8 @@ pub fn refusals_are_of_others()
     ensures loader { (s : ContextState) (asked name : List ℕ) (k : LoaderFault) (place : Place) (has : HasRoot s asked) → closed_of s.pairs has.root ≡ Err (no_loader name k place) → NamesForeign s.pairs name }
 {}
 
-/// From a text to memory. A text is a script, and a store has in place `p` the bytes that `link` gives for it. After any
-/// list of preparations and closings a root is prepared by its name, and that succeeds.
+/// From a text to memory. A text is a script, and a store has in place `p` the bytes that `link` gives for it. After
+/// any list of additions, reservations, preparations and closings a root is prepared by its name, and that succeeds.
 ///
 /// `fragment`: if the root's closure has `p`, `fragment_section` then returns for `p` the memory that the script
 /// describes, section by section. The addresses in it are those that the same call returns.

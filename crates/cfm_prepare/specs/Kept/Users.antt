@@ -21,6 +21,11 @@ count_at counts p = slice_index_or counts p 0
 abbrev pub CountUsers : List ℕ → List Open → Type 0
 CountUsers counts connections = (p : ℕ) → count_at counts p ≡ users_of connections p
 
+-- the fragments among some that have one user at most
+abbrev pub unshared_among : List ℕ → List ℕ → List ℕ
+unshared_among counts [] = []
+unshared_among counts (p ∷ ps) = if nat_lt 1 (count_at counts p) then unshared_among counts ps else p ∷ unshared_among counts ps
+
 -- each fragment of an order was counted once more
 abbrev pub CountsMore : List ℕ → List ℕ → List ℕ → Type 0
 CountsMore order before after = (p : ℕ) → count_at after p ≡ count_at before p + counted order p

@@ -15,7 +15,7 @@ use Rattle.cfm_prepare.proofs.FoundLemmas.{new-has, present-has}
 use Rattle.cfm_prepare.specs.Contexts.{ContextState, Open, most_connections}
 use Rattle.cfm_prepare.specs.Kept.Users.{CountsMore, CountUsers}
 use Rattle.cfm_prepare.specs.Steps.{HasRoot, IsRefusedLate}
-use Rattle.cfm_prepare.proofs.OpenLemmas.{ends-contains}
+use Rattle.cfm_prepare.proofs.OpenLemmas.{ends-contains, of-closure}
 use Rattle.cfm_prepare.proofs.UsersLemmas.{entered-count, entered-used, same_users, users-few}
 use Rattle.cfm_prepare.proofs.context.Context.open_root.Goals as goal
 
@@ -74,14 +74,21 @@ new-requires-clause-once c =
     let closed = c.in_ok-closure.closure in
     once-from-pairs closed.order (closed-complete c.self.inside.store c.args.root closed c.in_ok-closure.ensures).once
 
+pub new-requires-clause-init : goal.new-requires-clause-init
+new-requires-clause-init c =
+    let closed = c.in_ok-closure.closure in
+    of-closure c.self.inside.store c.args.root closed c.in_ok-closure.ensures
+
 pub returns-clause-prepared : goal.returns-clause-prepared
 returns-clause-prepared c = λ name is.
     let before = c.self.inside.connections in
     let closed = c.in_ok-closure.closure in
     let of_store = closed-store c.self.inside.store c.args.root closed c.in_ok-closure.ensures in
     let number : c.given-number.result ≡ before.given = c.given-number.ensures ∙ c.in_ok-reserve.ensures.given in
-    let o : Open = record { number = before.given; root = c.args.root; closed = closed } in
-    let made : c.new.result ≡ o = c.new.ensures ∙ ap (λ n. record { number = n; root = c.args.root; closed = closed }) number in
+    let o : Open = record { number = before.given; root = c.args.root; closed = closed; placed = new_among c.self.inside.fragments.present closed.init_order } in
+    let placed : c.in_ok-placed.placed.items ≡ new_among c.self.inside.fragments.present closed.init_order = c.in_ok-placed.ensures ∙ ap (new_among c.self.inside.fragments.present) c.init_order.ensures in
+    let made : c.new.result ≡ o =
+    c.new.ensures ∙ ap (λ n. record { number = n; root = c.args.root; closed = closed; placed = c.in_ok-placed.placed.items }) number ∙ ap (λ (ps : List ℕ). record { number = before.given; root = c.args.root; closed = closed; placed = ps }) placed in
     let done = c.in_ok-prepare.ensures.prepared in
     let there = c.self.inside.fragments.present in
     let P : List Pair → Type 0 = λ ps. ArePrepared ps there c.self.inside.fragments.memory (new_among there closed.order) done.0 c.prepare.new.self.memory in
@@ -104,8 +111,10 @@ invariant_of-self-2 c =
     let os = before.items in
     let closed = c.in_ok-closure.closure in
     let number : c.given-number.result ≡ before.given = c.given-number.ensures ∙ c.in_ok-reserve.ensures.given in
-    let o : Open = record { number = before.given; root = c.args.root; closed = closed } in
-    let made : c.new.result ≡ o = c.new.ensures ∙ ap (λ n. record { number = n; root = c.args.root; closed = closed }) number in
+    let o : Open = record { number = before.given; root = c.args.root; closed = closed; placed = new_among c.self.inside.fragments.present closed.init_order } in
+    let placed : c.in_ok-placed.placed.items ≡ new_among c.self.inside.fragments.present closed.init_order = c.in_ok-placed.ensures ∙ ap (new_among c.self.inside.fragments.present) c.init_order.ensures in
+    let made : c.new.result ≡ o =
+    c.new.ensures ∙ ap (λ n. record { number = n; root = c.args.root; closed = closed; placed = c.in_ok-placed.placed.items }) number ∙ ap (λ (ps : List ℕ). record { number = before.given; root = c.args.root; closed = closed; placed = ps }) placed in
     let pushed : c.push.new.self.items ≡ os ++ o ∷ [] = c.push.ensures.items ∙ ap (λ (xs : List Open). xs ++ c.new.result ∷ []) c.in_ok-reserve.ensures.items ∙ ap (λ (x : Open). os ++ x ∷ []) made in
     let given : c.push.new.self.given ≡ before.given + 1 = c.push.ensures.given ∙ ap (λ n. n + 1) c.in_ok-reserve.ensures.given in
     let done = c.in_ok-prepare.ensures.prepared in

@@ -2,6 +2,7 @@
 use Rattle.std.proofs.Common.{◌≡◌, List, Some, IsTrue, option_map, slice_get, sym, ap, subst, ◌∙◌}
 use Rattle.std.specs.Option.{option_and_then}
 use Rattle.std.proofs.lemmas.Option.{slice_get-get_or}
+use Rattle.cfm_memory.proofs.Laws.{part_clear}
 use Rattle.cfm_memory.specs.Extents.{AreHeld}
 use Rattle.cfm_memory.specs.Instances.{holds_place}
 use Rattle.cfm_memory.specs.Limits.{first_address}
@@ -35,4 +36,9 @@ returns-clause-section c =
 pub returns-clause-within : goal.returns-clause-within
 returns-clause-within c =
     let m = c.self.inside.memory in
-    rw (← c.self.view_is) (laid-below first_address m.limit m.instances c.in_ok-place.field-0.now.address c.part.result.now c.part.ensures.in_order c.part.ensures.bytes)
+    rw (← c.self.view_is) (laid-below first_address m.limit m.instances c.in_ok-place.field-0.now.address c.part.result.now c.part.ensures.in_order.laid_out c.part.ensures.bytes)
+
+pub returns-clause-clear : goal.returns-clause-clear
+returns-clause-clear c =
+    let m = c.self.inside.memory in
+    rw (← c.self.view_is) (part_clear m c.in_ok-place.field-0.now.address c.part.result.now c.part.ensures.in_order c.part.ensures.bytes)
