@@ -2,7 +2,6 @@
 use Rattle.std.proofs.Common.{◌≡◌, ℕ, zero, suc, ◌≤◌, Bool, true, false, cond, not, List, [], ◌∷◌, length, Option, None, Some, Ok, refl, ap, ap₂, ◌∙◌, Contains}
 use Rattle.std.specs.Prelude.{◌&&◌}
 use Rattle.std.specs.Option.{is_none, option_and_then, option_map_or}
-use Rattle.pef_format.specs.Symbols.{options_of}
 use Rattle.pef_loader.specs.Library.{Library}
 use Rattle.pef_loader.specs.Loader.{Loaded, library_of}
 use Rattle.pef_words.specs.Refusals.{first_among}
@@ -28,7 +27,7 @@ module _ (pairs pairs' : List Pair) (order : List ℕ) (complete : IsComplete pa
     where
       at : (o : Option Library) → before_at pairs' p l o ≡ before_at pairs p l o
       at None = refl
-      at (Some library) = ap (λ o. cond (options_of library.options).init_before o None) (library_at-same pairs pairs' p (same p there) l)
+      at (Some library) = rw (library_at-same pairs pairs' p (same p there) l) refl
 
   -- a fragment that comes first is of the order
   before-inside : (p l q : ℕ) → Contains order p → before_of pairs p l ≡ Some q → Contains order q
@@ -40,7 +39,7 @@ module _ (pairs pairs' : List Pair) (order : List ℕ) (complete : IsComplete pa
 
       at : (o : Option Library) → before_at pairs p l o ≡ Some q → Contains order q
       at None is = absurd (cc)
-      at (Some library) is = if_before (options_of library.options).init_before is
+      at (Some library) is = if_before _ is
 
   module _ (s s' : Walked) (a : Alike (length pairs) s s') where
     marks-same : (q : ℕ) → Contains order q → is_marked s' q ≡ is_marked s q

@@ -36,6 +36,7 @@ mod users;
 
 pub use add_fault::AddFault;
 pub use cfm_closure::{BindFault, Closure, Store, StoreFault, Target};
+pub use cfm_memory::MemoryFault;
 pub use context::{Connection, Context};
 pub use entries::Entries;
 pub use fault::{CloseFault, PrepareFault};

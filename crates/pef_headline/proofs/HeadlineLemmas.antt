@@ -1,19 +1,17 @@
 -- The headline, phrase by phrase, from the facts of memory, refusals and least programs.
-use Rattle.std.proofs.Common.{◌≡◌, ℕ, true, List, None, Result, Ok, Err, Contains, sym, subst, ◌∙◌}
+use Rattle.std.proofs.Common.{◌≡◌, ℕ, true, List, None, Result, Ok, Err, Contains, sym, subst}
 use Rattle.cfm_closure.specs.Closures.{Closed}
 use Rattle.cfm_memory.specs.Extents.{ArePlaced}
 use Rattle.cfm_memory.specs.Instances.{Layout}
 use Rattle.cfm_prepare.specs.Addresses.{addresses_of}
 use Rattle.cfm_prepare.specs.Fragments.{Present, extents_in, image_refusal_in, is_present, reloc_refusal_in}
 use Rattle.cfm_closure.specs.Stores.{Pair}
-use Rattle.cfm_prepare.specs.Contexts.{ContextState, fresh_state}
+use Rattle.cfm_prepare.specs.Contexts.{ContextState}
 use Rattle.cfm_prepare.specs.Steps.{HasClosure, Prepares}
 use Rattle.cfm_prepare.specs.declared.fault.PrepareFault.{PrepareFault}
 use Rattle.pef_script.specs.Script.{DescribedScript}
 use Rattle.pef_headline.specs.Headline.{HasDescribedMemory, HasLeastPrograms, HasLinked, IsReached, LibrariesResolve, MayAnswer, OthersAreSound, PreparesAsDescribed, SectionsFindRoom, StaysAsDescribed}
-use Rattle.pef_headline.specs.Imports.{HasImports}
-use Rattle.pef_headline.specs.Now.{IsDescribedNow}
-use Rattle.pef_headline.specs.Placed.{IsPlacedOrKept, WasPlaced}
+use Rattle.pef_headline.specs.Placed.{IsPlacedOrKept}
 use Rattle.pef_headline.proofs.ImportLemmas.{imports-described}
 use Rattle.pef_headline.proofs.LeastLemmas.{linked_least}
 use Rattle.pef_headline.proofs.NowLemmas.{closure-described, linked-filled, linked-read, linked-relocated, present-described}

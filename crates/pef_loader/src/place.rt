@@ -16,7 +16,8 @@ use pef_words::Cut;
 
 /// Returns the place of a part's field in a container, by the part's number and the field's offset in the part.
 ///
-/// It has no offset if the container has no such part.
+/// It has no offset without a loader section that has a header, for the parts in there, or without a section of this number,
+/// for its packed data. The numbers of other parts aren't compared with how many there are.
 pub fn place_in(container: &Container<'_>, part: Part, row: u32, field: usize) -> Place
     ensures { result ≡ place_of (contained container.now) part row field }
 {

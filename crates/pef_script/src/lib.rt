@@ -13,8 +13,8 @@ mod views;
 pub use parts::{ExportData, ImportData, LibraryData, Parts, Section, SectionHeader, Versions};
 pub use script::Script;
 pub use text::{
-    Form, LineFault, Names, Oddity, ScriptFault, Word, WordKind, form_in, kind_in, line_at, line_in,
-    oddity_of, places_are_inside, scripts_hold, word_range,
+    Form, LineFault, Names, Oddity, ScriptFault, Word, WordKind, form_in, kind_in, line_at,
+    line_in, oddity_of, places_are_inside, scripts_hold, word_range,
 };
 pub use theorems::described_bytes;
 pub use views::LibraryView;
