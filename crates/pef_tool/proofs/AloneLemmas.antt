@@ -10,7 +10,7 @@ use Rattle.cfm_closure.proofs.Laws.{closed-complete, closed-root}
 use Rattle.cfm_memory.specs.Extents.{given_back}
 use Rattle.cfm_memory.specs.Instances.{Layout}
 use Rattle.cfm_memory.specs.declared.place.Place.{Place}
-use Rattle.cfm_prepare.specs.Fragments.{Present, places_of, positions}
+use Rattle.cfm_prepare.specs.Fragments.{Present, places_of, positions, new_among}
 use Rattle.cfm_prepare.specs.Placing.{ArePrepared}
 use Rattle.cfm_prepare.specs.Contexts.{ContextState, Open, fresh_state, open_of}
 use Rattle.cfm_prepare.specs.Now.{IsPreparedNow}
@@ -140,12 +140,12 @@ module _ (bytes : List ℕ) (limit : ℕ) where
   module _ (s : ContextState) (number : ℕ) (done : Prepares start (codes "it") number s) where
     -- its connection is the only one
     abbrev pub opened : Open
-    opened = record { number = 0; root = 0; closed = closed-alone it }
+    opened = record { number = 0; root = 0; closed = closed-alone it; placed = 0 ∷ [] }
 
     pub open-is : open_of s.connections number ≡ Some opened
     open-is =
         let root = root-is bytes done.closure.has.root done.closure.has.is in
-        ap₂ open_of done.connections done.number ∙ ap₂ (λ (r : ℕ) (c : Closed). Some (record { number = 0; root = r; closed = c })) root (closure-is done.closure)
+        ap₂ open_of done.connections done.number ∙ ap₂ (λ (r : ℕ) (c : Closed). Some (record { number = 0; root = r; closed = c; placed = new_among [] c.init_order })) root (closure-is done.closure)
 
     -- and so is the fragment
     pub prepared-alone : StandsAlone (store-of bytes) s start.memory

@@ -1,2 +1,1 @@
 pub mod PieceLemmas
-pub mod DetailLemmas

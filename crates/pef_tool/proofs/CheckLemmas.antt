@@ -5,11 +5,9 @@ use Rattle.pef_cert.specs.Certified.{Certified}
 use Rattle.pef_reloc.specs.declared.fixup.Fixup.{Fixup}
 use Rattle.pef_script.specs.Script.{DescribedSection}
 use Rattle.pef_ports.specs.Ports.{FilesPort, Reads}
-use Rattle.pef_tool.specs.Answers.Answers.{undetailed}
-use Rattle.pef_tool.specs.Check.{AreVerdicts, IsVerdict, Judges, JudgesFiles, verdicts_outcome}
-use Rattle.pef_tool.specs.declared.answers.refusal.Refusal.{Refusal}
+use Rattle.pef_tool.specs.Check.{AreVerdicts, IsVerdict, Judges, JudgesFiles}
+use Rattle.pef_faults.specs.declared.fault.Fault.{Fault}
 use Rattle.pef_tool.specs.declared.check.Verdict.{Verdict}
-use Rattle.pef_tool.specs.declared.check.Verdict.TheVariants.{Yes, No}
 
 -- the section whose fixups are found
 pub fixups_found : (sections : List DescribedSection) (k : ℕ) (fixups : List Fixup) → Some fixups ≡ option_map (λ s. s.fixups) (slice_get sections k) → (s : DescribedSection) × (slice_get sections k ≡ Some s) × (s.fixups ≡ fixups)
@@ -48,7 +46,7 @@ all_said sections certificates k verdicts said same end =
     subst (λ (vs : List Verdict). AreVerdicts sections certificates vs) (append-nil verdicts) (said [] two)
 
 -- the texts of files that were read
-pub files_judged : {F : Type 0} {port : FilesPort F} {before between after : F} {script cert text certificates : List ℕ} {judged : Result (List Verdict) Refusal} (given given' : List ℕ)
+pub files_judged : {F : Type 0} {port : FilesPort F} {before between after : F} {script cert text certificates : List ℕ} {judged : Result (List Verdict) Fault} (given given' : List ℕ)
     → Reads port before between script (Ok text) → Reads port between after cert (Ok certificates) → given ≡ text → given' ≡ certificates → Judges (record { script = given; certificates = given' }) judged
     → JudgesFiles port before after script cert judged
 files_judged {F} {port} {before} {between} {after} {script} {cert} {text} {certificates} {judged} given given' first second same same' judges =
@@ -58,9 +56,3 @@ files_judged {F} {port} {before} {between} {after} {script} {cert} {text} {certi
       read = record { between = between; first = first; second = second };
       are = subst (λ (t : List ℕ). Judges (record { script = text; certificates = t }) judged) same' one;
     }
-
--- the outcome of verdicts has no detail
-pub verdicts_undetailed : (verdicts : List Verdict) → undetailed (verdicts_outcome verdicts) ≡ verdicts_outcome verdicts
-verdicts_undetailed [] = refl
-verdicts_undetailed (Yes halfwords ∷ verdicts) = verdicts_undetailed verdicts
-verdicts_undetailed (No ∷ verdicts) = refl

@@ -18,8 +18,11 @@ use Rattle.pef_tool.specs.Distances.{CertifiesFile, IsYesToAll}
 use Rattle.pef_tool.specs.Link.{LinksFile}
 use Rattle.pef_tool.specs.declared.check.Verdict.{Verdict}
 use Rattle.pef_tool.specs.declared.check.Verdict.TheVariants.{Yes, No}
-use Rattle.pef_tool.specs.declared.answers.refusal.Refusal.{Refusal}
-use Rattle.pef_tool.specs.declared.answers.refusal.Refusal.TheVariants.{Script, Listing, BadCertificate, SectionsDiffer, InputUnreadable, InputTooLong, OutOfMemory}
+use Rattle.pef_cert.specs.declared.text.fault.CertFault.TheVariants as cert_fault
+use Rattle.pef_faults.specs.Faults.{fault_number}
+use Rattle.pef_faults.specs.declared.fault.Fault.{Fault}
+use Rattle.pef_faults.specs.declared.fault.Fault.TheVariants.{Script, Listing, Certificate, SectionsDiffer, Input, Prepare, Unreadable, Unwritable, OutOfMemory}
+use Rattle.pef_script.specs.declared.text.fault.ScriptFault.TheVariants as script_fault
 
 -- certificates for the sections of a script can be printed
 certified_print : (sections imports k : ℕ) (each : List DescribedSection) (certificates : List Certified) → AllByRecursion (SectionHolds sections imports) each → AreCertified k each certificates → k + length each ≤ 2 ^ 32 → AllByRecursion Printable certificates
@@ -99,21 +102,24 @@ same_certificates : (r : Result (List Certified) ℕ) (cs ds : List Certified) �
 same_certificates r cs ds one two = let both = sym one ∙ two in cc
 
 -- the result for two texts: the first is a script, and the second is the text of its certificates
-all_accepted : (texts : Texts) (script : DescribedScript) (certificates : List Certified) (judged : Result (List Verdict) Refusal)
+all_accepted : (texts : Texts) (script : DescribedScript) (certificates : List Certified) (judged : Result (List Verdict) Fault)
     → script_of texts.script ≡ Ok script → ScriptHolds script → AreCertified 0 script.sections certificates → texts.certificates ≡ certificates_text certificates → Judges texts judged → IsYesToAll certificates judged
+unfolding fault_number
 all_accepted texts script certificates judged is holds are printed judges = by judged judges
   where
     reads : certificates_of texts.certificates ≡ Ok certificates
     reads = ap certificates_of printed ∙ reads_back certificates (script_print script certificates holds are)
 
-    by : (judged : Result (List Verdict) Refusal) → Judges texts judged → IsYesToAll certificates judged
+    by : (judged : Result (List Verdict) Fault) → Judges texts judged → IsYesToAll certificates judged
     by (Ok verdicts) judged =
         let one = same_script (script_of texts.script) judged.checked.script script judged.has.script is in
         let two = same_certificates (certificates_of texts.certificates) judged.checked.certificates certificates judged.has.certificates reads in
         let first = subst (λ (s : DescribedScript). AreVerdicts s.sections judged.checked.certificates verdicts) one judged.verdicts_are in
         all_yes 0 script.sections certificates verdicts are (subst (λ (cs : List Certified). AreVerdicts script.sections cs verdicts) two first)
-    by (Err (Script fault line)) refused = let wrong = sym is ∙ refused in absurd (cc)
-    by (Err (BadCertificate line)) refuses = let wrong = sym reads ∙ refuses.refused in absurd (cc)
+    by (Err (Script (script_fault.Refused what line word earlier) told)) refused = let wrong = sym is ∙ refused.1 in absurd (cc)
+    by (Err (Script script_fault.OutOfMemory told)) any = refl
+    by (Err (Certificate (cert_fault.BadCertificate line))) refuses = let wrong = sym reads ∙ refuses.refused in absurd (cc)
+    by (Err (Certificate cert_fault.OutOfMemory)) any = refl
     by (Err SectionsDiffer) judged =
         let one = same_script (script_of texts.script) judged.checked.script script judged.has.script is in
         let two = same_certificates (certificates_of texts.certificates) judged.checked.certificates certificates judged.has.certificates reads in
@@ -121,11 +127,13 @@ all_accepted texts script certificates judged is holds are printed judges = by j
         absurd (cc)
     by (Err OutOfMemory) any = refl
     by (Err (Listing fault)) never = absurd never
-    by (Err InputUnreadable) never = absurd never
-    by (Err InputTooLong) never = absurd never
+    by (Err (Input fault)) never = absurd never
+    by (Err (Prepare fault)) never = absurd never
+    by (Err (Unreadable path)) never = absurd never
+    by (Err (Unwritable path)) never = absurd never
 
 -- .. which `link` gave
-pub accepted : (texts : Texts) (script : DescribedScript) (l : CertifiedContainer) (judged : Result (List Verdict) Refusal)
+pub accepted : (texts : Texts) (script : DescribedScript) (l : CertifiedContainer) (judged : Result (List Verdict) Fault)
     → script_of texts.script ≡ Ok script → IsCertifiedLink script l → texts.certificates ≡ certificates_text l.certificates → Judges texts judged → IsYesToAll l.certificates judged
 accepted texts script l judged is linked printed judges =
     let are = subst (AreCertified 0 script.sections) (sym linked.certificates) linked.linked.certified in

@@ -18,8 +18,8 @@ use Rattle.pef_tool.specs.Kept.Rooted.{RootEnds, RootOutcome, root_answer}
 use Rattle.pef_tool.specs.Kept.Rooted as rooted
 use Rattle.pef_tool.specs.Limits.{memory_limit}
 use Rattle.pef_tool.specs.Load.{LoadEnds, LoadOutcome, StopsAt, WereRead, first_name, load_answer, loads, paired, refuses}
-use Rattle.pef_tool.specs.declared.reading.ReadingFault.{ReadingFault}
-use Rattle.pef_tool.specs.declared.reading.ReadingFault.TheVariants.{Unreadable, OutOfMemory}
+use Rattle.pef_faults.specs.declared.fault.Fault.{Fault}
+use Rattle.pef_faults.specs.declared.fault.Fault.TheVariants.{Script, Listing, Certificate, SectionsDiffer, Input, Prepare, Unreadable, Unwritable, OutOfMemory}
 
 module _ {F : Type 0} (port : FilesPort F) where
   -- one file more
@@ -63,7 +63,7 @@ module _ {F : Type 0} (port : FilesPort F) where
       ∙ ap (λ n. named_path x ∷ (map named_path (take k xs) ++ named_path (get_or xs k d) ∷ map named_path (drop n (x ∷ xs)))) (sym more)
 
   -- a file that can't be read stops the reading
-  pub stops : (before between after : F) (xs : List NamedFile) (i : ℕ) (d : NamedFile) (contents : List (List ℕ)) (fault : ReadingFault)
+  pub stops : (before between after : F) (xs : List NamedFile) (i : ℕ) (d : NamedFile) (contents : List (List ℕ)) (fault : Fault)
       → i < length xs → WereRead port before between (map named_path (take i xs)) contents → StopsFile port between after (get_or xs i d).path.now fault → StopsReading port before after (map named_path xs) fault
   stops before between after xs i d contents (Unreadable told) under read stop =
       let P : List ℕ → Type 0 = λ path. StopsAt port before after (map named_path xs) path file_fault.Failed in
@@ -93,6 +93,13 @@ module _ {F : Type 0} (port : FilesPort F) where
           stops = stop;
         },
       )
+  stops before between after xs i d contents (Unwritable told) under read stop = absurd stop
+  stops before between after xs i d contents (Script f told) under read stop = absurd stop
+  stops before between after xs i d contents (Listing f) under read stop = absurd stop
+  stops before between after xs i d contents (Certificate f) under read stop = absurd stop
+  stops before between after xs i d contents SectionsDiffer under read stop = absurd stop
+  stops before between after xs i d contents (Input f) under read stop = absurd stop
+  stops before between after xs i d contents (Prepare f) under read stop = absurd stop
 
   -- an allocation failed after the first files
   pub lacks-after : (before after : F) (xs : List NamedFile) (i : ℕ) (contents : List (List ℕ)) → WereRead port before after (map named_path (take i xs)) contents → StopsReading port before after (map named_path xs) OutOfMemory
@@ -111,7 +118,7 @@ module _ {F : Type 0} (port : FilesPort F) where
   pub root-loads : (before after : F) (named : List (List ℕ × List ℕ)) (contents : List (List ℕ)) (root : RootOutcome) → WereRead port before after named contents → RootEnds (paired named contents) (first_name named) root
       → (outcome : LoadOutcome) × LoadEnds port before after named outcome × (root_answer root ≡ load_answer outcome)
   root-loads before after named contents (rooted.prepares s number) read ends = (loads s number, record { contents = contents; read = read; prepared = ends }, refl)
-  root-loads before after named contents (rooted.refuses fault) read ends = (refuses fault, record { contents = contents; read = read; refused = ends }, refl)
+  root-loads before after named contents (rooted.refuses fault) read ends = (refuses (Prepare fault), record { contents = contents; read = read; refused = ends }, refl)
 
 -- there are files
 pub some-files : (xs : List NamedFile) (empty : Bool) → empty ≡ (length xs == 0) → empty ≡ false → 0 < length xs

@@ -10,6 +10,7 @@ use Rattle.cfm_closure.specs.declared.fault.BindFault.TheVariants as bind_fault
 use Rattle.cfm_closure.specs.Closures.{Closed, closed_of}
 use Rattle.cfm_closure.specs.Promises.{AllRead, IsOfBinding}
 use Rattle.cfm_closure.proofs.Laws.{closed-refused}
+use Rattle.cfm_prepare.proofs.Laws.{lacks-room}
 use Rattle.cfm_prepare.specs.Prepared.{entry_address}
 use Rattle.cfm_memory.specs.Extents.{LackRoom, no_instances}
 use Rattle.cfm_prepare.specs.Fragments.{extents_in, places_of}
@@ -20,7 +21,7 @@ use Rattle.cfm_prepare.specs.Readers.{entries_of, main_address}
 use Rattle.cfm_prepare.specs.Steps.{MayNotPrepare, Prepares}
 use Rattle.cfm_prepare.specs.declared.fault.PrepareFault.{PrepareFault}
 use Rattle.cfm_prepare.specs.declared.fault.PrepareFault.TheVariants as prepare_fault
-use Rattle.pef_tool.specs.declared.answers.refusal.Refusal.TheVariants.{OutOfMemory}
+use Rattle.pef_faults.specs.declared.fault.Fault.TheVariants.{Prepare}
 use Rattle.pef_loader.specs.Loader.{init_of, main_of, term_of}
 use Rattle.pef_script.specs.Script.{DescribedScript}
 use Rattle.pef_write.specs.Linked.{IsLinked, LinkedContainer}
@@ -30,20 +31,20 @@ use Rattle.pef_tool.specs.Kept.Showing.{ScriptEnds}
 use Rattle.pef_tool.specs.Limits.{memory_limit}
 use Rattle.pef_headline.specs.Now.{described_extents}
 use Rattle.pef_headline.specs.Others.{HasForeign}
-use Rattle.pef_tool.specs.Show.{FailsToBind, IsShown, ShowOutcome, single_store, refuses, show_answer, shows, unbound, unplaced, unplaced_answer}
+use Rattle.pef_tool.specs.Show.{FailsToBind, IsShown, ShowOutcome, single_store, refuses, show_answer, shows}
 use Rattle.pef_tool.proofs.AloneLemmas.{is-found, new-is, open-is, prepared-alone, root-is}
 use Rattle.pef_headline.proofs.Laws.{described-from, extents-in, extents_are, linked-read, linked_fragment, loader-is, read_as_linked, refused-image, refused-program}
 
 -- if all fragments are read, the refusal of a closure isn't because of their bytes
 fails_to_bind : (bytes : List ℕ) (fault : BindFault) → ((r : BindRefusal) → closed_of (single_store bytes) 0 ≡ Err r → IsOfBinding r) → FailsAs fault (closed_of (single_store bytes) 0) → FailsToBind bytes fault
 fails_to_bind bytes (bind_fault.Container f v) of fails = of _ fails
-fails_to_bind bytes (bind_fault.Loader f v) of fails = of _ fails
-fails_to_bind bytes (bind_fault.LibraryMissing f l) of fails = fails
-fails_to_bind bytes (bind_fault.SymbolMissing f l s) of fails = fails
-fails_to_bind bytes (bind_fault.ImplementationTooOld f l) of fails = fails
-fails_to_bind bytes (bind_fault.ImplementationTooNew f l) of fails = fails
-fails_to_bind bytes (bind_fault.ReexportLoop f s) of fails = fails
-fails_to_bind bytes (bind_fault.InitLoop f) of fails = fails
+fails_to_bind bytes (bind_fault.Loader f v place) of fails = of _ fails
+fails_to_bind bytes (bind_fault.LibraryMissing f l place) of fails = fails
+fails_to_bind bytes (bind_fault.SymbolMissing f l s place) of fails = fails
+fails_to_bind bytes (bind_fault.ImplementationTooOld f l place needed found) of fails = fails
+fails_to_bind bytes (bind_fault.ImplementationTooNew f l place needed found) of fails = fails
+fails_to_bind bytes (bind_fault.ReexportLoop f s place) of fails = fails
+fails_to_bind bytes (bind_fault.InitLoop f place) of fails = fails
 fails_to_bind bytes bind_fault.OutOfMemory of fails = fails
 
 -- the elements of a list with the first position alone
@@ -127,27 +128,29 @@ module _ (script : DescribedScript) (k : LinkedContainer) (linked : IsLinked scr
   unprepared prepare_fault.TooManyConnections why = absurd (omega (arith, why))
   unprepared prepare_fault.RootMissing why = absurd (is-found k.bytes why.1)
   unprepared (prepare_fault.Bind f) why = record {
-    outcome = unbound f;
+    outcome = refuses (Prepare (prepare_fault.Bind f));
     ends = record { container = k; linked = linked; fails = lacks_closure why.0.root f (root-is k.bytes why.0.root why.0.is) why.1 };
     said = refl;
   }
-  unprepared (prepare_fault.Fragment (fragment_fault.NoRoom f)) why =
-      let lacks = no_room _ f.now (new-is k.bytes memory_limit why.closure) why.why in
+  unprepared (prepare_fault.Fragment (fragment_fault.NoRoom f place)) why =
+      let lacks = no_room _ f.now (new-is k.bytes memory_limit why.closure) (lacks-room _ _ _ f.now place why.why) in
       record {
-        outcome = unplaced;
+        outcome = refuses (Prepare (prepare_fault.Fragment (fragment_fault.NoRoom f place)));
         ends = record {
           container = k;
           linked = linked;
           closed = why.closure.closed;
           closure = closure_there why.closure.has.root why.closure.closed (root-is k.bytes why.closure.has.root why.closure.has.is) why.closure.is;
           lacks = lacks.0;
+          refused = why;
+          said = lacks.1;
         };
-        said = ap unplaced_answer (sym lacks.1);
+        said = refl;
       }
-  unprepared (prepare_fault.Fragment (fragment_fault.Pack f e)) why = absurd (all_linked _ f.now (new-is k.bytes memory_limit why.closure) (refused-image alone (no_instances memory_limit) _ f.now e why.why))
-  unprepared (prepare_fault.Fragment (fragment_fault.Reloc f e)) why = absurd (all_linked _ f.now (new-is k.bytes memory_limit why.closure) (refused-program alone [] (no_instances memory_limit) _ f.now e why.why))
-  unprepared (prepare_fault.Fragment fragment_fault.OutOfMemory) why = record { outcome = refuses OutOfMemory; ends = refl; said = refl }
-  unprepared prepare_fault.OutOfMemory why = record { outcome = refuses OutOfMemory; ends = refl; said = refl }
+  unprepared (prepare_fault.Fragment (fragment_fault.Pack f e place)) why = absurd (all_linked _ f.now (new-is k.bytes memory_limit why.closure) (refused-image alone (no_instances memory_limit) _ f.now (record { fault = e; place = place }) why.why))
+  unprepared (prepare_fault.Fragment (fragment_fault.Reloc f e section place)) why = absurd (all_linked _ f.now (new-is k.bytes memory_limit why.closure) (refused-program alone [] (no_instances memory_limit) _ f.now (record { fault = e; section = section; place = place }) why.why))
+  unprepared (prepare_fault.Fragment fragment_fault.OutOfMemory) why = record { outcome = refuses (Prepare (prepare_fault.Fragment fragment_fault.OutOfMemory)); ends = tt; said = refl }
+  unprepared prepare_fault.OutOfMemory why = record { outcome = refuses (Prepare prepare_fault.OutOfMemory); ends = tt; said = refl }
 
   -- `show` ends with it as its preparation does
   pub root-shown : (root : RootOutcome) → RootEnds alone (codes "it") root → EndsRooted script root

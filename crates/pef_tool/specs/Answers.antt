@@ -1,3 +1,2 @@
 pub mod Answers
-pub mod Refusals
-pub mod Reported
+pub mod Faults

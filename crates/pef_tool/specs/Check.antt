@@ -12,13 +12,16 @@ use Rattle.pef_reloc.specs.declared.fixup.Fixup.{Fixup}
 use Rattle.pef_script.specs.Text.Grammar.{script_of}
 use Rattle.pef_script.specs.Script.{DescribedScript, DescribedSection}
 use Rattle.pef_tool.specs.Answers.Answers.{Answer}
-use Rattle.pef_tool.specs.Answers.Refusals.{refusal_answer, unreadable_answer}
+use Rattle.pef_tool.specs.Answers.Faults.{fault_answer}
 use Rattle.pef_tool.specs.declared.answers.outcome.Outcome.{Outcome}
 use Rattle.pef_tool.specs.declared.answers.outcome.Outcome.TheVariants.{Done, SaidNo}
 use Rattle.pef_tool.specs.declared.check.Verdict.{Verdict}
 use Rattle.pef_tool.specs.declared.check.Verdict.TheVariants.{Yes, No}
-use Rattle.pef_tool.specs.declared.answers.refusal.Refusal.{Refusal}
-use Rattle.pef_tool.specs.declared.answers.refusal.Refusal.TheVariants.{BadCertificate, OutOfMemory, Script, SectionsDiffer}
+use Rattle.pef_cert.specs.declared.text.fault.CertFault.{CertFault}
+use Rattle.pef_cert.specs.declared.text.fault.CertFault.TheVariants as cert_fault
+use Rattle.pef_faults.specs.declared.fault.Fault.{Fault}
+use Rattle.pef_faults.specs.declared.fault.Fault.TheVariants.{Certificate, OutOfMemory, Script, SectionsDiffer, Unreadable}
+use Rattle.pef_script.specs.Text.Reads.{FailsAs}
 
 -- the verdict on a certificate for some fixups: yes, with its program's length in halfwords, exactly if it is valid
 abbrev pub IsVerdict : List Fixup → Certified → Verdict → Type 0
@@ -73,12 +76,17 @@ pub record DiffersInSections (texts : Texts) : Type 0 where
   pub has : HasChecked texts checked
   pub differ : match_sections checked.script checked.certificates ≡ false
 
--- the result for two texts: verdicts, or the first refusal of SCRIPT's text, else of CERT's, else that sections differ.
+-- why certificates aren't read: a line of them is refused, or an allocation failed
+abbrev pub RefusesReading : Texts → CertFault → Type 0
+RefusesReading texts (cert_fault.BadCertificate line) = RefusesCertificates texts line
+RefusesReading texts cert_fault.OutOfMemory = ⊤
+
+-- the result for two texts: verdicts, or the first error of SCRIPT's text, else of CERT's, else that sections differ.
 -- Or an allocation failed.
-abbrev pub Judges : Texts → Result (List Verdict) Refusal → Type 0
+abbrev pub Judges : Texts → Result (List Verdict) Fault → Type 0
 Judges texts (Ok verdicts) = HasVerdicts texts verdicts
-Judges texts (Err (Script fault line)) = script_of texts.script ≡ Err (record { fault = fault; line = line })
-Judges texts (Err (BadCertificate line)) = RefusesCertificates texts line
+Judges texts (Err (Script fault told)) = (told.now ≡ texts.script) × FailsAs fault (script_of texts.script)
+Judges texts (Err (Certificate fault)) = RefusesReading texts fault
 Judges texts (Err SectionsDiffer) = DiffersInSections texts
 Judges texts (Err OutOfMemory) = ⊤
 Judges texts (Err _) = ⊥
@@ -90,7 +98,7 @@ pub record ReadsSecond {F : Type 0} (port : FilesPort F) (before after : F) (scr
   pub second : Reads port between after cert answer
 
 -- both files were read, and this is the result for their texts
-pub record JudgesFiles {F : Type 0} (port : FilesPort F) (before after : F) (script cert : List ℕ) (judged : Result (List Verdict) Refusal) : Type 0 where
+pub record JudgesFiles {F : Type 0} (port : FilesPort F) (before after : F) (script cert : List ℕ) (judged : Result (List Verdict) Fault) : Type 0 where
   pub texts : Texts
   pub read : ReadsSecond port before after script cert texts.script (Ok texts.certificates)
   pub are : Judges texts judged
@@ -102,18 +110,22 @@ ReadingLacksMemory port before after script cert =
     ⊎ Reads port before after script (Err file_fault.OutOfMemory)
     ⊎ ((text : List ℕ) × ReadsSecond port before after script cert text (Err file_fault.OutOfMemory))
 
--- how `check` ends: SCRIPT or CERT can't be read, an allocation for reading failed, or their texts are judged
+-- why the two files aren't both read: one of them can't be read, or an allocation failed
+abbrev pub RefusesFiles : {F : Type 0} → FilesPort F → F → F → List ℕ → List ℕ → Fault → Type 0
+RefusesFiles port before after script cert (Unreadable path) =
+    ((path.now ≡ script) × Reads port before after script (Err file_fault.Failed))
+    ⊎ ((path.now ≡ cert) × ((text : List ℕ) × ReadsSecond port before after script cert text (Err file_fault.Failed)))
+RefusesFiles port before after script cert OutOfMemory = ReadingLacksMemory port before after script cert
+RefusesFiles port before after script cert _ = ⊥
+
+-- how `check` ends: SCRIPT and CERT aren't read, or their texts are judged
 pub data CheckOutcome : Type 0 where
-  no_script : CheckOutcome
-  no_certificates : CheckOutcome
-  lacks_memory : CheckOutcome
-  judges : Result (List Verdict) Refusal → CheckOutcome
+  refuses : Fault → CheckOutcome
+  judges : Result (List Verdict) Fault → CheckOutcome
 
 -- when it ends in this way, by the states of the files before and after
 abbrev pub CheckEnds : {F : Type 0} → FilesPort F → F → F → List ℕ → List ℕ → CheckOutcome → Type 0
-CheckEnds port before after script cert no_script = Reads port before after script (Err file_fault.Failed)
-CheckEnds port before after script cert no_certificates = (text : List ℕ) × ReadsSecond port before after script cert text (Err file_fault.Failed)
-CheckEnds port before after script cert lacks_memory = ReadingLacksMemory port before after script cert
+CheckEnds port before after script cert (refuses fault) = RefusesFiles port before after script cert fault
 CheckEnds port before after script cert (judges judged) = JudgesFiles port before after script cert judged
 
 -- the line of the verdict on section k's certificate
@@ -133,17 +145,15 @@ verdicts_outcome (Yes halfwords ∷ verdicts) = verdicts_outcome verdicts
 verdicts_outcome (No ∷ verdicts) = SaidNo
 
 -- the answer for two texts
-abbrev pub judged_answer : Result (List Verdict) Refusal → Answer
+abbrev pub judged_answer : Result (List Verdict) Fault → Answer
 judged_answer (Ok verdicts) = record { text = verdicts_text 0 verdicts; outcome = verdicts_outcome verdicts }
-judged_answer (Err refusal) = refusal_answer refusal
+judged_answer (Err fault) = fault_answer fault
 
 -- the answer for each end
-abbrev pub check_answer : List ℕ → List ℕ → CheckOutcome → Answer
-check_answer script cert no_script = unreadable_answer script
-check_answer script cert no_certificates = unreadable_answer cert
-check_answer script cert lacks_memory = refusal_answer OutOfMemory
-check_answer script cert (judges judged) = judged_answer judged
+abbrev pub check_answer : CheckOutcome → Answer
+check_answer (refuses fault) = fault_answer fault
+check_answer (judges judged) = judged_answer judged
 
 -- the answer of `check SCRIPT CERT`
 abbrev pub CheckAnswers : {F : Type 0} → FilesPort F → F → F → List ℕ → List ℕ → Answer → Type 0
-CheckAnswers port before after script cert answer = (outcome : CheckOutcome) × CheckEnds port before after script cert outcome × (answer ≡ check_answer script cert outcome)
+CheckAnswers port before after script cert answer = (outcome : CheckOutcome) × CheckEnds port before after script cert outcome × (answer ≡ check_answer outcome)

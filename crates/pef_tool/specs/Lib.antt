@@ -12,3 +12,4 @@ pub mod Loaded
 pub mod Request
 pub mod Show
 pub mod Explain
+pub mod Notes

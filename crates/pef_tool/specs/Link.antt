@@ -6,18 +6,18 @@ use Rattle.pef_ports.specs.declared.ports.FileFault.{FileFault}
 use Rattle.pef_ports.specs.declared.ports.FileFault.TheVariants as file_fault
 use Rattle.pef_script.specs.Text.Grammar.{script_of}
 use Rattle.pef_script.specs.Script.{DescribedScript}
-use Rattle.pef_script.specs.declared.text.fault.LineFault.{LineFault}
-use Rattle.pef_tool.specs.declared.answers.refusal.Refusal.{Refusal}
-use Rattle.pef_tool.specs.declared.answers.refusal.Refusal.TheVariants.{Script, OutOfMemory}
+use Rattle.pef_script.specs.Text.Reads.{FailsAs}
+use Rattle.pef_script.specs.declared.text.fault.ScriptFault.{ScriptFault}
+use Rattle.pef_faults.specs.declared.fault.Fault.{Fault}
+use Rattle.pef_faults.specs.declared.fault.Fault.TheVariants.{Script, Unreadable, Unwritable, OutOfMemory}
 use Rattle.pef_tool.specs.Answers.Answers.{Answer, answer_done}
-use Rattle.pef_tool.specs.Answers.Refusals.{refusal_answer, unreadable_answer, unwritable_answer}
+use Rattle.pef_tool.specs.Answers.Faults.{fault_answer}
 use Rattle.pef_write.specs.Linked.{IsLinked, LinkedContainer}
 
--- SCRIPT was read and isn't a script, by its first refusal
-pub record RefusesFile {F : Type 0} (port : FilesPort F) (before after : F) (path : List ℕ) (fault : LineFault) (line : ℕ) : Type 0 where
-  pub text : List ℕ
+-- SCRIPT was read, has this text, and isn't a script, for this reason
+pub record RefusesFile {F : Type 0} (port : FilesPort F) (before after : F) (path : List ℕ) (fault : ScriptFault) (text : List ℕ) : Type 0 where
   pub read : Reads port before after path (Ok text)
-  pub refused : script_of text ≡ Err (record { fault = fault; line = line })
+  pub refused : FailsAs fault (script_of text)
 
 -- SCRIPT was read, and its script was linked
 pub record LinksFile {F : Type 0} (port : FilesPort F) (before after : F) (path : List ℕ) (l : LinkedContainer) : Type 0 where
@@ -34,9 +34,10 @@ LinkingLacksMemory port before after script =
     ⊎ Reads port before after script (Err file_fault.OutOfMemory)
     ⊎ ((text : List ℕ) × Reads port before after script (Ok text))
 
--- why SCRIPT isn't linked, for a reason other than that it can't be read
-abbrev pub RefusesLinking : {F : Type 0} → FilesPort F → F → F → List ℕ → Refusal → Type 0
-RefusesLinking port before after script (Script fault line) = RefusesFile port before after script fault line
+-- why SCRIPT isn't linked
+abbrev pub RefusesLinking : {F : Type 0} → FilesPort F → F → F → List ℕ → Fault → Type 0
+RefusesLinking port before after script (Unreadable path) = (path.now ≡ script) × Reads port before after script (Err file_fault.Failed)
+RefusesLinking port before after script (Script fault text) = RefusesFile port before after script fault text.now
 RefusesLinking port before after script OutOfMemory = LinkingLacksMemory port before after script
 RefusesLinking port before after script _ = ⊥
 
@@ -52,25 +53,21 @@ LinkLacksMemory port before after script out =
     LinkingLacksMemory port before after script
     ⊎ ((l : LinkedContainer) × WritesLinked port before after script out l (Err file_fault.OutOfMemory))
 
--- why `link` is refused without a path
-abbrev pub LinkRefuses : {F : Type 0} → FilesPort F → F → F → List ℕ → List ℕ → Refusal → Type 0
-LinkRefuses port before after script out (Script fault line) = RefusesFile port before after script fault line
+-- why `link` is refused: SCRIPT can't be read or isn't a script, OUT can't be written, or an allocation failed
+abbrev pub LinkRefuses : {F : Type 0} → FilesPort F → F → F → List ℕ → List ℕ → Fault → Type 0
+LinkRefuses port before after script out (Unwritable path) = (path.now ≡ out) × ((l : LinkedContainer) × WritesLinked port before after script out l (Err file_fault.Failed))
 LinkRefuses port before after script out OutOfMemory = LinkLacksMemory port before after script out
-LinkRefuses port before after script out _ = ⊥
+LinkRefuses port before after script out fault = RefusesLinking port before after script fault
 
--- how `link` ends: it links a container, it can't read SCRIPT, it can't write OUT, or it is refused
+-- how `link` ends: it links a container, or it is refused
 pub data LinkOutcome : Type 0 where
   links : LinkedContainer → LinkOutcome
-  unreadable : LinkOutcome
-  unwritable : LinkOutcome
-  refuses : Refusal → LinkOutcome
+  refuses : Fault → LinkOutcome
 
 -- when it ends in this way, by the states of the files before and after
 abbrev pub LinkEnds : {F : Type 0} → FilesPort F → F → F → List ℕ → List ℕ → LinkOutcome → Type 0
 LinkEnds port before after script out (links l) = WritesLinked port before after script out l (Ok tt)
-LinkEnds port before after script out unreadable = Reads port before after script (Err file_fault.Failed)
-LinkEnds port before after script out unwritable = (l : LinkedContainer) × WritesLinked port before after script out l (Err file_fault.Failed)
-LinkEnds port before after script out (refuses refusal) = LinkRefuses port before after script out refusal
+LinkEnds port before after script out (refuses fault) = LinkRefuses port before after script out fault
 
 -- the line of a container's size in bytes
 unfoldable pub size_text : ℕ → List ℕ
@@ -90,12 +87,10 @@ abbrev pub linked_text : LinkedContainer → List ℕ
 linked_text l = size_text (length l.bytes) ++ lengths_text 0 l.lengths
 
 -- the answer for each end
-abbrev pub link_answer : List ℕ → List ℕ → LinkOutcome → Answer
-link_answer script out (links l) = answer_done (linked_text l)
-link_answer script out unreadable = unreadable_answer script
-link_answer script out unwritable = unwritable_answer out
-link_answer script out (refuses refusal) = refusal_answer refusal
+abbrev pub link_answer : LinkOutcome → Answer
+link_answer (links l) = answer_done (linked_text l)
+link_answer (refuses fault) = fault_answer fault
 
 -- the answer of `link SCRIPT OUT`
 abbrev pub LinkAnswers : {F : Type 0} → FilesPort F → F → F → List ℕ → List ℕ → Answer → Type 0
-LinkAnswers port before after script out answer = (outcome : LinkOutcome) × LinkEnds port before after script out outcome × (answer ≡ link_answer script out outcome)
+LinkAnswers port before after script out answer = (outcome : LinkOutcome) × LinkEnds port before after script out outcome × (answer ≡ link_answer outcome)

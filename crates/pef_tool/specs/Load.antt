@@ -12,8 +12,9 @@ use Rattle.pef_ports.specs.declared.ports.FileFault.TheVariants as file_fault
 use Rattle.pef_tool.specs.Answers.Answers.{Answer, answer_done, answer_usage}
 use Rattle.pef_tool.specs.Limits.{memory_limit, most_files}
 use Rattle.pef_tool.specs.Loaded.{loaded_text}
-use Rattle.pef_tool.specs.Answers.Refusals.{prepare_refusal_answer, refusal_answer, unreadable_answer}
-use Rattle.pef_tool.specs.declared.answers.refusal.Refusal.TheVariants.{OutOfMemory}
+use Rattle.pef_tool.specs.Answers.Faults.{fault_answer}
+use Rattle.pef_faults.specs.declared.fault.Fault.{Fault}
+use Rattle.pef_faults.specs.declared.fault.Fault.TheVariants.{Prepare, Unreadable, OutOfMemory}
 
 -- files were read in order, one call each, and these are their bytes
 abbrev pub WereRead : {F : Type 0} → FilesPort F → F → F → List (List ℕ × List ℕ) → List (List ℕ) → Type 0
@@ -66,29 +67,30 @@ LoadLacksMemory port before after named =
     ((n : ℕ) × (contents : List (List ℕ)) × WereRead port before after (take n named) contents)
     ⊎ ((path : List ℕ) × StopsAt port before after named path file_fault.OutOfMemory)
 
--- how `load` ends: a fragment is prepared or isn't, a file can't be read, an allocation for reading failed, there are
--- no files, or there are too many
+-- why `load` is refused, by the states of the files before and after: the first fragment isn't prepared, a file can't be
+-- read, or an allocation for reading failed
+abbrev pub LoadRefuses : {F : Type 0} → FilesPort F → F → F → List (List ℕ × List ℕ) → Fault → Type 0
+LoadRefuses port before after named (Prepare fault) = RefusesFirst port before after named fault
+LoadRefuses port before after named (Unreadable path) = StopsAt port before after named path.now file_fault.Failed
+LoadRefuses port before after named OutOfMemory = LoadLacksMemory port before after named
+LoadRefuses port before after named _ = ⊥
+
+-- how `load` ends: a fragment is prepared, or `load` is refused, or there are no files or too many
 pub data LoadOutcome : Type 0 where
   loads : ContextState → ℕ → LoadOutcome
-  refuses : PrepareFault → LoadOutcome
-  unreadable : List ℕ → LoadOutcome
-  lacks_memory : LoadOutcome
+  refuses : Fault → LoadOutcome
   usage : LoadOutcome
 
 -- when it ends in this way, by the states of the files before and after
 abbrev pub LoadEnds : {F : Type 0} → FilesPort F → F → F → List (List ℕ × List ℕ) → LoadOutcome → Type 0
 LoadEnds port before after named (loads s number) = PreparesFirst port before after named s number
-LoadEnds port before after named (refuses fault) = RefusesFirst port before after named fault
-LoadEnds port before after named (unreadable path) = StopsAt port before after named path file_fault.Failed
-LoadEnds port before after named lacks_memory = LoadLacksMemory port before after named
+LoadEnds port before after named (refuses fault) = LoadRefuses port before after named fault
 LoadEnds port before after named usage = ((named ≡ []) ⊎ (most_files < length named)) × (after ≡ before)
 
 -- the answer for each end
 abbrev pub load_answer : LoadOutcome → Answer
 load_answer (loads s number) = answer_done (loaded_text s number)
-load_answer (refuses fault) = prepare_refusal_answer fault
-load_answer (unreadable path) = unreadable_answer path
-load_answer lacks_memory = refusal_answer OutOfMemory
+load_answer (refuses fault) = fault_answer fault
 load_answer usage = answer_usage
 
 -- the answer of `load NAME=FILE ..`

@@ -9,7 +9,7 @@ use Rattle.cfm_prepare.specs.Readers.{entries_of, main_address}
 use Rattle.cfm_prepare.specs.declared.entries.Entries.{Entries}
 use Rattle.pef_ports.specs.Names.{name_text}
 use Rattle.pef_tool.specs.Fragment.{PlacedSection, entry_text, placed_section, sections_text}
-use Rattle.pef_tool.specs.Answers.Refusals.{name_end}
+use Rattle.pef_tool.specs.Answers.Faults.{name_end}
 
 -- the name of the fragment at a position in the store
 abbrev pub fragment_name : ContextState → ℕ → List ℕ

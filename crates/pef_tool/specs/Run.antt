@@ -9,12 +9,12 @@ use Rattle.pef_tool.specs.Check.{CheckAnswers}
 use Rattle.pef_tool.specs.Distances.{DistancesAnswers}
 use Rattle.pef_tool.specs.Link.{LinkAnswers}
 use Rattle.pef_tool.specs.List.{ListAnswers}
-use Rattle.pef_tool.specs.Answers.Refusals.{refusal_answer}
-use Rattle.pef_tool.specs.declared.answers.refusal.Refusal.TheVariants.{OutOfMemory}
+use Rattle.pef_tool.specs.Answers.Faults.{fault_answer}
+use Rattle.pef_faults.specs.declared.fault.Fault.TheVariants.{OutOfMemory}
 
 -- the answer to words that are no command. Before that is known, an allocation may fail.
 abbrev pub UsageAnswers : Answer → Type 0
-UsageAnswers answer = (answer ≡ answer_usage) ⊎ (answer ≡ refusal_answer OutOfMemory)
+UsageAnswers answer = (answer ≡ answer_usage) ⊎ (answer ≡ fault_answer OutOfMemory)
 
 -- the answer of a run, by its command line, and by the states of the files and the input before and after. Those that a
 -- command doesn't use are unchanged.

@@ -1,6 +1,6 @@
 -- The answer of `show` (README; docs/RULES.md, "A fragment alone"). It reads the whole input, and shows the memory that
 -- its script describes.
-use Rattle.std.specs.Prelude.{◌≡◌, ℕ, ◌≤◌, List, [], ◌∷◌, Some, Ok, Err, codes, length}
+use Rattle.std.specs.Prelude.{◌≡◌, ℕ, ◌≤◌, List, [], ◌∷◌, Some, Ok, codes, length}
 use Rattle.cfm_closure.specs.Stores.{Pair}
 use Rattle.cfm_closure.specs.Faults.{FailsAs}
 use Rattle.cfm_closure.specs.declared.fault.BindFault.{BindFault}
@@ -9,21 +9,25 @@ use Rattle.cfm_closure.specs.Closures.{Closed, closed_of}
 use Rattle.cfm_prepare.specs.Prepared.{entry_address}
 use Rattle.cfm_prepare.specs.declared.entries.Entries.{Entries}
 use Rattle.cfm_memory.specs.Extents.{LackRoom, given_back, no_instances}
-use Rattle.cfm_memory.specs.Faults as memory
-use Rattle.cfm_memory.specs.declared.place.MemoryFault.TheVariants.{NoRoom}
 use Rattle.cfm_memory.specs.declared.place.Place.{Place}
 use Rattle.cfm_prepare.specs.Fragments.{places_of}
 use Rattle.cfm_prepare.specs.Contexts.{ContextState, fresh_state}
-use Rattle.cfm_prepare.specs.Steps.{Prepares}
-use Rattle.pef_tool.specs.Answers.Answers.{Answer, answer_done, answer_refused}
-use Rattle.pef_tool.specs.Answers.Refusals.{bind_refusal_answer, refusal_answer, fragment_end}
-use Rattle.pef_tool.specs.declared.answers.refusal.Refusal.{Refusal}
-use Rattle.pef_tool.specs.declared.answers.refusal.Refusal.TheVariants.{Script, InputUnreadable, InputTooLong, OutOfMemory}
+use Rattle.cfm_prepare.specs.Steps.{MayNotPrepare, Prepares}
+use Rattle.cfm_prepare.specs.declared.fault.PrepareFault.{PrepareFault}
+use Rattle.cfm_prepare.specs.declared.fault.PrepareFault.TheVariants as prepare_fault
+use Rattle.cfm_prepare.specs.declared.fragment_fault.FragmentFault.TheVariants as fragment_fault
+use Rattle.pef_tool.specs.Answers.Answers.{Answer, answer_done}
+use Rattle.pef_tool.specs.Answers.Faults.{fault_answer}
+use Rattle.pef_faults.specs.declared.fault.Fault.{Fault}
+use Rattle.pef_faults.specs.declared.fault.Fault.TheVariants.{Script, Input, Prepare, OutOfMemory}
+use Rattle.pef_ports.specs.declared.input.InputFault.{InputFault}
+use Rattle.pef_ports.specs.declared.input.InputFault.TheVariants as input_fault
 use Rattle.pef_ports.specs.Input.{IsLonger, IsWhole, WasReadWithin}
 use Rattle.pef_ports.specs.Ports.{Stream, LastFailed, NoneFailed}
 use Rattle.pef_script.specs.Text.Grammar.{script_of}
 use Rattle.pef_script.specs.Script.{DescribedScript}
-use Rattle.pef_script.specs.declared.text.fault.LineFault.{LineFault}
+use Rattle.pef_script.specs.Text.Reads.{FailsAs as FailsToRead}
+use Rattle.pef_script.specs.declared.text.fault.ScriptFault.{ScriptFault}
 use Rattle.pef_tool.specs.Limits.{input_limit, memory_limit}
 use Rattle.pef_tool.specs.Loaded.{entries_in, fragment_name, init_order_in, loaded_text, main_in, order_in}
 use Rattle.pef_headline.specs.Now.{IsDescribedNow, described_extents}
@@ -71,7 +75,7 @@ pub record IsShown (script : DescribedScript) (s : ContextState) (number : ℕ) 
 -- be read.
 abbrev pub FailsToBind : List ℕ → BindFault → Type 0
 FailsToBind bytes (bind_fault.Container f v) = ⊥
-FailsToBind bytes (bind_fault.Loader f v) = ⊥
+FailsToBind bytes (bind_fault.Loader f v place) = ⊥
 FailsToBind bytes fault = FailsAs fault (closed_of (single_store bytes) 0)
 
 -- the container that is linked of a script has no closure alone, or an allocation for it failed
@@ -80,14 +84,21 @@ pub record LacksClosure (script : DescribedScript) (fault : BindFault) : Type 0 
   pub linked : IsLinked script container
   pub fails : FailsToBind container.bytes fault
 
+-- an error says that there is no room for a fragment with this name
+abbrev pub SaysNoRoom : PrepareFault → List ℕ → Type 0
+SaysNoRoom (prepare_fault.Fragment (fragment_fault.NoRoom f place)) name = f.now ≡ name
+SaysNoRoom _ name = ⊥
+
 -- the container that is linked of a script has a closure alone, but there is no room for one of the script's sections
--- after those before it, in memory without instances
-pub record LacksPlaces (script : DescribedScript) : Type 0 where
+-- after those before it, in memory without instances, and this error of its preparation says so
+pub record LacksPlaces (script : DescribedScript) (fault : PrepareFault) : Type 0 where
   pub container : LinkedContainer
   pub linked : IsLinked script container
   pub closed : Closed
   pub closure : closed_of (single_store container.bytes) 0 ≡ Ok closed
   pub lacks : LackRoom (no_instances memory_limit) (described_extents script)
+  pub refused : MayNotPrepare (fresh_state (single_store container.bytes) memory_limit) (codes "it") fault
+  pub said : SaysNoRoom fault (codes "it")
 
 -- the input is a script, and this is shown of it
 pub record ShowsInput (before after : Stream) (s : ContextState) (number : ℕ) : Type 0 where
@@ -106,53 +117,54 @@ pub record IsUnbound (before after : Stream) (fault : BindFault) : Type 0 where
   pub lacks : LacksClosure script fault
 
 -- the input is a script, and there is no room for its sections
-pub record IsUnplaced (before after : Stream) : Type 0 where
+pub record IsUnplaced (before after : Stream) (fault : PrepareFault) : Type 0 where
   pub text : List ℕ
   pub input : WasRead before after text
   pub script : DescribedScript
   pub is_script : script_of text ≡ Ok script
-  pub lacks : LacksPlaces script
+  pub lacks : LacksPlaces script fault
 
--- the input isn't a script, by its first refusal
-pub record RefusesInput (before after : Stream) (fault : LineFault) (line : ℕ) : Type 0 where
-  pub text : List ℕ
+-- the input has this text, which isn't a script, for this reason
+pub record RefusesInput (before after : Stream) (fault : ScriptFault) (text : List ℕ) : Type 0 where
   pub input : WasRead before after text
-  pub refused : script_of text ≡ Err (record { fault = fault; line = line })
+  pub refused : FailsToRead fault (script_of text)
 
--- why `show` is refused: a line of the input is refused, and the first such line is reported. Or the input failed at
--- its last call, the input is too long, or an allocation failed before more than the limit was read.
-abbrev pub ShowRefuses : Stream → Stream → Refusal → Type 0
-ShowRefuses before after (Script fault line) = RefusesInput before after fault line
-ShowRefuses before after InputUnreadable = LastFailed before after
-ShowRefuses before after InputTooLong = IsLonger before.bytes input_limit × NoneFailed before after
-ShowRefuses before after OutOfMemory = WasReadWithin before after input_limit × NoneFailed before after
+-- an allocation failed before more than the limit was read
+abbrev pub ShowLacksMemory : Stream → Stream → Type 0
+ShowLacksMemory before after = WasReadWithin before after input_limit × NoneFailed before after
+
+-- why the input isn't read: it failed at its last call, it is too long, or an allocation failed
+abbrev pub RefusesToRead : Stream → Stream → InputFault → Type 0
+RefusesToRead before after input_fault.Unreadable = LastFailed before after
+RefusesToRead before after input_fault.TooLong = IsLonger before.bytes input_limit × NoneFailed before after
+RefusesToRead before after input_fault.OutOfMemory = ShowLacksMemory before after
+
+-- why `show` is refused: the input isn't read, or a line of it is refused, and the first such line is reported. Or the
+-- fragment has no closure, there is no room for its sections, or an allocation failed.
+abbrev pub ShowRefuses : Stream → Stream → Fault → Type 0
+ShowRefuses before after (Script fault text) = RefusesInput before after fault text.now
+ShowRefuses before after (Input fault) = RefusesToRead before after fault
+ShowRefuses before after (Prepare (prepare_fault.Bind fault)) = IsUnbound before after fault
+ShowRefuses before after (Prepare (prepare_fault.Fragment fragment_fault.OutOfMemory)) = ShowLacksMemory before after
+ShowRefuses before after (Prepare prepare_fault.OutOfMemory) = ShowLacksMemory before after
+ShowRefuses before after (Prepare fault) = IsUnplaced before after fault
+ShowRefuses before after OutOfMemory = ShowLacksMemory before after
 ShowRefuses before after _ = ⊥
 
--- how `show` ends: it shows a fragment's memory, the fragment has no closure, there is no room for its sections, or
--- `show` is refused before
+-- how `show` ends: it shows a fragment's memory, or it is refused
 pub data ShowOutcome : Type 0 where
   shows : ContextState → ℕ → ShowOutcome
-  unbound : BindFault → ShowOutcome
-  unplaced : ShowOutcome
-  refuses : Refusal → ShowOutcome
+  refuses : Fault → ShowOutcome
 
 -- when it ends in this way, by the states of the input before and after
 abbrev pub ShowEnds : Stream → Stream → ShowOutcome → Type 0
 ShowEnds before after (shows s number) = ShowsInput before after s number
-ShowEnds before after (unbound fault) = IsUnbound before after fault
-ShowEnds before after unplaced = IsUnplaced before after
-ShowEnds before after (refuses refusal) = ShowRefuses before after refusal
-
--- the answer for a fragment without room for its sections: 67, and its name
-abbrev pub unplaced_answer : List ℕ → Answer
-unplaced_answer name = answer_refused (memory.fault_number NoRoom) (memory.fault_name NoRoom) (fragment_end (Some name))
+ShowEnds before after (refuses fault) = ShowRefuses before after fault
 
 -- the answer for each end
 abbrev pub show_answer : ShowOutcome → Answer
 show_answer (shows s number) = answer_done (loaded_text s number)
-show_answer (unbound fault) = bind_refusal_answer fault
-show_answer unplaced = unplaced_answer (codes "it")
-show_answer (refuses refusal) = refusal_answer refusal
+show_answer (refuses fault) = fault_answer fault
 
 -- the answer of `show`
 abbrev pub ShowAnswers : Stream → Stream → Answer → Type 0

@@ -6,12 +6,11 @@ ghost use Rattle.pef_tool.specs.Check.{AreVerdicts, CheckAnswers, IsVerdict, Jud
 ghost use Rattle.pef_tool.specs.Kept.Judged.{JudgesRead, JudgesScript};
 ghost use Rattle.pef_words.specs.Refusals.{result_map};
 
-use crate::answers::{
-    Outcome, Refusal, Reply, certificate_refusal, deliver, deliver_detailed, script_refusal,
-};
-use crate::linking::refusal_detail;
+use crate::answers::{Outcome, Reply, deliver};
+use crate::linking::read_script;
 use crate::reading::read_file;
 use pef_cert::{Certificate, check};
+use pef_faults::Fault;
 use pef_ports::{Files, Page, Piece, Sink, StreamFault, print_pieces};
 use pef_reloc::Fixup;
 use pef_script::Script;
@@ -56,51 +55,52 @@ pub fn check_files<F: Files, W: Sink>(
     };
     match check_texts(alloc, text.as_slice(), certificates.as_slice()) {
         Ok(verdicts) => deliver(out, &verdicts),
-        Err(refusal) => {
-            let detail = refusal_detail(text.as_slice(), refusal);
-            deliver_detailed(out, &refusal, detail)
-        }
+        Err(fault) => deliver(out, &fault),
     }
 }
 
 /// Checks the certificates of a text for the sections of a script's text.
-fn check_texts(alloc: Global, script: &[u8], certificates: &[u8]) -> Result<Verdicts, Refusal>
+fn check_texts<'a>(
+    alloc: Global,
+    script: &'a [u8],
+    certificates: &[u8],
+) -> Result<Verdicts, Fault<'a>>
     ensures { Judges (record { script = script.now; certificates = certificates.now }) (result_map (λ v. v.verdicts.items) result) }
 {
-    match Script::read(alloc, script) {
+    match read_script(alloc, script) {
         Ok(script) => check_certificates(alloc, &script, certificates),
-        Err(fault) => Err(script_refusal(fault)),
+        Err(fault) => Err(fault),
     }
 }
 
 /// Checks the certificates of a text for the sections of a script.
-fn check_certificates(
+fn check_certificates<'a>(
     alloc: Global,
     script: &Script<'_>,
     certificates: &[u8],
-) -> Result<Verdicts, Refusal>
+) -> Result<Verdicts, Fault<'a>>
     ensures { JudgesScript script.now certificates.now (result_map (λ v. v.verdicts.items) result) }
 {
     match Certificate::read(alloc, certificates) {
         Ok(certificates) => judge(alloc, script, certificates.as_slice()),
-        Err(fault) => Err(certificate_refusal(fault)),
+        Err(fault) => Err(Fault::Certificate(fault)),
     }
 }
 
 /// Judges certificates for the sections of a script.
-fn judge(
+fn judge<'a>(
     alloc: Global,
     script: &Script<'_>,
     certificates: &[Certificate],
-) -> Result<Verdicts, Refusal>
+) -> Result<Verdicts, Fault<'a>>
     ensures { JudgesRead script.now certificates.now (result_map (λ v. v.verdicts.items) result) }
 {
     if !match_sections(script, certificates) {
-        return Err(Refusal::SectionsDiffer);
+        return Err(Fault::SectionsDiffer);
     }
     match check_sections(alloc, script, certificates) {
         Ok(verdicts) => Ok(Verdicts { verdicts }),
-        Err(_) => Err(Refusal::OutOfMemory),
+        Err(_) => Err(Fault::OutOfMemory),
     }
 }
 

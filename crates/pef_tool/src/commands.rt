@@ -2,12 +2,12 @@ ghost use Rattle.std.specs.Prelude.{◌≡◌, Some, map, string_bytes};
 ghost use Rattle.pef_tool.specs.Request.CommandLine.{asked_by};
 ghost use Rattle.pef_tool.specs.Request.Requests.{asked_of};
 ghost use Rattle.pef_tool.specs.Answers.Answers.{Answer, IsDelivered, status_of};
-ghost use Rattle.pef_tool.specs.Answers.Refusals.{refusal_answer};
-ghost use Rattle.pef_tool.specs.declared.answers.refusal.Refusal.TheVariants.{OutOfMemory};
+ghost use Rattle.pef_tool.specs.Answers.Faults.{fault_answer};
+ghost use Rattle.pef_faults.specs.declared.fault.Fault.TheVariants.{OutOfMemory};
 ghost use Rattle.pef_tool.specs.declared.answers.outcome.Outcome.{Outcome};
 ghost use Rattle.pef_tool.specs.Run.{RunAnswers};
 
-use crate::answers::{Outcome, Refusal, Usage, deliver};
+use crate::answers::{Outcome, Usage, deliver};
 use crate::check::check_files;
 use crate::distances::print_distances;
 use crate::link::link_files;
@@ -15,6 +15,7 @@ use crate::list::list_file;
 use crate::load::load_files;
 use crate::request::{Request, WordsFault, read_words};
 use crate::show::show_input;
+use pef_faults::Fault;
 use pef_ports::{Files, Sink, Source};
 use std::alloc::Global;
 
@@ -53,15 +54,15 @@ pub fn perform<F: Files, R: Source, W: Sink>(
     match read_words(alloc, words) {
         Ok(request) => run_request(alloc, request, files, input, out),
         Err(WordsFault::Usage) => deliver(out, &Usage),
-        Err(WordsFault::OutOfMemory) => deliver(out, &Refusal::OutOfMemory),
+        Err(WordsFault::OutOfMemory) => deliver(out, &Fault::OutOfMemory),
     }
 }
 
 /// Prints that an allocation failed before the words were parsed.
 pub fn out_of_memory<W: Sink>(out: &mut W) -> Outcome
-    ensures { IsDelivered (W.stream out.old) (W.stream out.new) (refusal_answer OutOfMemory) result }
+    ensures { IsDelivered (W.stream out.old) (W.stream out.new) (fault_answer OutOfMemory) result }
 {
-    deliver(out, &Refusal::OutOfMemory)
+    deliver(out, &Fault::OutOfMemory)
 }
 
 /// Runs the command of a request.

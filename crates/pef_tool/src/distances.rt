@@ -1,13 +1,12 @@
 ghost use Rattle.pef_tool.specs.Answers.Answers.{Answer, IsDelivered, answer_done};
 ghost use Rattle.pef_tool.specs.Distances.{DistancesAnswers};
-ghost use Rattle.pef_tool.specs.Kept.Linking.{CertifiesFrom, CertifiesText};
 
-use crate::answers::{Outcome, Refusal, Reply, deliver};
-use crate::linking::{ScriptRefusal, Unlinked, read_script};
+use crate::answers::{Outcome, Reply, deliver};
+use crate::linking::certify_text;
 use crate::reading::read_file;
 use pef_cert::Certificate;
+use pef_faults::Fault;
 use pef_ports::{Files, Page, Sink, StreamFault, send};
-use pef_write::{Linked, link};
 use std::alloc::Global;
 
 /// Links the script at a path, and prints the certificates. The certificate of a section states that no program is
@@ -24,45 +23,17 @@ pub fn print_distances<F: Files, W: Sink>(
         × DistancesAnswers (record { state = F.state; was_read = F.was_read; was_written = F.was_written }) files.old files.new script.now answer
         × IsDelivered (W.stream out.old) (W.stream out.new) answer result }
 {
-    let linked = match certify_file(alloc, files, script) {
+    let text = match read_file(alloc, files, script) {
+        Ok(text) => text,
+        Err(fault) => return deliver(out, &fault),
+    };
+    let linked = match certify_text(alloc, text.as_slice()) {
         Ok(linked) => linked,
-        Err(unlinked) => return deliver(out, &unlinked),
+        Err(fault) => return deliver(out, &fault),
     };
     match Certificate::print(alloc, linked.certificates()) {
         Ok(text) => deliver(out, &Distances { text }),
-        Err(_) => deliver(out, &Refusal::OutOfMemory),
-    }
-}
-
-/// Reads and links the script at a path, with certificates.
-fn certify_file<'a, F: Files>(
-    alloc: Global,
-    files: &mut F,
-    path: &'a [u8],
-) -> Result<Linked, Unlinked<'a>>
-    ensures { CertifiesFrom (record { state = F.state; was_read = F.was_read; was_written = F.was_written }) files.old files.new path.now result }
-{
-    let text = match read_file(alloc, files, path) {
-        Ok(text) => text,
-        Err(fault) => return Err(Unlinked::Unread(fault)),
-    };
-    match certify_text(alloc, text.as_slice()) {
-        Ok(linked) => Ok(linked),
-        Err(refused) => Err(Unlinked::Refused(refused)),
-    }
-}
-
-/// Parses and links the script in a text, with certificates.
-fn certify_text(alloc: Global, text: &[u8]) -> Result<Linked, ScriptRefusal>
-    ensures { CertifiesText text.now result }
-{
-    let script = match read_script(alloc, text) {
-        Ok(script) => script,
-        Err(refused) => return Err(refused),
-    };
-    match link(alloc, &script) {
-        Ok(linked) => Ok(linked),
-        Err(_) => Err(ScriptRefusal::OUT_OF_MEMORY),
+        Err(_) => deliver(out, &Fault::OutOfMemory),
     }
 }
 

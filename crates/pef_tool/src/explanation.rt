@@ -1,11 +1,11 @@
 ghost use Rattle.std.specs.Prelude.{◌++◌, ℕ, List, option_map};
-ghost use Rattle.pef_details.specs.Details.{end_text};
 ghost use Rattle.pef_tool.specs.Answers.Answers.{answer_done};
 ghost use Rattle.pef_tool.specs.Explain.{Explains, IsNoted, NotesHelp};
+ghost use Rattle.pef_tool.specs.Notes.Notes.{note_text};
 
 use crate::answers::{Outcome, Reply, deliver};
+use crate::notes::{Note, print_note};
 use crate::request::words_help;
-use pef_details::{Detail, print_detail};
 use pef_ports::{Page, Sink, StreamFault, send};
 use pef_refusals::help;
 use std::alloc::Global;
@@ -25,15 +25,15 @@ pub fn explain<W: Sink>(alloc: Global, words: &[String], outcome: Outcome, notes
 {
     match outcome {
         Outcome::Done | Outcome::SaidNo => {}
-        Outcome::Refused { number, detail } => note_help(notes, help(number), detail),
+        Outcome::Refused { number, note } => note_help(notes, help(number), note),
         Outcome::Usage => note_usage(alloc, words, notes),
         Outcome::OutputFailed => write_note(notes, OUTPUT_FAILED.as_bytes()),
     }
 }
 
-/// Writes the help for a refusal, if there is some, and the detail that is known.
-fn note_help<W: Sink>(notes: &mut W, text: Option<&'static str>, detail: Option<Detail>)
-    ensures { NotesHelp (option_map (λ text. text.now) text.entry) detail (W.stream notes.old) (W.stream notes.new) }
+/// Writes the help for an error, if there is some, and what else is known.
+fn note_help<W: Sink>(notes: &mut W, text: Option<&'static str>, note: Note)
+    ensures { NotesHelp (option_map (λ text. text.now) text.entry) note (W.stream notes.old) (W.stream notes.new) }
 {
     match text {
         Some(text) => {
@@ -41,7 +41,7 @@ fn note_help<W: Sink>(notes: &mut W, text: Option<&'static str>, detail: Option<
                 notes,
                 &HelpNote {
                     text: text.as_bytes(),
-                    detail,
+                    note,
                 },
             );
         }
@@ -63,16 +63,16 @@ fn note_usage<W: Sink>(alloc: Global, words: &[String], notes: &mut W)
 fn write_note<W: Sink>(notes: &mut W, text: &[u8])
     ensures { IsNoted (W.stream notes.old) (W.stream notes.new) text.now }
 {
-    deliver(notes, &Note { text });
+    deliver(notes, &TextNote { text });
 }
 
 /// A text.
 #[derive(Clone, Copy)]
-struct Note<'a> {
+struct TextNote<'a> {
     text: &'a [u8],
 }
 
-impl<'a> Reply for Note<'a> {
+impl<'a> Reply for TextNote<'a> {
     ghost answer = { λ note. answer_done note.text.now };
 
     fn outcome(&self) -> Outcome {
@@ -84,15 +84,15 @@ impl<'a> Reply for Note<'a> {
     }
 }
 
-/// The help for a refusal, and the detail that is known.
+/// The help for an error, and what else is known.
 #[derive(Clone, Copy)]
 struct HelpNote<'a> {
     text: &'a [u8],
-    detail: Option<Detail>,
+    note: Note,
 }
 
 impl<'a> Reply for HelpNote<'a> {
-    ghost answer = { λ note. answer_done (note.text.now ++ end_text note.detail) };
+    ghost answer = { λ note. answer_done (note.text.now ++ note_text note.note) };
 
     fn outcome(&self) -> Outcome {
         Outcome::Done
@@ -100,6 +100,6 @@ impl<'a> Reply for HelpNote<'a> {
 
     fn print<W: Sink>(&self, out: &mut W, page: &mut Page) -> Result<(), StreamFault> {
         send(out, page, self.text)?;
-        print_detail(out, page, self.detail)
+        print_note(out, page, &self.note)
     }
 }

@@ -3,8 +3,10 @@ ghost use Rattle.pef_ports.specs.Sent.{Sends};
 ghost use Rattle.pef_tool.specs.Answers.Answers.{Answer, IsDelivered, answer_done};
 ghost use Rattle.pef_tool.specs.Link.{LinkAnswers, length_text, lengths_text, linked_text, size_text};
 
-use crate::answers::{FileRefusal, Outcome, Refusal, Reply, deliver};
-use crate::linking::link_file;
+use crate::answers::{Outcome, Reply, deliver};
+use crate::linking::link_text;
+use crate::reading::read_file;
+use pef_faults::Fault;
 use pef_ports::{FileFault, Files, Page, Piece, Sink, StreamFault, print_pieces};
 use pef_write::LinkedContainer;
 use std::alloc::Global;
@@ -23,14 +25,18 @@ pub fn link_files<F: Files, W: Sink>(
         × LinkAnswers (record { state = F.state; was_read = F.was_read; was_written = F.was_written }) files.old files.new script.now target.now answer
         × IsDelivered (W.stream out.old) (W.stream out.new) answer result }
 {
-    let linked = match link_file(alloc, files, script) {
+    let text = match read_file(alloc, files, script) {
+        Ok(text) => text,
+        Err(fault) => return deliver(out, &fault),
+    };
+    let linked = match link_text(alloc, text.as_slice()) {
         Ok(linked) => linked,
-        Err(unlinked) => return deliver(out, &unlinked),
+        Err(fault) => return deliver(out, &fault),
     };
     match files.write(target, linked.bytes()) {
         Ok(()) => deliver(out, &LinkedReply { linked: &linked }),
-        Err(FileFault::Failed) => deliver(out, &FileRefusal::Unwritable(target)),
-        Err(FileFault::OutOfMemory) => deliver(out, &Refusal::OutOfMemory),
+        Err(FileFault::Failed) => deliver(out, &Fault::Unwritable { path: target }),
+        Err(FileFault::OutOfMemory) => deliver(out, &Fault::OutOfMemory),
     }
 }
 

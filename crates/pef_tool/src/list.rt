@@ -3,9 +3,9 @@ ghost use Rattle.pef_listing.specs.Views.{parts};
 ghost use Rattle.pef_tool.specs.Answers.Answers.{Answer, IsDelivered, answer_done};
 ghost use Rattle.pef_tool.specs.List.{ListAnswers};
 
-use crate::answers::{Outcome, Refusal, Reply, deliver, deliver_detailed};
+use crate::answers::{Outcome, Reply, deliver};
 use crate::reading::read_file;
-use pef_details::container_detail;
+use pef_faults::Fault;
 use pef_listing::Listing;
 use pef_ports::{Files, Page, Sink, StreamFault};
 use std::alloc::Global;
@@ -29,10 +29,7 @@ pub fn list_file<F: Files, W: Sink>(
     };
     match Listing::read(bytes.as_slice()) {
         Ok(listing) => deliver(out, &ListedReply { listing }),
-        Err(fault) => {
-            let detail = container_detail(alloc, bytes.as_slice(), fault.number());
-            deliver_detailed(out, &Refusal::Listing(fault), detail)
-        }
+        Err(fault) => deliver(out, &Fault::Listing(fault)),
     }
 }
 

@@ -5,12 +5,12 @@ ghost use Rattle.pef_tool.specs.Kept.Loading.{StopsReading};
 ghost use Rattle.pef_tool.specs.Limits.{most_files};
 ghost use Rattle.pef_tool.specs.Load.{LoadAnswers, WereRead, paired};
 
-use crate::answers::{Outcome, Refusal, Usage, deliver};
+use crate::answers::{Outcome, Usage, deliver};
 use crate::loaded::deliver_root;
-use crate::reading::{ReadingFault, read_file};
+use crate::reading::read_file;
 use crate::request::NamedFile;
 use cfm_closure::{MAX_PAIRS, Store, StoreFault};
-use pef_details::Shelf;
+use pef_faults::Fault;
 use pef_ports::{Files, Sink};
 use std::alloc::Global;
 
@@ -37,28 +37,9 @@ pub fn load_files<F: Files, W: Sink>(
     };
     let contents = read.as_slice();
     let Ok(store) = store_of(alloc, named, contents) else {
-        return deliver(out, &Refusal::OutOfMemory);
+        return deliver(out, &Fault::OutOfMemory);
     };
-    let shelf = ReadFiles { named, contents };
-    deliver_root(alloc, store, named[0].name.as_bytes(), &shelf, out)
-}
-
-/// Files with their contents, in which a fragment is looked up by its name.
-#[derive(Clone, Copy)]
-struct ReadFiles<'a> {
-    named: &'a [NamedFile<'a>],
-    contents: &'a [Vec<u8>],
-}
-
-impl<'a> Shelf for ReadFiles<'a> {
-    fn container(&self, name: &[u8]) -> Option<&[u8]> {
-        for (i, file) in self.named.iter().enumerate() {
-            if file.name.as_bytes() == name {
-                return Some(self.contents.get(i)?.as_slice());
-            }
-        }
-        None
-    }
+    deliver_root(alloc, store, named[0].name.as_bytes(), out)
 }
 
 /// Returns the bytes of some files, read in order.
@@ -66,7 +47,7 @@ fn read_files<'a, F: Files>(
     alloc: Global,
     files: &mut F,
     named: &[NamedFile<'a>],
-) -> Result<Vec<Vec<u8>>, ReadingFault<'a>>
+) -> Result<Vec<Vec<u8>>, Fault<'a>>
     ensures read { IfOk result (λ contents. WereRead (record { state = F.state; was_read = F.was_read; was_written = F.was_written }) files.old files.new (map named_path named.now) (map (λ bytes. bytes.items) contents.items)) }
     ensures refused { IfErr result (λ fault. StopsReading (record { state = F.state; was_read = F.was_read; was_written = F.was_written }) files.old files.new (map named_path named.now) fault) }
 {
@@ -77,7 +58,7 @@ fn read_files<'a, F: Files>(
             Err(fault) => return Err(fault),
         };
         let Ok(()) = contents.push(bytes) else {
-            return Err(ReadingFault::OutOfMemory);
+            return Err(Fault::OutOfMemory);
         };
     }
     Ok(contents)

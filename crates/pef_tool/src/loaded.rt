@@ -9,11 +9,11 @@ ghost use Rattle.pef_tool.specs.Kept.Routines.{address_in, place_of, routine_tex
 ghost use Rattle.pef_tool.specs.Limits.{memory_limit};
 ghost use Rattle.pef_tool.specs.Loaded.{entry_label, fragment_name, fragment_text, fragments_text, init_order_in, loaded_text, order_in, sections_in};
 
-use crate::answers::{Outcome, Reply, deliver, deliver_detailed, print_name_end};
+use crate::answers::{Outcome, Reply, deliver, print_name_end};
 use crate::fragment::print_bytes;
 use cfm_closure::Store;
 use cfm_prepare::{Connection, Context, Entries, PrepareFault};
-use pef_details::{Shelf, prepare_detail};
+use pef_faults::Fault;
 use pef_ports::{Page, Piece, Sink, StreamFault, print_pieces, send};
 use std::alloc::Global;
 
@@ -47,25 +47,15 @@ fn prepare_root<'a>(
     }
 }
 
-/// Prepares the fragment with a name, and prints the memory of its closure or the reason why it isn't prepared. The
-/// shelf has the fragments of the store.
-pub fn deliver_root<S: Shelf, W: Sink>(
-    alloc: Global,
-    store: Store<'_>,
-    name: &[u8],
-    shelf: &S,
-    out: &mut W,
-) -> Outcome
+/// Prepares the fragment with a name, and prints the memory of its closure or the reason why it isn't prepared.
+pub fn deliver_root<W: Sink>(alloc: Global, store: Store<'_>, name: &[u8], out: &mut W) -> Outcome
     ensures { (outcome : RootOutcome)
         × RootEnds store.entry name.now outcome
         × IsDelivered (W.stream out.old) (W.stream out.new) (root_answer outcome) result }
 {
     match prepare_root(alloc, store, name) {
         Ok(loaded) => deliver(out, &loaded),
-        Err(fault) => {
-            let detail = prepare_detail(alloc, shelf, &fault);
-            deliver_detailed(out, &fault, detail)
-        }
+        Err(fault) => deliver(out, &Fault::Prepare(fault)),
     }
 }
 

@@ -5,11 +5,11 @@ ghost use Rattle.pef_write.specs.Linked.{IsLinked};
 ghost use Rattle.pef_tool.specs.Kept.Showing.{ScriptEnds};
 ghost use Rattle.pef_tool.specs.Show.{ShowAnswers, ShowOutcome, single_store, show_answer};
 
-use crate::answers::{Outcome, Refusal, deliver, input_refusal};
+use crate::answers::{Outcome, deliver};
 use crate::linking::link_text;
 use crate::loaded::deliver_root;
 use cfm_closure::{Store, StoreFault};
-use pef_details::Shelf;
+use pef_faults::Fault;
 use pef_ports::{Sink, Source, read_input};
 use pef_write::LinkedContainer;
 use std::alloc::Global;
@@ -25,11 +25,11 @@ pub fn show_input<R: Source, W: Sink>(alloc: Global, input: &mut R, out: &mut W)
 {
     let text = match read_input(alloc, input, INPUT_LIMIT) {
         Ok(text) => text,
-        Err(fault) => return deliver(out, &input_refusal(fault)),
+        Err(fault) => return deliver(out, &Fault::Input(fault)),
     };
     match link_text(alloc, text.as_slice()) {
         Ok(linked) => show_linked(alloc, &linked, out),
-        Err(refused) => deliver(out, &refused),
+        Err(fault) => deliver(out, &fault),
     }
 }
 
@@ -42,28 +42,9 @@ fn show_linked<W: Sink>(alloc: Global, linked: &LinkedContainer, out: &mut W) ->
         × IsDelivered (W.stream out.old) (W.stream out.new) (show_answer outcome) result }
 {
     let Ok(store) = single_store(alloc, linked.bytes()) else {
-        return deliver(out, &Refusal::OutOfMemory);
+        return deliver(out, &Fault::OutOfMemory);
     };
-    let alone = SingleContainer {
-        bytes: linked.bytes(),
-    };
-    deliver_root(alloc, store, b"it", &alone, out)
-}
-
-/// The container of the fragment `it`, and no other.
-#[derive(Clone, Copy)]
-struct SingleContainer<'a> {
-    bytes: &'a [u8],
-}
-
-impl<'a> Shelf for SingleContainer<'a> {
-    fn container(&self, name: &[u8]) -> Option<&[u8]> {
-        if name == b"it".as_slice() {
-            Some(self.bytes)
-        } else {
-            None
-        }
-    }
+    deliver_root(alloc, store, b"it", out)
 }
 
 /// Returns the store that has the fragment `it` and no other.

@@ -5,7 +5,8 @@ use Rattle.cfm_prepare.specs.Contexts.{ContextState, fresh_state}
 use Rattle.cfm_prepare.specs.Steps.{MayNotPrepare, Prepares}
 use Rattle.cfm_prepare.specs.declared.fault.PrepareFault.{PrepareFault}
 use Rattle.pef_tool.specs.Answers.Answers.{Answer, answer_done}
-use Rattle.pef_tool.specs.Answers.Refusals.{prepare_refusal_answer}
+use Rattle.pef_tool.specs.Answers.Faults.{fault_answer}
+use Rattle.pef_faults.specs.declared.fault.Fault.TheVariants.{Prepare}
 use Rattle.pef_tool.specs.Limits.{memory_limit}
 use Rattle.pef_tool.specs.Loaded.{loaded_text}
 
@@ -22,4 +23,4 @@ RootEnds pairs name (refuses fault) = MayNotPrepare (fresh_state pairs memory_li
 -- the answer for each end
 abbrev pub root_answer : RootOutcome → Answer
 root_answer (prepares s number) = answer_done (loaded_text s number)
-root_answer (refuses fault) = prepare_refusal_answer fault
+root_answer (refuses fault) = fault_answer (Prepare fault)

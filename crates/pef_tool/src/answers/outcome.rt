@@ -1,7 +1,7 @@
 ghost use Rattle.std.specs.Prelude.{◌≡◌};
-ghost use Rattle.pef_tool.specs.Answers.Answers.{detailed, refused_as, status_of, undetailed};
+ghost use Rattle.pef_tool.specs.Answers.Answers.{status_of};
 
-use pef_details::Detail;
+use crate::notes::Note;
 
 /// The outcome of a run.
 #[derive(Clone, Copy, Debug, PartialEq, Eq)]
@@ -10,8 +10,8 @@ pub enum Outcome {
     Done,
     /// The command is done, and `check` answered no for a section.
     SaidNo,
-    /// The run was refused: the refusal's number, and a detail that its line doesn't give, if one is known.
-    Refused { number: u32, detail: Option<Detail> },
+    /// The command reported an error: its number, and what is known beyond its line.
+    Refused { number: u32, note: Note },
     /// The command line is invalid.
     Usage,
     /// The output failed.
@@ -27,30 +27,6 @@ impl Outcome {
             Outcome::Done => 0,
             Outcome::SaidNo | Outcome::Refused { .. } | Outcome::OutputFailed => 1,
             Outcome::Usage => 2,
-        }
-    }
-
-    /// Returns the outcome of a run that is refused with a number.
-    pub fn refused(number: u32) -> Outcome
-        ensures { result ≡ refused_as number }
-    {
-        Outcome::Refused {
-            number,
-            detail: None,
-        }
-    }
-
-    /// Returns the same outcome, with a detail if it is a refusal.
-    pub fn detailed(self, detail: Option<Detail>) -> Outcome
-        ensures outcome { result ≡ detailed detail self }
-        ensures same { undetailed result ≡ undetailed self }
-    {
-        match self {
-            Outcome::Refused { number, .. } => Outcome::Refused { number, detail },
-            Outcome::Done => Outcome::Done,
-            Outcome::SaidNo => Outcome::SaidNo,
-            Outcome::Usage => Outcome::Usage,
-            Outcome::OutputFailed => Outcome::OutputFailed,
         }
     }
 }

@@ -1,19 +1,18 @@
 ghost use Rattle.std.specs.Prelude.{◌≡◌, []};
 ghost use Rattle.pef_ports.specs.Sent.{Sends};
-ghost use Rattle.pef_tool.specs.Answers.Answers.{Answer, IsDelivered, answer_usage, undetailed};
+ghost use Rattle.pef_tool.specs.Answers.Answers.{Answer, IsDelivered, answer_usage};
 
 use crate::answers::outcome::Outcome;
-use pef_details::Detail;
 use pef_ports::{Page, Sink, StreamFault, flush, send};
 
 /// An answer of a command: a text that ends the run, and the outcome.
 pub trait Reply {
-    /// The text, and the outcome without a detail.
+    /// The text and the outcome.
     ghost answer: { Self → Answer };
 
     /// Returns the outcome after the text was written.
     fn outcome(&self) -> Outcome
-        ensures { undetailed result ≡ (answer self.now).outcome };
+        ensures { result ≡ (answer self.now).outcome };
 
     /// Prints the text through the page.
     fn print<W: Sink>(&self, out: &mut W, page: &mut Page) -> Result<(), StreamFault>
@@ -28,17 +27,6 @@ pub fn deliver<A: Reply, W: Sink>(out: &mut W, reply: &A) -> Outcome
         Ok(()) => reply.outcome(),
         Err(StreamFault) => Outcome::OutputFailed,
     }
-}
-
-/// Sends a whole reply and returns the outcome, with a detail if the outcome is a refusal.
-pub fn deliver_detailed<A: Reply, W: Sink>(
-    out: &mut W,
-    reply: &A,
-    detail: Option<Detail>,
-) -> Outcome
-    ensures { IsDelivered (W.stream out.old) (W.stream out.new) (A.answer reply.now) result }
-{
-    deliver(out, reply).detailed(detail)
 }
 
 /// Prints a reply and empties the page.

@@ -6,11 +6,10 @@ use Rattle.std.specs.declared.vec.Vec.{Vec}
 use Rattle.pef_ports.specs.Ports.{FilesPort}
 use Rattle.pef_tool.specs.Request.Requests.{named_path}
 use Rattle.pef_tool.specs.Answers.Answers.{Answer, IsDelivered}
-use Rattle.pef_tool.specs.Kept.Reading.{unread_answer}
-use Rattle.pef_tool.specs.Load.{first_name, lacks_memory, load_answer, paired}
-use Rattle.pef_tool.specs.Answers.Refusals.{refusal_answer}
-use Rattle.pef_tool.specs.declared.answers.refusal.Refusal.TheVariants.{OutOfMemory}
-use Rattle.pef_tool.proofs.OutcomeLemmas.{load_ends}
+use Rattle.pef_tool.specs.Load.{first_name, load_answer, paired, refuses}
+use Rattle.pef_tool.specs.Answers.Faults.{fault_answer}
+use Rattle.pef_faults.specs.declared.fault.Fault.TheVariants.{OutOfMemory}
+use Rattle.pef_tool.proofs.OutcomeLemmas.{load_refuses}
 use Rattle.pef_tool.proofs.LoadLemmas.{first-is, lacks-all, root-loads, some-files, were-length}
 use Rattle.pef_tool.proofs.load.load_files.Goals as goal
 
@@ -19,8 +18,9 @@ items bytes = bytes.items
 
 pub returns-in-Err : goal.returns-in-Err
 returns-in-Err g c =
-    let ends = load_ends _ c.args.files.now c.read_files.new.files (map named_path c.args.named.now) c.in-Err.fault c.in-Err.ensures.refused in
-    (unread_answer c.in-Err.fault, ends, c.deliver-in-Err.ensures)
+    let why = c.in-Err.fault in
+    let refused = load_refuses _ c.args.files.now c.read_files.new.files (map named_path c.args.named.now) why c.in-Err.ensures.refused in
+    (fault_answer why, (refuses why, refused, refl), c.deliver-in-Err.ensures)
 
 pub store_of-requires-clause-each : goal.store_of-requires-clause-each
 store_of-requires-clause-each g c =
@@ -36,7 +36,7 @@ returns-in_default g c =
     let named = map named_path c.args.named.now in
     let contents = map items c.in-Ok.contents.items in
     let read = lacks-all port c.args.files.now c.read_files.new.files named contents c.in-Ok.ensures.read in
-    (refusal_answer OutOfMemory, (lacks_memory, inl (length named, contents, read), refl), c.deliver-in_default.ensures)
+    (fault_answer OutOfMemory, (refuses OutOfMemory, inl (length named, contents, read), refl), c.deliver-in_default.ensures)
 
 pub returns : goal.returns
 returns g c =

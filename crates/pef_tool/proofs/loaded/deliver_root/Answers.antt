@@ -6,4 +6,4 @@ pub returns-in-Ok : goal.returns-in-Ok
 returns-in-Ok g c = (prepares c.in-Ok.loaded.context c.in-Ok.loaded.connection.0, c.in-Ok.ensures.prepared, c.deliver.ensures)
 
 pub returns-in-Err : goal.returns-in-Err
-returns-in-Err g c = (refuses c.in-Err.fault, c.in-Err.ensures.refused, c.deliver_detailed.ensures)
+returns-in-Err g c = (refuses c.in-Err.fault, c.in-Err.ensures.refused, c.deliver-in-Err.ensures)

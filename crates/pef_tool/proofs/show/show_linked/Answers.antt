@@ -1,13 +1,13 @@
 -- The prepared fragment is shown, or the reason why it isn't prepared.
-use Rattle.std.proofs.Common.{◌≡◌, refl, sym, subst, ap, ◌∙◌}
+use Rattle.std.proofs.Common.{◌≡◌, sym, subst, ap, ◌∙◌}
+use Rattle.pef_faults.specs.declared.fault.Fault.TheVariants.{OutOfMemory}
 use Rattle.pef_tool.specs.Answers.Answers.{Answer, IsDelivered}
-use Rattle.pef_tool.specs.declared.answers.refusal.Refusal.TheVariants.{OutOfMemory}
 use Rattle.pef_tool.specs.Show.{single_store, refuses}
 use Rattle.pef_tool.proofs.ShowLemmas.{root-shown}
 use Rattle.pef_tool.proofs.show.show_linked.Goals as goal
 
 pub returns-in_default : goal.returns-in_default
-returns-in_default g c = λ script linked. (refuses OutOfMemory, refl, c.deliver.ensures)
+returns-in_default g c = λ script linked. (refuses OutOfMemory, tt, c.deliver.ensures)
 
 pub returns : goal.returns
 returns g c = λ script linked.

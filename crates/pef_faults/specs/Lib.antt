@@ -1,0 +1,5 @@
+pub mod Faults
+-- Definitions for private contracts.
+pub mod Kept
+pub mod Names
+pub mod Places

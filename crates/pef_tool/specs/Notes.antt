@@ -1,0 +1,4 @@
+pub mod Excerpts
+pub mod Notes
+pub mod Places
+pub mod Scripts
