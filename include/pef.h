@@ -214,6 +214,60 @@ uint32_t pef_name(uint32_t number, struct pef_bytes *name);
 uint32_t pef_help(uint32_t number, struct pef_bytes *help);
 
 /*
+ * Where an error is. docs/ERRORS.md says what each error is about.
+ *
+ * `part` is one of the numbers below. `row` is the number of the part among those of its kind, from 0: of a section, say, or an
+ * import. Packed data has the number of its section, a program that of its relocation header. A line counts from 1. `field` is the
+ * offset of the field in the part, as PEFBinaryFormat.h has the part; in packed data and in programs the offset of the
+ * instruction; in a line the number of the word, from 0. `offset` is where that field, instruction or word begins in the container
+ * or the text.
+ */
+struct pef_place {
+    uint32_t part;
+    size_t row;
+    size_t field;
+    size_t offset;
+};
+
+/* An error that is at no place has PEF_NOWHERE and PEF_NO_OFFSET. */
+#define PEF_NOWHERE 0
+#define PEF_CONTAINER_HEADER_PART 1
+#define PEF_SECTION_PART 2
+#define PEF_LOADER_HEADER_PART 3
+#define PEF_LIBRARY_PART 4
+#define PEF_IMPORT_PART 5
+#define PEF_MAIN_PART 6
+#define PEF_INIT_PART 7
+#define PEF_TERM_PART 8
+#define PEF_RELOCATION_PART 9
+#define PEF_EXPORT_PART 10
+#define PEF_PACKED_DATA_PART 11
+#define PEF_PROGRAM_PART 12
+#define PEF_LINE_PART 13
+
+/* The offset of what has none. */
+#define PEF_NO_OFFSET SIZE_MAX
+
+/*
+ * Finds the first error of a container, in the order in which pef_list() reports them. Every call that reads a container reports
+ * it, if it gets so far. It allocates nothing.
+ *
+ * Returns PEF_OK if there is none, and stores no place in `*place`. Or returns the error, 1 to 20 or 31 to 36, and stores its
+ * place.
+ */
+uint32_t pef_container_place(const uint8_t *container, size_t container_length, struct pef_place *place);
+
+/*
+ * Finds the first error of a script.
+ *
+ * Returns PEF_OK if there is none; or the error, 41 to 49, and stores the place of the word in `*place`, and in `*earlier` the number
+ * of the earlier line that the error is about, or 0: for PEF_SCRIPT_OVERLAP the line whose word is overlapped, for PEF_SCRIPT_OUT_OF_ORDER the
+ * line that must not come first, for PEF_SCRIPT_REPEATED_NAME the line that has the name, and for PEF_SCRIPT_UNKNOWN_NAME a line that declares
+ * nearly the name. Or returns PEF_OUT_OF_MEMORY. In all other cases it stores no place, and 0.
+ */
+uint32_t pef_script_place(const uint8_t *script, size_t script_length, struct pef_place *place, size_t *earlier);
+
+/*
  * The calls below read a container anew from its bytes each time, and allocate nothing. They return PEF_OK; or the first
  * refusal of what they read, and then they leave all that they would write unchanged.
  */
@@ -372,10 +426,23 @@ void pef_free(struct pef_context *context);
  *
  * `name` and `bytes` are kept, not copied: both have to stay, unchanged, until the program ends.
  *
- * Returns PEF_OK; or PEF_ADDED_TOO_LATE, if the context ever gave a connection; or PEF_STORE_FULL, if it has
- * PEF_MAX_FRAGMENTS fragments; or PEF_OUT_OF_MEMORY. The context is changed only if PEF_OK is returned.
+ * Fragments may be added at any time, also while connections are open. Those stay as they are.
+ *
+ * Returns PEF_OK; or PEF_ADDED_TOO_LATE, if a fragment of an open connection has a weak library of this name, and was
+ * prepared without it; or PEF_STORE_FULL, if the context has PEF_MAX_FRAGMENTS fragments; or PEF_OUT_OF_MEMORY. The
+ * context is changed only if PEF_OK is returned.
  */
 uint32_t pef_add(struct pef_context *context, const uint8_t *name, size_t name_length, const uint8_t *bytes, size_t bytes_length);
+
+/*
+ * Takes `size` addresses from `address` on out of use, as long as the context is open: no section is placed in them. The
+ * range begins at the multiple of 16 at or below `address`, and ends at the one at or above its end. A size of 0 takes
+ * nothing.
+ *
+ * Returns PEF_OK; or PEF_NO_ROOM, if the range meets a section in memory or another range, or passes the last address of 32
+ * bits; or PEF_OUT_OF_MEMORY. The context is changed only if PEF_OK is returned.
+ */
+uint32_t pef_reserve(struct pef_context *context, uint32_t address, uint32_t size);
 
 /* The names that are reported with a refusal. A name that isn't reported is empty. Start all three as PEF_NO_BYTES. */
 struct pef_names {
@@ -398,6 +465,12 @@ struct pef_names {
 uint32_t pef_prepare(struct pef_context *context, const uint8_t *name, size_t name_length, uint32_t *connection, struct pef_names *names);
 
 /*
+ * Prepares as pef_prepare() does. If it returns an error other than PEF_NOT_OPEN, it also stores in `*place` where the error is, in
+ * the container of the fragment that `*names` names. Otherwise `*place` is left unchanged.
+ */
+uint32_t pef_prepare_with_place(struct pef_context *context, const uint8_t *name, size_t name_length, uint32_t *connection, struct pef_names *names, struct pef_place *place);
+
+/*
  * Closes a connection. Fragments that no other open connection needs are no longer present. The number of the connection isn't
  * given again.
  *
@@ -409,6 +482,23 @@ uint32_t pef_close(struct pef_context *context, uint32_t connection);
  * The calls below read a context and don't change it. They return PEF_OK; or PEF_NOT_THERE, and then they leave all that
  * they would write unchanged.
  */
+
+/*
+ * Gives the fragments that the preparation of a connection placed, because they weren't present before, in the order in
+ * which fragments are initialized. Copy exactly these into the machine, and initialize exactly these: the others of the
+ * closure were there already, and may have run since.
+ *
+ * Returns and stores what pef_fragments() does.
+ */
+uint32_t pef_new_fragments(struct pef_context *context, uint32_t connection, size_t *places, size_t place_count, size_t *count);
+
+/*
+ * Gives the fragments that pef_close() of a connection would release, because no other open connection needs them, the last
+ * to be initialized first. Call their termination routines in this order, and then pef_close().
+ *
+ * Returns and stores what pef_fragments() does; or returns PEF_OUT_OF_MEMORY, and leaves `places` and `*count` unchanged.
+ */
+uint32_t pef_released_by(struct pef_context *context, uint32_t connection, size_t *places, size_t place_count, size_t *count);
 
 /*
  * Give the fragments of a connection's closure: the first in closure order, in which the fragment that was prepared is the
@@ -467,6 +557,39 @@ uint32_t pef_fragment_entries(struct pef_context *context, uint32_t connection, 
  * isn't open, or its closure lacks the fragment.
  */
 uint32_t pef_fragment_symbol(struct pef_context *context, uint32_t connection, size_t fragment, const uint8_t *name, size_t name_length, uint32_t *address);
+
+/* The kinds of targets. A missing one is that of a weak import, or of an import from a weak library. */
+#define PEF_TARGET_MISSING 0
+#define PEF_TARGET_ABSOLUTE 1
+#define PEF_TARGET_IN_SECTION 2
+
+/*
+ * What an import means: one of the kinds above, and the address that was added wherever the import is relocated, which is 0
+ * for a missing target, and the number for an absolute one. `fragment`, `section` and `offset` are 0 unless the target is in
+ * a section.
+ */
+struct pef_target {
+    uint32_t kind;
+    size_t fragment;
+    uint32_t section;
+    uint32_t offset;
+    uint32_t address;
+};
+
+/*
+ * Reads what import `number` of a fragment means. Exports that are passed on have been followed. The numbers of imports are
+ * those of pef_imports().
+ *
+ * Returns PEF_NOT_THERE past the last import, and if the connection isn't open, or its closure lacks the fragment.
+ */
+uint32_t pef_import_target(struct pef_context *context, uint32_t connection, size_t fragment, size_t number, struct pef_target *target);
+
+/*
+ * Gives the address of export `number` of a fragment. The numbers of exports are those of pef_exports().
+ *
+ * Returns PEF_NOT_THERE past the last export, and if the connection isn't open, or its closure lacks the fragment.
+ */
+uint32_t pef_export_address(struct pef_context *context, uint32_t connection, size_t fragment, size_t number, uint32_t *address);
 
 #ifdef __cplusplus
 }

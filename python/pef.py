@@ -40,6 +40,7 @@ __all__ = [
     "Fragment",
     "Header",
     "Import",
+    "ImportTarget",
     "Library",
     "PefError",
     "PlacedSection",
@@ -59,6 +60,25 @@ KINDS = {0: "code", 1: "data", 2: "pattern", 3: "const", 4: "loader", 5: "debug"
 SHARES = {1: "process", 4: "global", 5: "protected"}
 CLASSES = {0: "code", 1: "data", 2: "tvector", 3: "toc", 4: "glue"}
 
+#: The parts that an error can be about, by the numbers of `struct pef_place`.
+PARTS = {
+    1: "container header",
+    2: "section",
+    3: "loader header",
+    4: "library",
+    5: "import",
+    6: "main entry point",
+    7: "initialization routine",
+    8: "termination routine",
+    9: "relocation header",
+    10: "export",
+    11: "packed data of section",
+    12: "program of relocation header",
+    13: "line",
+}
+_NUMBERED = {PARTS[number] for number in (2, 4, 5, 9, 10, 11, 12)}
+_NO_OFFSET = 2 ** (8 * ctypes.sizeof(ctypes.c_size_t)) - 1
+
 #: Sections of exports that are no section: a number, and an import that is passed on.
 ABSOLUTE, REEXPORT = -2, -3
 
@@ -70,13 +90,38 @@ class PefError(Exception):
 
     `number` and `name` are those of docs/ERRORS.md. `names` has what the library says beside them, by the words
     "line", "fragment", "library" and "symbol": only those that there are.
+
+    Where the error is: `part` is a word of PARTS, `row` the number of that part, `field` the offset of the field in it, and `offset`
+    where that is in the container of the fragment that `names` has. In a script, `line` and `word` say which word of which line, `offset`
+    where the word begins, and `earlier` the line that the error is also about. Each is None if the library says nothing.
     """
 
-    def __init__(self, number: int, names: Optional[Dict[str, Union[int, str]]] = None):
+    def __init__(self, number: int, names: Optional[Dict[str, Union[int, str]]] = None, place: Optional["_Place"] = None, earlier: int = 0):
         self.number = number
         self.name = name_of(number) or "Unknown"
         self.names = names or {}
-        super().__init__(" ".join([str(number), self.name, *(f"{word} {value}" for word, value in self.names.items())]))
+        self.part: Optional[str] = None
+        self.row: Optional[int] = None
+        self.field: Optional[int] = None
+        self.offset: Optional[int] = None
+        self.line: Optional[int] = None
+        self.word: Optional[int] = None
+        self.earlier: Optional[int] = earlier or None
+        if place is not None and place.part:
+            self.part, self.row, self.field = PARTS[place.part], place.row, place.field
+            self.offset = None if place.offset == _NO_OFFSET else place.offset
+        if self.part == "line":
+            self.line, self.word = self.row, self.field
+        super().__init__(" ".join([str(number), self.name, *(f"{word} {value}" for word, value in self.names.items()), *self._where()]))
+
+    def _where(self) -> List[str]:
+        """The words for the place."""
+        said = []
+        if self.part == "line":
+            said.append(f"word {self.word}")
+        elif self.part is not None:
+            said.append(f"in {self.part}" + (f" {self.row}" if self.part in _NUMBERED else ""))
+        return said + ([f"at 0x{self.offset:X}"] if self.offset is not None else [])
 
 
 # --- what C has ---
@@ -95,6 +140,10 @@ class _Bytes(ctypes.Structure):
 def _fields(**kinds: str) -> List[Tuple[str, Any]]:
     """Fields of a structure: for each kind of number the names, in order."""
     return [(name, getattr(ctypes, f"c_{kind}")) for kind, names in kinds.items() for name in names.split()]
+
+
+class _Place(ctypes.Structure):
+    _fields_ = _fields(uint32="part", size_t="row field offset")
 
 
 class _Header(ctypes.Structure):
@@ -152,6 +201,10 @@ class _Entries(ctypes.Structure):
     _fields_ = _fields(uint32="init main term", bool="has_init has_main has_term")
 
 
+class _Target(ctypes.Structure):
+    _fields_ = [*_fields(uint32="kind", size_t="fragment"), *_fields(uint32="section offset address")]
+
+
 # A place that isn't null, for slices of no bytes: the library is never handed a null pointer.
 _NOWHERE = ctypes.create_string_buffer(1)
 
@@ -180,6 +233,8 @@ _CALLS = {
     "pef_list_part": _IN + [ctypes.c_size_t] + _ROOM + _SIZE,
     "pef_name": [ctypes.c_uint32, ctypes.POINTER(_Bytes)],
     "pef_help": [ctypes.c_uint32, ctypes.POINTER(_Bytes)],
+    "pef_container_place": _IN + [ctypes.POINTER(_Place)],
+    "pef_script_place": _IN + [ctypes.POINTER(_Place)] + _SIZE,
     "pef_header": _IN + [ctypes.POINTER(_Header)],
     "pef_section": _IN + [ctypes.c_size_t, ctypes.POINTER(_Section), ctypes.POINTER(_Bytes)],
     "pef_section_name": _IN + [ctypes.c_size_t, ctypes.POINTER(_Bytes)],
@@ -194,7 +249,11 @@ _CALLS = {
     "pef_free": _IN_CONTEXT,
     "pef_add": _IN_CONTEXT + _IN * 2,
     "pef_prepare": _IN_CONTEXT + _IN + [ctypes.POINTER(ctypes.c_uint32), ctypes.POINTER(_Names)],
+    "pef_prepare_with_place": _IN_CONTEXT + _IN + [ctypes.POINTER(ctypes.c_uint32), ctypes.POINTER(_Names), ctypes.POINTER(_Place)],
+    "pef_reserve": _IN_CONTEXT + [ctypes.c_uint32] * 2,
     "pef_close": _IN_CONTEXT + [ctypes.c_uint32],
+    "pef_new_fragments": _IN_CONTEXT + [ctypes.c_uint32] + _PLACES + _SIZE,
+    "pef_released_by": _IN_CONTEXT + [ctypes.c_uint32] + _PLACES + _SIZE,
     "pef_fragments": _IN_CONTEXT + [ctypes.c_uint32] + _PLACES + _SIZE,
     "pef_init_order": _IN_CONTEXT + [ctypes.c_uint32] + _PLACES + _SIZE,
     "pef_fragment_name": _IN_CONTEXT + [ctypes.c_size_t, ctypes.POINTER(_Bytes)],
@@ -203,6 +262,8 @@ _CALLS = {
     "pef_fragment_bytes": _IN_CONTEXT + [ctypes.c_size_t] * 2 + _ROOM + _SIZE,
     "pef_fragment_entries": _OF_FRAGMENT + [ctypes.POINTER(_Entries)],
     "pef_fragment_symbol": _OF_FRAGMENT + _IN + [ctypes.POINTER(ctypes.c_uint32)],
+    "pef_import_target": _OF_FRAGMENT + [ctypes.c_size_t, ctypes.POINTER(_Target)],
+    "pef_export_address": _OF_FRAGMENT + [ctypes.c_size_t, ctypes.POINTER(ctypes.c_uint32)],
 }
 
 
@@ -222,9 +283,27 @@ def library() -> ctypes.CDLL:
     return loaded
 
 
-def _check(answer: int, **names) -> None:
+def _check(answer: int, place: Optional[_Place] = None, earlier: int = 0, **names) -> None:
     if answer != OK:
-        raise PefError(answer, {word: value for word, value in names.items() if value})
+        raise PefError(answer, {word: value for word, value in names.items() if value}, place, earlier)
+
+
+def _container_place(contents: bytes) -> Optional[_Place]:
+    """Where the first error of a container is; None from an older library."""
+    place = _Place()
+    if not hasattr(library(), "pef_container_place"):
+        return None
+    library().pef_container_place(contents, len(contents), ctypes.byref(place))
+    return place
+
+
+def _script_place(text: bytes) -> Tuple[Optional[_Place], int]:
+    """Where the first error of a script is, and the earlier line that it is about; None and 0 from an older library."""
+    place, earlier = _Place(), ctypes.c_size_t()
+    if not hasattr(library(), "pef_script_place"):
+        return None, 0
+    library().pef_script_place(text, len(text), ctypes.byref(place), ctypes.byref(earlier))
+    return place, earlier.value
 
 
 def name_of(number: int) -> Optional[str]:
@@ -252,7 +331,8 @@ def link(script: Text) -> bytes:
         room, written, line = _room(length), ctypes.c_size_t(), ctypes.c_size_t()
         answer = library().pef_link(text, len(text), room, length, ctypes.byref(written), ctypes.byref(line))
         if answer != ROOM_TOO_SMALL:
-            _check(answer, line=line.value)
+            if answer != OK:
+                _check(answer, *_script_place(text), line=line.value)
             return ctypes.string_at(room, written.value)
         length = written.value
 
@@ -354,7 +434,7 @@ class Container:
         self.contents = bytes(contents)
         self._bytes = (self.contents, len(self.contents))
         row = _Header()
-        _check(library().pef_header(*self._bytes, ctypes.byref(row)))
+        self._read(library().pef_header(*self._bytes, ctypes.byref(row)))
         #: The container's header.
         self.header = Header(
             row.date_time_stamp,
@@ -365,7 +445,11 @@ class Container:
             row.instantiated_section_count,
         )
         self._loader = _Loader()
-        _check(library().pef_loader(*self._bytes, ctypes.byref(self._loader)))
+        self._read(library().pef_loader(*self._bytes, ctypes.byref(self._loader)))
+
+    def _read(self, answer: int) -> None:
+        if answer != OK:
+            _check(answer, _container_place(self.contents))
 
     @functools.cached_property
     def sections(self) -> List[Section]:
@@ -482,6 +566,25 @@ class PlacedSection:
     contents: bytes = dataclasses.field(repr=False)
 
 
+#: The kinds of an import's target, by the numbers of `struct pef_target`.
+TARGETS = {0: "missing", 1: "absolute", 2: "in section"}
+
+
+@dataclasses.dataclass(frozen=True)
+class ImportTarget:
+    """What an import means: `kind` is a word of TARGETS, and `address` what was added wherever the import is relocated.
+
+    `fragment`, `section` and `offset` say where a target in a section is, and are None for the others. `address` is 0 for a
+    missing target, and the number for an absolute one.
+    """
+
+    kind: str
+    address: int
+    fragment: Optional["Fragment"] = None
+    section: Optional[int] = None
+    offset: Optional[int] = None
+
+
 #: The names and containers that a context was given: the library keeps them until the program ends.
 _KEPT: Dict[bytes, bytes] = {}
 
@@ -529,13 +632,32 @@ class Fragment:
     def symbol(self, name: Text) -> Optional[int]:
         """The address of its first export of a name; None if there is none."""
         raw, address = _raw(name), ctypes.c_uint32()
+        return address.value if self._finds("pef_fragment_symbol", raw, len(raw), ctypes.byref(address)) else None
+
+    def export_address(self, number: int) -> Optional[int]:
+        """The address of the export that has this place in `Container.exports`; None past the last."""
+        address = ctypes.c_uint32()
+        return address.value if self._finds("pef_export_address", number, ctypes.byref(address)) else None
+
+    def import_target(self, number: int) -> Optional[ImportTarget]:
+        """What the import that has this place in `Container.imports` means; None past the last."""
+        row = _Target()
+        if not self._finds("pef_import_target", number, ctypes.byref(row)):
+            return None
+        kind = TARGETS[row.kind]
+        if kind != "in section":
+            return ImportTarget(kind, row.address)
+        return ImportTarget(kind, row.address, Fragment(self.connection, row.fragment), row.section, row.offset)
+
+    def _finds(self, name: str, *words) -> bool:
+        """Makes a call, and says whether there is such a thing."""
         try:
-            self._call("pef_fragment_symbol", raw, len(raw), ctypes.byref(address))
+            self._call(name, *words)
         except PefError as answer:
             if answer.number != NOT_THERE:
                 raise
-            return None
-        return address.value
+            return False
+        return True
 
     def _call(self, name: str, *words) -> None:
         self.connection.context._call(name, self.connection.number, self.number, *words)
@@ -557,6 +679,22 @@ class Connection:
     def init_order(self) -> List[Fragment]:
         """The same fragments in the order of initialization."""
         return self._fragments("pef_init_order")
+
+    @property
+    def new_fragments(self) -> List[Fragment]:
+        """The fragments that its preparation placed, in the order of initialization.
+
+        Copy and initialize exactly these: the others were present already, and may have run since.
+        """
+        return self._fragments("pef_new_fragments")
+
+    @property
+    def released(self) -> List[Fragment]:
+        """The fragments that close() would release, the last to be initialized first.
+
+        Call their termination routines in this order, and then close(). Raises PefError: 99.
+        """
+        return self._fragments("pef_released_by")
 
     @property
     def root(self) -> Fragment:
@@ -595,11 +733,23 @@ class Context:
     def add(self, name: Text, contents: bytes) -> None:
         """Adds a fragment. Its container is read when it is prepared, and refused then.
 
-        The name and the container stay in memory until the program ends. Raises PefError: 203 after the first connection,
-        204 for the 257th fragment, or 99.
+        Fragments may be added at any time. The name and the container stay in memory until the program ends. Raises
+        PefError: 203 if a fragment of an open connection has a weak library of this name and was prepared without it, 204
+        for the 257th fragment, or 99.
         """
         raw, kept = _keep(_raw(name)), _keep(bytes(contents))
         self._call("pef_add", raw, len(raw), kept, len(kept))
+
+    def reserve(self, address: int, size: int) -> None:
+        """Takes addresses out of use: no section is placed in them.
+
+        The range begins at the multiple of 16 at or below the address, and ends at the one at or above its end. A size of 0
+        takes nothing. Raises PefError: 67 if the range meets a section in memory or another range, or passes the last
+        address of 32 bits, or 99. ValueError if a number has more than 32 bits.
+        """
+        if not (0 <= address < 2**32 and 0 <= size < 2**32):
+            raise ValueError("an address and a size have 32 bits")
+        self._call("pef_reserve", address, size)
 
     def prepare(self, name: Text) -> Connection:
         """Opens a connection: places, fills and relocates what isn't present of a fragment and all that it needs.
@@ -607,9 +757,13 @@ class Context:
         Raises PefError: 1 to 39, 60 to 69, or 99. `names` has the fragment, library and symbol that a refusal is about.
         """
         raw, number = _raw(name), ctypes.c_uint32()
-        names = _Names(_no_bytes(), _no_bytes(), _no_bytes())
-        answer = library().pef_prepare(ctypes.byref(self._context), raw, len(raw), ctypes.byref(number), ctypes.byref(names))
-        _check(answer, fragment=names.fragment.text(), library=names.library.text(), symbol=names.symbol.text())
+        names, place = _Names(_no_bytes(), _no_bytes(), _no_bytes()), _Place()
+        words = (ctypes.byref(self._context), raw, len(raw), ctypes.byref(number), ctypes.byref(names))
+        if hasattr(library(), "pef_prepare_with_place"):
+            answer = library().pef_prepare_with_place(*words, ctypes.byref(place))
+        else:
+            answer = library().pef_prepare(*words)
+        _check(answer, place, fragment=names.fragment.text(), library=names.library.text(), symbol=names.symbol.text())
         return Connection(self, number.value)
 
     def free(self) -> None:

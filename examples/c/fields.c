@@ -19,6 +19,7 @@ struct number {
 
 static const struct number places[] = {
     SIZE(pef_bytes, 16), AT(pef_bytes, at, 0), AT(pef_bytes, length, 8),
+    SIZE(pef_place, 32), AT(pef_place, part, 0), AT(pef_place, row, 8), AT(pef_place, field, 16), AT(pef_place, offset, 24),
     SIZE(pef_header, 20), AT(pef_header, date_time_stamp, 0), AT(pef_header, old_def_version, 4),
     AT(pef_header, old_imp_version, 8), AT(pef_header, current_version, 12), AT(pef_header, section_count, 16),
     AT(pef_header, instantiated_section_count, 18),
@@ -40,6 +41,8 @@ static const struct number places[] = {
     SIZE(pef_names, 48), AT(pef_names, fragment, 0), AT(pef_names, library, 16), AT(pef_names, symbol, 32),
     SIZE(pef_fragment_section, 24), AT(pef_fragment_section, address, 0), AT(pef_fragment_section, size, 8),
     AT(pef_fragment_section, kind, 16), AT(pef_fragment_section, share, 17),
+    SIZE(pef_target, 32), AT(pef_target, kind, 0), AT(pef_target, fragment, 8), AT(pef_target, section, 16),
+    AT(pef_target, offset, 20), AT(pef_target, address, 24),
     SIZE(pef_entries, 16), AT(pef_entries, init, 0), AT(pef_entries, main, 4), AT(pef_entries, term, 8),
     AT(pef_entries, has_init, 12), AT(pef_entries, has_main, 13), AT(pef_entries, has_term, 14),
 };
@@ -126,6 +129,24 @@ static void test_header(void)
         {"pef_header.current_version", it.current_version, 11},
         {"pef_header.section_count", it.section_count, 6},
         {"pef_header.instantiated_section_count", it.instantiated_section_count, 5},
+    };
+    COMPARE(numbers);
+}
+
+/* The kind of section 1, at 92, is that of a loader section, and then its own again. */
+static void test_place(void)
+{
+    struct pef_place it = {0};
+    uint8_t kind = container[92];
+    container[92] = 4;
+    uint32_t answer = pef_container_place(container, LENGTH, &it);
+    container[92] = kind;
+    const struct number numbers[] = {
+        {"pef_container_place", answer, PEF_BAD_SECTION_KIND},
+        {"pef_place.part", it.part, PEF_SECTION_PART},
+        {"pef_place.row", it.row, 1},
+        {"pef_place.field", it.field, 24},
+        {"pef_place.offset", it.offset, 92},
     };
     COMPARE(numbers);
 }
@@ -237,7 +258,7 @@ static void test_exports(void)
 }
 
 /* The containers of fragments, which stay until the program ends, as the library asks. */
-enum { ROOMS = 7, ROOM = 512 };
+enum { ROOMS = 9, ROOM = 512 };
 static uint8_t rooms[ROOMS][ROOM];
 static size_t used_rooms;
 
@@ -317,6 +338,34 @@ static void test_entries(void)
     test_entries_of("section a data process 4 16\nterm a 12\n", 0, 0, 0x0001000C);
 }
 
+/* An import from a library whose second section is after the four bytes of the first, at the next multiple of 16. */
+static void test_target(void)
+{
+    struct pef_context context = {0};
+    struct pef_names names = PEF_NO_NAMES;
+    struct pef_target it = {0};
+    uint32_t connection = 7;
+    uint32_t opened = pef_open(&context, 0x10000000);
+    uint32_t user = add_script(&context, "User", "library N 1 0 -\nimport v data strong\nsection a data process 4 4\n");
+    uint32_t library = add_script(&context, "N", "versions 1 0 0\nsection k const process 2 4\nsection l data process 4 8\nexport v data l 4\n");
+    uint32_t prepared = pef_prepare(&context, (const uint8_t *)"User", 4, &connection, &names);
+    uint32_t answer = pef_import_target(&context, connection, 0, 0, &it);
+    pef_free(&context);
+    const struct number numbers[] = {
+        {"pef_open", opened, PEF_OK},
+        {"pef_add, of the user", user, PEF_OK},
+        {"pef_add, of the library", library, PEF_OK},
+        {"pef_prepare", prepared, PEF_OK},
+        {"pef_import_target", answer, PEF_OK},
+        {"pef_target.kind", it.kind, PEF_TARGET_IN_SECTION},
+        {"pef_target.fragment", it.fragment, 1},
+        {"pef_target.section", it.section, 1},
+        {"pef_target.offset", it.offset, 4},
+        {"pef_target.address", it.address, 0x00010014},
+    };
+    COMPARE(numbers);
+}
+
 /* A symbol that a library lacks is reported with all three names. */
 static void test_names(void)
 {
@@ -345,6 +394,7 @@ int main(void)
     COMPARE(places);
     link_script();
     test_header();
+    test_place();
     test_section();
     test_loader();
     test_library();
@@ -353,6 +403,7 @@ int main(void)
     test_exports();
     test_fragment_section();
     test_entries();
+    test_target();
     test_names();
     printf("%zu numbers, %zu of them differ\n", compared, different);
     return different == 0 ? 0 : 1;

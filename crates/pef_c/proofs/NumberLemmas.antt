@@ -68,19 +68,19 @@ reloc_refused reloc.OutOfMemory = refl
 
 bind_refused : (f : BindFault) → (bind_number f == 0) ≡ false
 bind_refused (bind.Container f k) = view_refused k
-bind_refused (bind.Loader f k) = loader_refused k
-bind_refused (bind.LibraryMissing f l) = refl
-bind_refused (bind.SymbolMissing f l s) = refl
-bind_refused (bind.ImplementationTooOld f l) = refl
-bind_refused (bind.ImplementationTooNew f l) = refl
-bind_refused (bind.ReexportLoop f s) = refl
-bind_refused (bind.InitLoop f) = refl
+bind_refused (bind.Loader f k place) = loader_refused k
+bind_refused (bind.LibraryMissing f l place) = refl
+bind_refused (bind.SymbolMissing f l s place) = refl
+bind_refused (bind.ImplementationTooOld f l place needed found) = refl
+bind_refused (bind.ImplementationTooNew f l place needed found) = refl
+bind_refused (bind.ReexportLoop f s place) = refl
+bind_refused (bind.InitLoop f place) = refl
 bind_refused bind.OutOfMemory = refl
 
 fragment_refused : (f : FragmentFault) → (fragment_number f == 0) ≡ false
-fragment_refused (fragment.NoRoom f) = refl
-fragment_refused (fragment.Pack f k) = pack_refused k
-fragment_refused (fragment.Reloc f k) = reloc_refused k
+fragment_refused (fragment.NoRoom f place) = refl
+fragment_refused (fragment.Pack f k place) = pack_refused k
+fragment_refused (fragment.Reloc f k section place) = reloc_refused k
 fragment_refused fragment.OutOfMemory = refl
 
 pub prepare_refused : (f : PrepareFault) → (fault_number f == 0) ≡ false

@@ -9,3 +9,4 @@ pub mod Rows
 pub mod Handles
 pub mod Contexts
 pub mod Reading
+pub mod Places

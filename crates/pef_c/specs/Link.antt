@@ -1,9 +1,10 @@
 -- What `pef_link` returns and writes. 99 means that an allocation failed, and 200 that the buffer is too small.
-use Rattle.std.specs.Prelude.{◌≡◌, ◌⊎◌, ◌==◌, ℕ, List, Ok, Err, MatchBool}
+use Rattle.std.specs.Prelude.{◌≡◌, ◌⊎◌, ◌==◌, ℕ, List, Option, Ok, Err, MatchBool}
 use Rattle.pef_script.specs.Script.{DescribedScript}
 use Rattle.pef_script.specs.Text.Faults.{fault_number}
 use Rattle.pef_script.specs.Text.Grammar.{script_of}
 use Rattle.pef_script.specs.declared.text.fault.LineFault.{LineFault}
+use Rattle.pef_script.specs.declared.text.places.Word.{Word}
 use Rattle.pef_write.specs.Linked.{IsLinked, LinkedContainer}
 use Rattle.pef_c.specs.Buffers.{Fills, IsTooLong}
 
@@ -13,7 +14,8 @@ IsLinkedOf text l = (script : DescribedScript) × (script_of text ≡ Ok script)
 
 -- the number and the line of the text's first refusal
 abbrev pub IsRefusal : List ℕ → ℕ → ℕ → Type 0
-IsRefusal text line answer = (fault : LineFault) × (script_of text ≡ Err (record { fault = fault; line = line })) × (answer ≡ fault_number fault)
+IsRefusal text line answer =
+    (fault : LineFault) × (word : Word) × (earlier : Option ℕ) × (script_of text ≡ Err (record { fault = fault; line = line; word = word; earlier = earlier })) × (answer ≡ fault_number fault)
 
 -- an allocation failed, or the text is refused
 abbrev pub LinkRefuses : List ℕ → ℕ → ℕ → Type 0

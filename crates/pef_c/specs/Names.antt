@@ -19,7 +19,7 @@ library_help number =
     if number == 200 then Some (codes "The buffer for the result is too small. Call again with a buffer of the length that was stored.")
     else if number == 201 then Some (codes "There is nothing under this number.")
     else if number == 202 then Some (codes "The context isn't open. Open it by pef_open first.")
-    else if number == 203 then Some (codes "The context has already given a connection. Add all fragments before the first preparation.")
+    else if number == 203 then Some (codes "A fragment of an open connection has a weak library of this name, and was prepared without it. Add the library after that connection is closed.")
     else if number == 204 then Some (codes "The context has 256 fragments, and takes no more.")
     else None
 

@@ -5,10 +5,14 @@ use Rattle.cfm_prepare.specs.Contexts.{ContextState, open_of}
 use Rattle.cfm_prepare.specs.Readers.{section_header_of}
 use Rattle.cfm_prepare.specs.Sections.{section_present}
 use Rattle.cfm_prepare.specs.declared.entries.Entries.{Entries}
+use Rattle.cfm_prepare.specs.declared.imports.ImportTarget.{ImportTarget}
+use Rattle.cfm_closure.specs.declared.targets.Target.{Target}
+use Rattle.cfm_closure.specs.declared.targets.Target.TheVariants.{Absolute, At}
 use Rattle.pef_views.specs.declared.section.SectionHeader.{SectionHeader}
 use Rattle.pef_c.specs.Buffers.{Fills, IsTooLong}
 use Rattle.pef_c.specs.declared.structs.PefEntries.{PefEntries}
 use Rattle.pef_c.specs.declared.structs.PefFragmentSection.{PefFragmentSection}
+use Rattle.pef_c.specs.declared.structs.PefTarget.{PefTarget}
 
 -- 0, and the value is written; or 201, if there is none, or 202, and nothing is written
 abbrev pub ReadAnswers : {A : Type 0} → (ContextState → Option A) → Option ContextState → A → A → ℕ → Type 0
@@ -24,6 +28,23 @@ CopiesOut (Some items) old new before after answer = MatchBool (answer == 0) (Fi
 abbrev pub CopyAnswers : {A : Type 0} → (ContextState → Option (List A)) → Option ContextState → List A → List A → ℕ → ℕ → ℕ → Type 0
 CopyAnswers items None old new before after answer = (answer ≡ 202) × (new ≡ old) × (after ≡ before)
 CopyAnswers items (Some s) old new before after answer = CopiesOut (items s) old new before after answer
+
+-- the same of items that are made for the call; or 99, if an allocation fails, and nothing is written
+abbrev pub MakesOut : {A : Type 0} → Option (List A) → List A → List A → ℕ → ℕ → ℕ → Type 0
+MakesOut items old new before after answer = MatchBool (answer == 99) ((new ≡ old) × (after ≡ before)) (CopiesOut items old new before after answer)
+
+abbrev pub MadeAnswers : {A : Type 0} → (ContextState → Option (List A)) → Option ContextState → List A → List A → ℕ → ℕ → ℕ → Type 0
+MadeAnswers items None old new before after answer = (answer ≡ 202) × (new ≡ old) × (after ≡ before)
+MadeAnswers items (Some s) old new before after answer = MakesOut (items s) old new before after answer
+
+-- what an import means as C sees it: 0 if it is missing, 1 for a number, 2 for a place in a section; and its address
+abbrev pub target_shown : Option Target → ℕ → PefTarget
+target_shown None address = record { kind = 0; fragment = 0; section = 0; offset = 0; address = address }
+target_shown (Some (Absolute number)) address = record { kind = 1; fragment = 0; section = 0; offset = 0; address = address }
+target_shown (Some (At fragment section offset)) address = record { kind = 2; fragment = fragment; section = section; offset = offset; address = address }
+
+abbrev pub target_given : ImportTarget → PefTarget
+target_given i = target_shown i.target i.address
 
 -- a section as C sees it: its address and its bytes in memory, and its header
 abbrev pub section_given : ℕ × List ℕ → SectionHeader → PefFragmentSection

@@ -1,6 +1,8 @@
 //! The numbers that calls return, and copying into the caller's buffer.
 ghost use Rattle.std.specs.Prelude.{◌≡◌, ◌==◌, drop, false, take};
+ghost use Rattle.std.specs.Option.{option_copied};
 ghost use Rattle.pef_c.specs.Buffers.{FillsPart, IsCopied};
+ghost use Rattle.pef_c.specs.Reading.{CopiesOut};
 ghost use Rattle.pef_listing.specs.Faults as listing;
 ghost use Rattle.pef_loader.specs.Faults as loader;
 ghost use Rattle.pef_pidata.specs.Faults as pidata;
@@ -33,6 +35,21 @@ pub(crate) fn copy_out<T: Copy>(items: &[T], buffer: &mut [T], written: &mut usi
     let (front, _) = buffer.split_at_mut_checked(items.len())?;
     front.copy_from_slice(items);
     Some(())
+}
+
+/// Copies items to the front of the caller's buffer.
+///
+/// Returns 0, or 200 if the buffer is too small, or 201 if there are no items to copy.
+pub(crate) fn copy_answer<T: Copy>(items: Option<&[T]>, buffer: &mut [T], count: &mut usize) -> u32
+    ensures { CopiesOut (option_copied items.entry) buffer.old buffer.new count.old count.new result }
+{
+    let Some(items) = items else {
+        return NOT_THERE;
+    };
+    match copy_out(items, buffer, count) {
+        Some(()) => 0,
+        None => ROOM_TOO_SMALL,
+    }
 }
 
 /// Copies the items from a place on to the front of the caller's buffer, as many as fit. Writes how many they are.

@@ -1,9 +1,11 @@
 //! Contexts: a fragment with its library is loaded, read and closed, and refusals are reported.
 use crate::handle::{PefContext, none};
 use crate::{
-    PefEntries, PefFragmentSection, PefNames, pef_add, pef_close, pef_fragment_bytes,
-    pef_fragment_entries, pef_fragment_name, pef_fragment_section, pef_fragment_sections,
-    pef_fragment_symbol, pef_fragments, pef_free, pef_init_order, pef_link, pef_open, pef_prepare,
+    PefEntries, PefFragmentSection, PefNames, PefTarget, pef_add, pef_close, pef_export_address,
+    pef_fragment_bytes, pef_fragment_entries, pef_fragment_name, pef_fragment_section,
+    pef_fragment_sections, pef_fragment_symbol, pef_fragments, pef_free, pef_import_target,
+    pef_init_order, pef_link, pef_new_fragments, pef_open, pef_prepare, pef_released_by,
+    pef_reserve,
 };
 use std::alloc::Global;
 use std::process::Abort;
@@ -117,11 +119,159 @@ fn loaded(rt: HostRuntime) {
     test_fragments(&rt, rt.alloc(), &mut context);
     test_memory(&rt, rt.alloc(), &mut context);
     test_addresses(&rt, rt.alloc(), &mut context);
-    assert!(rt; pef_add(rt.alloc(), &mut context, b"B", b"") == 203);
+    assert!(rt; pef_add(rt.alloc(), &mut context, b"B", b"") == 0);
     assert!(rt; pef_close(rt.alloc(), &mut context, 0) == 0);
     assert!(rt; pef_close(rt.alloc(), &mut context, 0) == 68);
     let mut count = 7;
     assert!(rt; pef_fragment_sections(rt.alloc(), &mut context, 0, &mut count) == 0 && count == 0);
+    pef_free(rt.alloc(), &mut context);
+}
+
+/// Prepares a fragment, whose connection has this number.
+fn prepare(rt: &impl Abort, alloc: Global, context: &mut PefContext, name: &[u8], wanted: u32) {
+    let mut connection = 7;
+    let mut names = NO_NAMES;
+    assert!(rt; pef_prepare(alloc, context, name, &mut connection, &mut names) == 0);
+    assert!(rt; connection == wanted);
+}
+
+/// The second connection places what the first one lacks, and closing it releases that alone.
+#[test]
+fn new_and_released(rt: HostRuntime) {
+    let mut context = opened(&rt, rt.alloc(), true);
+    prepare(&rt, rt.alloc(), &mut context, b"L", 0);
+    prepare(&rt, rt.alloc(), &mut context, b"A", 1);
+    let mut places = [7; 3];
+    let mut count = 7;
+    assert!(rt; pef_new_fragments(rt.alloc(), &mut context, 0, &mut places, &mut count) == 0);
+    assert!(rt; places == [1, 7, 7] && count == 1);
+    assert!(rt; pef_new_fragments(rt.alloc(), &mut context, 1, &mut places, &mut count) == 0);
+    assert!(rt; places == [0, 7, 7] && count == 1);
+    assert!(rt; pef_new_fragments(rt.alloc(), &mut context, 2, &mut places, &mut count) == 201);
+    assert!(rt; pef_released_by(rt.alloc(), &mut context, 0, &mut places, &mut count) == 0);
+    assert!(rt; places == [0, 7, 7] && count == 0);
+    assert!(rt; pef_close(rt.alloc(), &mut context, 0) == 0);
+    assert!(rt; pef_released_by(rt.alloc(), &mut context, 0, &mut places, &mut count) == 201);
+    assert!(rt; pef_released_by(rt.alloc(), &mut context, 1, &mut [], &mut count) == 200);
+    assert!(rt; count == 2);
+    assert!(rt; pef_released_by(rt.alloc(), &mut context, 1, &mut places, &mut count) == 0);
+    assert!(rt; places == [0, 1, 7] && count == 2);
+    pef_free(rt.alloc(), &mut context);
+    assert!(rt; pef_released_by(rt.alloc(), &mut context, 1, &mut places, &mut count) == 202);
+    assert!(rt; pef_new_fragments(rt.alloc(), &mut context, 1, &mut places, &mut count) == 202);
+    assert!(rt; places == [0, 1, 7] && count == 2);
+}
+
+/// Sections are placed around a range, and no range meets a section or another range.
+#[test]
+fn reserved(rt: HostRuntime) {
+    let mut context = opened(&rt, rt.alloc(), true);
+    assert!(rt; pef_reserve(rt.alloc(), &mut context, 0x0001_0001, 15) == 0);
+    assert!(rt; pef_reserve(rt.alloc(), &mut context, 0x0001_000F, 1) == 67);
+    assert!(rt; pef_reserve(rt.alloc(), &mut context, 0x0001_000F, 0) == 0);
+    assert!(rt; pef_reserve(rt.alloc(), &mut context, 0xFFFF_FFF0, 17) == 67);
+    prepare(&rt, rt.alloc(), &mut context, b"L", 0);
+    let mut address = 7;
+    assert!(rt; pef_export_address(rt.alloc(), &mut context, 0, 1, 0, &mut address) == 0);
+    assert!(rt; address == 0x0001_0010);
+    assert!(rt; pef_reserve(rt.alloc(), &mut context, 0x0001_001F, 1) == 67);
+    pef_free(rt.alloc(), &mut context);
+    assert!(rt; pef_reserve(rt.alloc(), &mut context, 0, 1) == 202);
+}
+
+/// Three imports of a library: a place, a number, and a weak one that it lacks.
+const MEANINGS: &[u8] =
+    b"library N 1 0 -\nimport v data strong\nimport n data strong\nimport x data weak\nsection a data process 4 4\n";
+
+const MEANT: &[u8] =
+    b"versions 1 0 0\nsection k const process 2 4\nsection l data process 4 8\nexport v data l 4\nabsolute n data 0x89ABCDEF\n";
+
+/// Tests what an import of the fragment means.
+fn test_meaning(
+    rt: &impl Abort,
+    alloc: Global,
+    context: &mut PefContext,
+    number: usize,
+    wanted: PefTarget,
+) {
+    let mut target = NO_TARGET;
+    assert!(rt; pef_import_target(alloc, context, 0, 0, number, &mut target) == 0);
+    assert!(rt; target == wanted);
+}
+
+const NO_TARGET: PefTarget = PefTarget {
+    kind: 7,
+    fragment: 7,
+    section: 7,
+    offset: 7,
+    address: 7,
+};
+
+/// The library is fragment 1. Its second section is after the four bytes of the first, at the next multiple of 16.
+#[test]
+fn meanings(rt: HostRuntime) {
+    let mut context = none();
+    assert!(rt; pef_open(rt.alloc(), &mut context, LIMIT) == 0);
+    let user = linked(&rt, rt.alloc(), MEANINGS);
+    let library = linked(&rt, rt.alloc(), MEANT);
+    assert!(rt; pef_add(rt.alloc(), &mut context, b"A", user) == 0);
+    assert!(rt; pef_add(rt.alloc(), &mut context, b"N", library) == 0);
+    prepare(&rt, rt.alloc(), &mut context, b"A", 0);
+    let place = PefTarget {
+        kind: 2,
+        fragment: 1,
+        section: 1,
+        offset: 4,
+        address: 0x0001_0014,
+    };
+    let number = PefTarget {
+        kind: 1,
+        fragment: 0,
+        section: 0,
+        offset: 0,
+        address: 0x89AB_CDEF,
+    };
+    let missing = PefTarget {
+        kind: 0,
+        fragment: 0,
+        section: 0,
+        offset: 0,
+        address: 0,
+    };
+    test_meaning(&rt, rt.alloc(), &mut context, 0, place);
+    test_meaning(&rt, rt.alloc(), &mut context, 1, number);
+    test_meaning(&rt, rt.alloc(), &mut context, 2, missing);
+    let mut target = NO_TARGET;
+    assert!(rt; pef_import_target(rt.alloc(), &mut context, 0, 0, 3, &mut target) == 201);
+    assert!(rt; pef_import_target(rt.alloc(), &mut context, 1, 0, 0, &mut target) == 201);
+    assert!(rt; target == NO_TARGET);
+    let mut address = 7;
+    assert!(rt; pef_export_address(rt.alloc(), &mut context, 0, 1, 2, &mut address) == 201);
+    assert!(rt; pef_export_address(rt.alloc(), &mut context, 0, 0, 0, &mut address) == 201);
+    assert!(rt; address == 7);
+    pef_free(rt.alloc(), &mut context);
+    assert!(rt; pef_import_target(rt.alloc(), &mut context, 0, 0, 0, &mut target) == 202);
+    assert!(rt; pef_export_address(rt.alloc(), &mut context, 0, 1, 0, &mut address) == 202);
+}
+
+/// A fragment with a weak library that is missing.
+const WEAK: &[u8] =
+    b"library M 1 0 weak\nimport m data strong\nsection w data process 4 4\nfix w 0 import m\n";
+
+/// The library isn't added while a connection is open that was prepared without it.
+#[test]
+fn added_too_late(rt: HostRuntime) {
+    let mut context = none();
+    assert!(rt; pef_open(rt.alloc(), &mut context, LIMIT) == 0);
+    let weak = linked(&rt, rt.alloc(), WEAK);
+    assert!(rt; pef_add(rt.alloc(), &mut context, b"W", weak) == 0);
+    let mut connection = 7;
+    let mut names = NO_NAMES;
+    let prepared = pef_prepare(rt.alloc(), &mut context, b"W", &mut connection, &mut names);
+    assert!(rt; prepared == 0);
+    assert!(rt; pef_add(rt.alloc(), &mut context, b"M", b"") == 203);
+    assert!(rt; pef_close(rt.alloc(), &mut context, 0) == 0);
+    assert!(rt; pef_add(rt.alloc(), &mut context, b"M", b"") == 0);
     pef_free(rt.alloc(), &mut context);
 }
 

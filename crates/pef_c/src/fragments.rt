@@ -7,9 +7,9 @@ ghost use Rattle.cfm_prepare.specs.Fragments.{places_of};
 ghost use Rattle.cfm_prepare.specs.Readers.{entries_of, symbol_of};
 ghost use Rattle.cfm_prepare.specs.Sections.{section_present};
 ghost use Rattle.pef_c.specs.Contexts.{held};
-ghost use Rattle.pef_c.specs.Reading.{CopiesOut, CopyAnswers, ReadAnswers, entries_given, fragment_section_of};
+ghost use Rattle.pef_c.specs.Reading.{CopyAnswers, ReadAnswers, entries_given, fragment_section_of};
 
-use crate::answers::{NOT_OPEN, NOT_THERE, ROOM_TOO_SMALL, copy_out};
+use crate::answers::{NOT_OPEN, NOT_THERE, copy_answer};
 use crate::handle::{PefContext, put, take};
 use crate::structs::{PefEntries, PefFragmentSection};
 use cfm_prepare::{Connection, Context, Entries};
@@ -256,19 +256,4 @@ pub extern "C" fn pef_fragment_symbol(
     };
     put(context, boxed);
     answer
-}
-
-/// Copies items to the front of the caller's buffer.
-///
-/// Returns 0, or 200 if the buffer is too small, or 201 if there are no items to copy.
-fn copy_answer<T: Copy>(items: Option<&[T]>, buffer: &mut [T], count: &mut usize) -> u32
-    ensures { CopiesOut (option_copied items.entry) buffer.old buffer.new count.old count.new result }
-{
-    let Some(items) = items else {
-        return NOT_THERE;
-    };
-    match copy_out(items, buffer, count) {
-        Some(()) => 0,
-        None => ROOM_TOO_SMALL,
-    }
 }

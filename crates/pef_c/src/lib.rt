@@ -5,6 +5,7 @@
 #![tactic(auto)]
 
 mod answers;
+mod connections;
 mod container;
 mod context;
 #[cfg(test)]
@@ -19,6 +20,9 @@ mod list;
 mod loader;
 mod loose;
 mod names;
+mod place;
+#[cfg(test)]
+mod place_tests;
 mod refusal_names;
 mod rows;
 #[cfg(test)]
@@ -29,8 +33,11 @@ mod tests;
 mod text;
 mod theorems;
 
+pub use connections::{pef_export_address, pef_import_target, pef_new_fragments, pef_released_by};
 pub use container::{pef_header, pef_section, pef_section_name};
-pub use context::{pef_add, pef_close, pef_free, pef_open, pef_prepare};
+pub use context::{
+    pef_add, pef_close, pef_free, pef_open, pef_prepare, pef_prepare_with_place, pef_reserve,
+};
 pub use expand::pef_expand;
 pub use fragments::{
     pef_fragment_bytes, pef_fragment_entries, pef_fragment_name, pef_fragment_section,
@@ -41,9 +48,10 @@ pub use link::pef_link;
 pub use list::{pef_list, pef_list_part};
 pub use loader::pef_loader;
 pub use names::{pef_help, pef_name};
+pub use place::{pef_container_place, pef_script_place};
 pub use rows::{pef_export_named, pef_exports, pef_imports, pef_libraries, pef_relocations};
 pub use structs::{
     PefEntries, PefExport, PefFragmentSection, PefHeader, PefImport, PefLibrary, PefLoader,
-    PefNames, PefRelocation, PefSection,
+    PefNames, PefPlace, PefRelocation, PefSection, PefTarget,
 };
 pub use theorems::{container_names, listing_names, loader_names, packed_names, script_names};

@@ -22,7 +22,13 @@ pub extern "C" fn pef_link(
     *line = 0;
     let script = match Script::read(alloc, script) {
         Ok(script) => script,
-        Err(ScriptFault::Refused { fault, line: at }) => {
+        Err(
+            ScriptFault::Refused {
+                fault,
+                line: at,
+                ..
+            },
+        ) => {
             *line = at;
             return line_number(fault);
         }

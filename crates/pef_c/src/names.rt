@@ -90,7 +90,7 @@ fn library_help(number: u32) -> Option<&'static str>
         201 => Some("There is nothing under this number."),
         202 => Some("The context isn't open. Open it by pef_open first."),
         203 => Some(
-            "The context has already given a connection. Add all fragments before the first preparation.",
+            "A fragment of an open connection has a weak library of this name, and was prepared without it. Add the library after that connection is closed.",
         ),
         204 => Some("The context has 256 fragments, and takes no more."),
         _ => None,

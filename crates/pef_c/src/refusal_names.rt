@@ -1,62 +1,40 @@
-//! The names that are reported with a refusal.
-ghost use Rattle.std.specs.Prelude.{◌≡◌};
-ghost use Rattle.pef_c.specs.Contexts.{bind_names, fault_names, fragment_names, names_shown};
+//! The names and the place that are reported with the error of a preparation.
+ghost use Rattle.std.specs.Prelude.{◌≡◌, option_map};
+ghost use Rattle.pef_c.specs.Contexts.{fault_names, name_or_none, names_shown};
+ghost use Rattle.pef_c.specs.Places.{place_or_nowhere};
+ghost use Rattle.pef_faults.specs.Places.{fault_place};
+ghost use Rattle.pef_faults.specs.declared.fault.Fault.TheVariants.{Prepare};
 
-use crate::structs::PefNames;
-use cfm_closure::BindFault;
-use cfm_prepare::{FragmentFault, PrepareFault};
+use crate::place::place_or_nowhere;
+use crate::structs::{PefNames, PefPlace};
+use cfm_prepare::PrepareFault;
+use pef_faults::Fault;
 
-/// Returns the names of a fragment's refusal.
+/// Returns the names of a fragment that isn't prepared, of its library and of a symbol.
 pub(crate) fn names_of(fault: PrepareFault<'static>) -> PefNames
     ensures { names_shown result ≡ fault_names fault.entry }
 {
-    match fault {
-        PrepareFault::Bind(fault) => bind_names(fault),
-        PrepareFault::Fragment(fault) => fragment_names(fault),
-        PrepareFault::TooManyConnections | PrepareFault::RootMissing | PrepareFault::OutOfMemory =>
-            names(&[], &[], &[]),
-    }
-}
-
-/// Returns the names of a refusal of a closure.
-fn bind_names(fault: BindFault<'static>) -> PefNames
-    ensures { names_shown result ≡ bind_names fault.entry }
-{
-    match fault {
-        BindFault::Container { fragment, .. }
-        | BindFault::Loader { fragment, .. }
-        | BindFault::InitLoop { fragment } => names(fragment, &[], &[]),
-        BindFault::LibraryMissing { fragment, library }
-        | BindFault::ImplementationTooOld { fragment, library }
-        | BindFault::ImplementationTooNew { fragment, library } => names(fragment, library, &[]),
-        BindFault::SymbolMissing {
-            fragment,
-            library,
-            symbol,
-        } => names(fragment, library, symbol),
-        BindFault::ReexportLoop { fragment, symbol } => names(fragment, &[], symbol),
-        BindFault::OutOfMemory => names(&[], &[], &[]),
-    }
-}
-
-/// Returns the names of a refusal of a closure's new fragments.
-fn fragment_names(fault: FragmentFault<'static>) -> PefNames
-    ensures { names_shown result ≡ fragment_names fault.entry }
-{
-    match fault {
-        FragmentFault::NoRoom { fragment }
-        | FragmentFault::Pack { fragment, .. }
-        | FragmentFault::Reloc { fragment, .. } => names(fragment, &[], &[]),
-        FragmentFault::OutOfMemory => names(&[], &[], &[]),
-    }
-}
-
-fn names(fragment: &'static [u8], library: &'static [u8], symbol: &'static [u8]) -> PefNames
-    ensures { names_shown result ≡ record { fragment = fragment.entry.now; library = library.entry.now; symbol = symbol.entry.now } }
-{
+    let names = Fault::Prepare(fault).names();
     PefNames {
-        fragment,
-        library,
-        symbol,
+        fragment: name_or_none(names.fragment),
+        library: name_or_none(names.library),
+        symbol: name_or_none(names.symbol),
+    }
+}
+
+/// Returns the place in the container of the fragment that isn't prepared.
+pub(crate) fn place_of(fault: PrepareFault<'static>) -> PefPlace
+    ensures { result ≡ place_or_nowhere (fault_place (Prepare fault.entry)) }
+{
+    place_or_nowhere(Fault::Prepare(fault).place())
+}
+
+/// Returns a name, or no bytes if there is none.
+fn name_or_none(name: Option<&'static [u8]>) -> &'static [u8]
+    ensures { result.now ≡ name_or_none (option_map (λ name. name.now) name.entry) }
+{
+    match name {
+        Some(name) => name,
+        None => &[],
     }
 }

@@ -12,6 +12,17 @@ pub struct PefHeader {
     pub instantiated_section_count: u16,
 }
 
+/// Where an error is.
+#[repr(C)]
+#[derive(Clone, Copy, Debug, PartialEq, Eq)]
+pub struct PefPlace {
+    /// The kind of part, 0 for none.
+    pub part: u32,
+    pub row: usize,
+    pub field: usize,
+    pub offset: usize,
+}
+
 /// A section's header, without its name.
 #[repr(C)]
 #[derive(Clone, Copy, Debug, PartialEq, Eq)]
@@ -99,6 +110,19 @@ pub struct PefFragmentSection {
     pub size: usize,
     pub kind: u8,
     pub share: u8,
+}
+
+/// What an import means.
+#[repr(C)]
+#[derive(Clone, Copy, Debug, PartialEq, Eq)]
+pub struct PefTarget {
+    /// 0 if it is missing and weak, 1 for an absolute number, 2 for a place in a section.
+    pub kind: u32,
+    pub fragment: usize,
+    pub section: u32,
+    pub offset: u32,
+    /// The address that was added for the import.
+    pub address: u32,
 }
 
 /// The addresses of a fragment's entry points. One that isn't there has the address 0.
