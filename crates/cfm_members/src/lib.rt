@@ -1,0 +1,22 @@
+//! Which fragments a file of the classic Mac OS has, and where: the members of a resource `cfrg`, and the containers that
+//! a search finds.
+//!
+//! The table is that of Apple's `CodeFragments.h` and of *Inside Macintosh: PowerPC System Software*, "Code Fragment
+//! Manager". All bytes are slices of what is read. Nothing is copied and nothing is allocated.
+#![tactic(auto)]
+
+mod fault;
+mod file_kind;
+mod layout;
+mod member;
+mod num_version;
+mod reading;
+mod search;
+mod table;
+
+pub use fault::MemberFault;
+pub use file_kind::FileKind;
+pub use member::{Locator, Member, MemberHeader, Usage};
+pub use num_version::{NumVersion, Stage};
+pub use search::Containers;
+pub use table::{FragmentTable, Members};

@@ -1,0 +1,2 @@
+mod FewLemmas
+mod ListLemmas
