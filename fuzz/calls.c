@@ -223,6 +223,11 @@ static void read_connection(struct pef_context *context, uint32_t connection)
         return;
     if (pef_init_order(context, connection, order, count, &count) != PEF_OK)
         fails("pef_init_order", connection);
+    size_t some[PEF_MAX_FRAGMENTS], some_count = 0;
+    if (pef_new_fragments(context, connection, some, count, &some_count) != PEF_OK || some_count > count)
+        fails("pef_new_fragments", connection);
+    if (pef_released_by(context, connection, some, count, &some_count) != PEF_OK || some_count > count)
+        fails("pef_released_by", connection);
     for (size_t i = 0; i < count; i++) {
         struct pef_entries entries = {0};
         struct pef_bytes name = PEF_NO_BYTES;
@@ -233,6 +238,12 @@ static void read_connection(struct pef_context *context, uint32_t connection)
         if (pef_fragment_name(context, order[i], &name) != PEF_OK || pef_fragment_sections(context, order[i], &sections) != PEF_OK)
             fails("pef_fragment_name", (uint32_t)order[i]);
         is_ok("pef_fragment_symbol", pef_fragment_symbol(context, connection, order[i], (const uint8_t *)"t", 1, &address));
+        struct pef_target target = {0};
+        for (size_t number = 0; number < 32; number++) {
+            is_ok("pef_export_address", pef_export_address(context, connection, order[i], number, &address));
+            if (is_ok("pef_import_target", pef_import_target(context, connection, order[i], number, &target)) && target.kind > PEF_TARGET_IN_SECTION)
+                fails("pef_import_target", target.kind);
+        }
         for (size_t number = 0; number < sections; number++) {
             struct pef_fragment_section it = {0};
             if (pef_fragment_section(context, connection, order[i], number, &it) != PEF_OK)
@@ -258,6 +269,8 @@ static void call(struct pef_context *context, uint8_t what, uint8_t one, uint8_t
     case 1:
         if (one % 8 == 0)
             pef_free(context);
+        else if (one % 8 == 1)
+            is_ok("pef_reserve", pef_reserve(context, 0x00010000u + other * 16u, one));
         break;
     case 2:
     case 3:

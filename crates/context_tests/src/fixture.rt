@@ -117,7 +117,7 @@ fn tell_fault(rt: &impl Abort, text: &mut String, fault: PrepareFault<'_>) {
     write!(text, "{} {fault}", fault.number()).expect(rt, "memory");
     match fault {
         PrepareFault::Fragment(
-            FragmentFault::NoRoom { fragment }
+            FragmentFault::NoRoom { fragment, .. }
             | FragmentFault::Pack { fragment, .. }
             | FragmentFault::Reloc { fragment, .. },
         ) => tell_name(text, fragment).expect(rt, "memory"),

@@ -20,6 +20,8 @@ mod readers;
 #[cfg(test)]
 mod refused;
 #[cfg(test)]
+mod reserved;
+#[cfg(test)]
 mod steps;
 #[cfg(test)]
 mod symbols;

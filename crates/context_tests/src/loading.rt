@@ -25,13 +25,13 @@ impl Machine {
 /// Prepares an application, and copies its sections into the memory of a machine.
 fn prepare_app(context: &mut Context<'_>, machine: &mut Machine) -> Result<(), Fail> {
     let app = context.prepare(b"App")?;
-    for position in context.fragments(app).unwrap_or(&[]) {
+    for position in context.new_fragments(app).unwrap_or(&[]) {
         // copy each section to where the machine has it
         for (address, bytes) in context.sections(*position) {
             machine.write(address, bytes);
         }
     }
-    // then run the initialization routines in order, and the main routine
+    // then run the initialization routines of these in this order, and the main routine
     context.close(app)?;
     Ok(())
 }

@@ -1,15 +1,16 @@
-use cfm_closure::{BindFault, StoreFault};
+use cfm_closure::{BindFault, Definition, Implementation, StoreFault};
 use cfm_memory::MemoryFault;
 use cfm_prepare::{AddFault, CloseFault, FragmentFault, PrepareFault};
 use pef_cert::CertFault;
+use pef_format::{Part, Place};
 use pef_hash::HashFault;
 use pef_listing::ListFault;
-use pef_loader::{EntryKind, LoaderFault, NamedRow};
+use pef_loader::{EntryKind, LoaderFault, NamedRow, ProgramFault};
 use pef_pidata::PackFault;
 use pef_plan::PlanFault;
 use pef_ports::InputFault;
 use pef_reloc::RelocFault;
-use pef_script::{LineFault, ScriptFault};
+use pef_script::{LineFault, ScriptFault, Word};
 use pef_views::ViewFault;
 use pef_write::LinkFault;
 use std::alloc::Global;
@@ -100,30 +101,40 @@ const PROGRAMS: &[(RelocFault, &str)] = &[
 
 /// Refusals of a script's line.
 const LINES: &[(LineFault, &str)] = &[
-    (LineFault::BadLine, "BadLine"),
-    (LineFault::BadNumber, "BadNumber"),
-    (LineFault::UnknownName, "UnknownName"),
-    (LineFault::RepeatedName, "RepeatedName"),
-    (LineFault::OutOfOrder, "OutOfOrder"),
-    (LineFault::Overlap, "Overlap"),
-    (LineFault::OutsideSection, "OutsideSection"),
-    (LineFault::TooMany, "TooMany"),
-    (LineFault::BadKind, "BadKind"),
+    (LineFault::BadLine { word: 1 }, "BadLine"),
+    (LineFault::BadNumber { word: 1 }, "BadNumber"),
+    (LineFault::UnknownName { word: 1 }, "UnknownName"),
+    (LineFault::RepeatedName { word: 1 }, "RepeatedName"),
+    (LineFault::OutOfOrder { word: 1 }, "OutOfOrder"),
+    (LineFault::Overlap { word: 1 }, "Overlap"),
+    (LineFault::OutsideSection { word: 1 }, "OutsideSection"),
+    (LineFault::TooMany { word: 1 }, "TooMany"),
+    (LineFault::BadKind { word: 1 }, "BadKind"),
 ];
+
+const NO_WORD: Word = Word {
+    number: 0,
+    from: 0,
+    to: 0,
+};
 
 /// Refusals of scripts, with their line.
 const SCRIPTS: &[(ScriptFault, &str)] = &[
     (
         ScriptFault::Refused {
-            fault: LineFault::BadLine,
+            fault: LineFault::BadLine { word: 0 },
             line: 1,
+            word: NO_WORD,
+            earlier: None,
         },
         "BadLine line 1",
     ),
     (
         ScriptFault::Refused {
-            fault: LineFault::BadKind,
+            fault: LineFault::BadKind { word: 2 },
             line: 4_294_967_296,
+            word: NO_WORD,
+            earlier: Some(1),
         },
         "BadKind line 4294967296",
     ),
@@ -152,17 +163,53 @@ const MEMORY: &[(MemoryFault, &str)] = &[
     (MemoryFault::OutOfMemory, "OutOfMemory"),
 ];
 
+/// A place. No text has it.
+const PLACE: Place = Place {
+    part: Part::Header,
+    row: 0,
+    field: 0,
+    offset: None,
+};
+
+/// Versions. No text has them.
+const NEEDED: Definition = Definition {
+    current: 2,
+    old_imp: 2,
+};
+
+const FOUND: Implementation = Implementation {
+    current: 1,
+    old_def: 0,
+};
+
+const INIT_LOOP: BindFault<'static> = BindFault::InitLoop {
+    fragment: b"A",
+    place: PLACE,
+};
+
+const NO_ROOM: FragmentFault<'static> = FragmentFault::NoRoom {
+    fragment: b"A",
+    place: PLACE,
+};
+
 /// Refusals of listings.
 const LISTINGS: &[(ListFault, &str)] = &[
     (ListFault::View(ViewFault::BadTag), "BadTag"),
     (
-        ListFault::Loader(LoaderFault::BadName {
-            of: NamedRow::Import(41),
-        }),
+        ListFault::Loader {
+            fault: LoaderFault::BadName {
+                of: NamedRow::Import(41),
+            },
+            place: PLACE,
+        },
         "BadName",
     ),
     (
-        ListFault::Reloc(RelocFault::RepeatCuts { at: 0 }),
+        ListFault::Reloc(ProgramFault {
+            fault: RelocFault::RepeatCuts { at: 0 },
+            section: 0,
+            place: PLACE,
+        }),
         "RepeatCuts",
     ),
 ];
@@ -182,6 +229,7 @@ const CLOSURES: &[(BindFault<'static>, &str)] = &[
             fault: LoaderFault::BadEntry {
                 entry: EntryKind::Init,
             },
+            place: PLACE,
         },
         "BadEntry",
     ),
@@ -189,6 +237,7 @@ const CLOSURES: &[(BindFault<'static>, &str)] = &[
         BindFault::LibraryMissing {
             fragment: b"A",
             library: b"L",
+            place: PLACE,
         },
         "LibraryMissing",
     ),
@@ -197,6 +246,7 @@ const CLOSURES: &[(BindFault<'static>, &str)] = &[
             fragment: b"A",
             library: b"L",
             symbol: b"v",
+            place: PLACE,
         },
         "SymbolMissing",
     ),
@@ -204,6 +254,9 @@ const CLOSURES: &[(BindFault<'static>, &str)] = &[
         BindFault::ImplementationTooOld {
             fragment: b"A",
             library: b"L",
+            place: PLACE,
+            needed: NEEDED,
+            found: FOUND,
         },
         "ImplementationTooOld",
     ),
@@ -211,6 +264,9 @@ const CLOSURES: &[(BindFault<'static>, &str)] = &[
         BindFault::ImplementationTooNew {
             fragment: b"A",
             library: b"L",
+            place: PLACE,
+            needed: NEEDED,
+            found: FOUND,
         },
         "ImplementationTooNew",
     ),
@@ -218,20 +274,22 @@ const CLOSURES: &[(BindFault<'static>, &str)] = &[
         BindFault::ReexportLoop {
             fragment: b"A",
             symbol: b"v",
+            place: PLACE,
         },
         "ReexportLoop",
     ),
-    (BindFault::InitLoop { fragment: b"A" }, "InitLoop"),
+    (INIT_LOOP, "InitLoop"),
     (BindFault::OutOfMemory, "OutOfMemory"),
 ];
 
 /// Refusals of a closure's new fragments.
 const FRAGMENTS: &[(FragmentFault<'static>, &str)] = &[
-    (FragmentFault::NoRoom { fragment: b"A" }, "NoRoom"),
+    (NO_ROOM, "NoRoom"),
     (
         FragmentFault::Pack {
             fragment: b"A",
             fault: PackFault::TooLong { at: 0 },
+            place: PLACE,
         },
         "TooLong",
     ),
@@ -239,6 +297,8 @@ const FRAGMENTS: &[(FragmentFault<'static>, &str)] = &[
         FragmentFault::Reloc {
             fragment: b"A",
             fault: RelocFault::WordOutside { at: 0, word: 0 },
+            section: 0,
+            place: PLACE,
         },
         "WordOutside",
     ),
@@ -256,14 +316,8 @@ const ADDITIONS: &[(AddFault, &str)] = &[
 const PREPARATIONS: &[(PrepareFault<'static>, &str)] = &[
     (PrepareFault::TooManyConnections, "TooManyConnections"),
     (PrepareFault::RootMissing, "RootMissing"),
-    (
-        PrepareFault::Bind(BindFault::InitLoop { fragment: b"A" }),
-        "InitLoop",
-    ),
-    (
-        PrepareFault::Fragment(FragmentFault::NoRoom { fragment: b"A" }),
-        "NoRoom",
-    ),
+    (PrepareFault::Bind(INIT_LOOP), "InitLoop"),
+    (PrepareFault::Fragment(NO_ROOM), "NoRoom"),
     (PrepareFault::OutOfMemory, "OutOfMemory"),
 ];
 

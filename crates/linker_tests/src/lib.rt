@@ -3,6 +3,8 @@
 #![tactic(auto)]
 
 #[cfg(test)]
+mod places;
+#[cfg(test)]
 mod programs;
 #[cfg(test)]
 mod refused;

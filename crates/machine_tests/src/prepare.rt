@@ -1,7 +1,14 @@
 use cfm_closure::Store;
 use cfm_prepare::Context;
+use pef_format::{Part, Place};
 use std::alloc::Global;
 use std::process::Abort;
+
+/// The number of a refusal, and its place: the part, its number, the offset of a field in it, and that in the container.
+///
+/// The container header has 40 bytes and each section header 28. The raw bytes follow, and the loader section: its
+/// header, library and import have 84 bytes, each relocation header has 12, and the programs follow.
+type Told = (u32, Part, usize, usize, usize);
 
 /// A container, and the result if it is prepared in empty memory up to 00020000 (hex). It has one import, which
 /// it exports itself as the number 00000100.
@@ -17,8 +24,8 @@ struct Row {
     next_program: &'static [u8],
     /// Whether a second section follows, of one word, 00000001.
     second: bool,
-    /// The first section's memory after preparation, or the number of the refusal.
-    wanted: Result<&'static [u8], u32>,
+    /// The first section's memory after preparation, or the refusal.
+    wanted: Result<&'static [u8], Told>,
 }
 
 /// One word of zeros.
@@ -39,7 +46,7 @@ const BAD_PATTERN: Row = Row {
     total: 1,
     unpacked: 1,
     raw: b"\xA0",
-    wanted: Err(22),
+    wanted: Err((22, Part::PackedData, 0, 0, 96)),
     ..ZEROS
 };
 
@@ -113,7 +120,7 @@ const RELOCATED: &[Row] = &[
     },
     Row {
         program: b"\x66\x01",
-        wanted: Err(39),
+        wanted: Err((39, Part::Program, 0, 0, 192)),
         ..ZEROS
     },
 ];
@@ -123,25 +130,25 @@ const BAD_IMAGES: &[Row] = &[
         total: 2,
         unpacked: 2,
         raw: b"\x22\x01",
-        wanted: Err(21),
+        wanted: Err((21, Part::PackedData, 0, 0, 96)),
         ..BAD_PATTERN
     },
     BAD_PATTERN,
     Row {
         raw: b"\x20\xFF\xFF\xFF\xFF\x7F",
-        wanted: Err(23),
+        wanted: Err((23, Part::PackedData, 0, 0, 96)),
         ..BAD_PATTERN
     },
     Row {
         raw: b"\x22\x01\x02",
-        wanted: Err(24),
+        wanted: Err((24, Part::PackedData, 0, 0, 96)),
         ..BAD_PATTERN
     },
     Row {
         total: 2,
         unpacked: 2,
         raw: b"\x21\x05",
-        wanted: Err(25),
+        wanted: Err((25, Part::PackedData, 0, 2, 98)),
         ..BAD_PATTERN
     },
 ];
@@ -149,50 +156,50 @@ const BAD_IMAGES: &[Row] = &[
 const BAD_PROGRAMS: &[Row] = &[
     Row {
         program: b"\x4C\x00",
-        wanted: Err(31),
+        wanted: Err((31, Part::Program, 0, 0, 192)),
         ..ZEROS
     },
     Row {
         program: b"\xA0\x00",
-        wanted: Err(32),
+        wanted: Err((32, Part::Program, 0, 0, 192)),
         ..ZEROS
     },
     Row {
         program: b"\x42\x00\x91\x00",
-        wanted: Err(33),
+        wanted: Err((33, Part::Program, 0, 2, 194)),
         ..ZEROS
     },
     Row {
         program: b"\xA0\x00\x00\x00\x90\x00",
-        wanted: Err(34),
+        wanted: Err((34, Part::Program, 0, 4, 196)),
         ..ZEROS
     },
     Row {
         program: b"\x42\x00\x90\x01\x90\x01",
-        wanted: Err(35),
+        wanted: Err((35, Part::Program, 0, 4, 196)),
         ..ZEROS
     },
     Row {
         program: b"\x80\x00\x80\x00\x80\x00\x80\x00\xB0\xFF\xFF\xFF",
-        wanted: Err(36),
+        wanted: Err((36, Part::Program, 0, 8, 200)),
         ..ZEROS
     },
     Row {
         total: 3,
         program: b"\x40\x00",
-        wanted: Err(37),
+        wanted: Err((37, Part::Program, 0, 0, 192)),
         ..ZEROS
     },
     Row {
         total: 8,
         program: b"\x4A\x01",
-        wanted: Err(38),
+        wanted: Err((38, Part::Program, 0, 0, 192)),
         ..ZEROS
     },
     Row {
         program: b"\x62\x07",
         second: true,
-        wanted: Err(39),
+        wanted: Err((39, Part::Program, 0, 0, 224)),
         ..ZEROS
     },
 ];
@@ -202,7 +209,7 @@ const FIRST_REFUSALS: &[Row] = &[
     Row {
         total: 0x1_0001,
         program: b"\x4C\x00",
-        wanted: Err(67),
+        wanted: Err((67, Part::Section, 0, 8, 48)),
         ..BAD_PATTERN
     },
     Row {
@@ -213,14 +220,14 @@ const FIRST_REFUSALS: &[Row] = &[
         total: 8,
         program: b"\x4A\x01",
         next_program: b"\x4C\x00",
-        wanted: Err(38),
+        wanted: Err((38, Part::Program, 0, 0, 204)),
         ..ZEROS
     },
     Row {
         total: 8,
         program: b"\x40\x00",
         next_program: b"\x4C\x00",
-        wanted: Err(31),
+        wanted: Err((31, Part::Program, 1, 0, 206)),
         ..ZEROS
     },
 ];
@@ -357,11 +364,11 @@ fn store_of<'a>(rt: &impl Abort, alloc: Global, container: &'a [u8]) -> Store<'a
     store
 }
 
-/// Returns the number of the fragment's refusal, if it isn't prepared.
-fn refusal(context: &mut Context<'_>) -> Option<u32> {
+/// Returns the number of the fragment's refusal and its place, if it isn't prepared.
+fn refusal(context: &mut Context<'_>) -> Option<(u32, Option<Place>)> {
     match context.prepare(b"it") {
         Ok(_) => None,
-        Err(fault) => Some(fault.number()),
+        Err(fault) => Some((fault.number(), fault.place())),
     }
 }
 
@@ -384,8 +391,14 @@ fn test_prepared(rt: &impl Abort, context: &mut Context<'_>, row: &Row) {
             assert!(rt; sections == count, "{row:?}");
             assert!(rt; shows(context, memory), "{row:?}");
         }
-        Err(number) => {
-            assert!(rt; refusal == Some(number), "{row:?}");
+        Err((number, part, row_number, field, offset)) => {
+            let place = Place {
+                part,
+                row: row_number,
+                field,
+                offset: Some(offset),
+            };
+            assert!(rt; refusal == Some((number, Some(place))), "{row:?}");
             assert!(rt; sections == 0, "{row:?}");
         }
     }

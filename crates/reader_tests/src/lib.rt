@@ -13,6 +13,8 @@ mod loader;
 #[cfg(test)]
 mod pidata;
 #[cfg(test)]
+mod places;
+#[cfg(test)]
 mod views;
 #[cfg(test)]
 mod words;

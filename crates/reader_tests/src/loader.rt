@@ -293,7 +293,14 @@ type Damaged = (
 
 /// Offsets are relative to byte 160.
 const GO_DAMAGED: &[Damaged] = &[
-    (&[(112, 55)], LoaderFault::LoaderShort, 11, None, b""),
+    (
+        &[(112, 55)],
+        LoaderFault::LoaderShort,
+        11,
+        Some(0),
+        b"\x00\x00\x00\x01",
+    ),
+    (&[(112, 0)], LoaderFault::LoaderShort, 11, Some(0), b""),
     (
         &[(184, 0xFFFF_FFFF)],
         LoaderFault::BadTableOffset,
