@@ -26,9 +26,21 @@ pub fn tell_names(text: &mut String, fault: BindFault<'_>) -> Result<(), AllocEr
         BindFault::Container { fragment, .. } | BindFault::Loader { fragment, .. } => {
             tell_name(text, fragment)
         }
-        BindFault::LibraryMissing { fragment, library }
-        | BindFault::ImplementationTooOld { fragment, library }
-        | BindFault::ImplementationTooNew { fragment, library } => {
+        BindFault::LibraryMissing {
+            fragment,
+            library,
+            ..
+        }
+        | BindFault::ImplementationTooOld {
+            fragment,
+            library,
+            ..
+        }
+        | BindFault::ImplementationTooNew {
+            fragment,
+            library,
+            ..
+        } => {
             tell_name(text, fragment)?;
             tell_name(text, library)
         }
@@ -36,16 +48,21 @@ pub fn tell_names(text: &mut String, fault: BindFault<'_>) -> Result<(), AllocEr
             fragment,
             library,
             symbol,
+            ..
         } => {
             tell_name(text, fragment)?;
             tell_name(text, library)?;
             tell_name(text, symbol)
         }
-        BindFault::ReexportLoop { fragment, symbol } => {
+        BindFault::ReexportLoop {
+            fragment,
+            symbol,
+            ..
+        } => {
             tell_name(text, fragment)?;
             tell_name(text, symbol)
         }
-        BindFault::InitLoop { fragment } => tell_name(text, fragment),
+        BindFault::InitLoop { fragment, .. } => tell_name(text, fragment),
         BindFault::OutOfMemory => Ok(()),
     }
 }
