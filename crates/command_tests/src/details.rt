@@ -174,6 +174,12 @@ const SCRIPTS: &[(&[u8], &[u8], &str)] = &[
         b"refused 66 InitLoop in it\n",
         "It is the option byte of library 0, counted from 0, at byte 0x9C of the file.\n",
     ),
+    // a section too many
+    (
+        b"section s0 data process 2 4\nsection s1 data process 2 4\nsection s2 data process 2 4\nsection s3 data process 2 4\nsection s4 data process 2 4\nsection s5 data process 2 4\nsection s6 data process 2 4\nsection s7 data process 2 4\nsection s8 data process 2 4\nsection s9 data process 2 4\nsection s10 data process 2 4\nsection s11 data process 2 4\nsection s12 data process 2 4\nsection s13 data process 2 4\nsection s14 data process 2 4\nsection s15 data process 2 4\nsection s16 data process 2 4\n",
+        b"refused 48 TooMany line 17\n",
+        "    section s16 data process 2 4\n            ^^^\n",
+    ),
 ];
 
 #[test]
@@ -449,6 +455,52 @@ const LOADED: &[(&[u8], usize, &[u8], &[u8], &str)] = &[
         b"\x60\x00",
         b"refused 38 ImportOutside in x\n",
         "It is at halfword 0 of the program of relocation header 0, both counted from 0, which is for section 1, at byte 0xE4 of the file.\nThe word is at offset 0x0 of the section.\n",
+    ),
+    // packed data, with the headers before it: ten bytes of which nine are there; an opcode that isn't one; eleven zeros
+    // of ten bytes; five bytes of ten
+    (
+        SPELLED,
+        64,
+        b"\x02\x01\x04\x00\xFF\xFF\xFF\xFF\x00\x00\x00\x00\x00\x00\x00\x00\x00\x00\x00\x00\x00\x00\x00\x54\x00\x00\x00\x70\x04\x04\x04\x00\x2A",
+        b"refused 21 Truncated in x\n",
+        "It is at byte 0 of the packed data of section 0, counted from 0, at byte 0x60 of the file.\n",
+    ),
+    (
+        SPELLED,
+        64,
+        b"\x02\x01\x04\x00\xFF\xFF\xFF\xFF\x00\x00\x00\x00\x00\x00\x00\x00\x00\x00\x00\x00\x00\x00\x00\x54\x00\x00\x00\x70\x04\x04\x04\x00\xA0",
+        b"refused 22 BadOpcode in x\n",
+        "It is at byte 0 of the packed data of section 0, counted from 0, at byte 0x60 of the file.\n",
+    ),
+    (
+        SPELLED,
+        64,
+        b"\x02\x01\x04\x00\xFF\xFF\xFF\xFF\x00\x00\x00\x00\x00\x00\x00\x00\x00\x00\x00\x00\x00\x00\x00\x54\x00\x00\x00\x70\x04\x04\x04\x00\x0B",
+        b"refused 24 TooLong in x\n",
+        "It is at byte 0 of the packed data of section 0, counted from 0, at byte 0x60 of the file.\n",
+    ),
+    (
+        SPELLED,
+        64,
+        b"\x02\x01\x04\x00\xFF\xFF\xFF\xFF\x00\x00\x00\x00\x00\x00\x00\x00\x00\x00\x00\x00\x00\x00\x00\x54\x00\x00\x00\x70\x04\x04\x04\x00\x21\xAA\x21\xAA\x21\xAA\x21\xAA\x21\xAA",
+        b"refused 25 TooShort in x\n",
+        "It is at byte 10 of the packed data of section 0, counted from 0, at byte 0x6A of the file.\n",
+    ),
+    // section 9 of three
+    (
+        VECTORS_LEAST,
+        228,
+        b"\x62\x09",
+        b"refused 39 SectionOutside in x\n",
+        "It is at halfword 0 of the program of relocation header 0, both counted from 0, which is for section 1, at byte 0xE4 of the file.\nThe word is at offset 0x0 of the section.\n",
+    ),
+    // more bytes than there are addresses
+    (
+        VECTORS_LEAST,
+        76,
+        b"\x20\x00\x00\x00",
+        b"refused 67 NoRoom in x\n",
+        "It is the size in memory of section 1, counted from 0, at byte 0x4C of the file.\n",
     ),
 ];
 
