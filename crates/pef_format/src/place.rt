@@ -33,7 +33,7 @@ pub enum Part {
 }
 
 impl Part {
-    /// Returns the number of a part's kind, from 1. 0 stands for no part.
+    /// Returns the number of a part's kind, from 1. 0 means no part.
     pub fn code(self) -> u32
         ensures { result ≡ part_code self }
     {
