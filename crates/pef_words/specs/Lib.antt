@@ -1,3 +1,4 @@
 pub mod Bytes
+pub mod Findings
 pub mod Refusals
 pub mod Results

@@ -5,5 +5,7 @@
 #![tactic(auto)]
 
 mod cut;
+mod tests;
 
 pub use cut::Cut;
+pub use tests::first_met;
