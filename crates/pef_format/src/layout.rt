@@ -279,10 +279,16 @@ pub const FIRST_IMPORTED_SYMBOL_AT: usize = 16;
 /// The options (options).
 pub const LIBRARY_OPTIONS_AT: usize = 20;
 
+/// The reserved byte and the reserved halfword after it (reservedA, reservedB).
+pub const LIBRARY_RESERVED_AT: usize = 21;
+
 // Offsets in a relocation header (PEFLoaderRelocationHeader).
 
 /// The section to be relocated (sectionIndex).
 pub const SECTION_INDEX_AT: usize = 0;
+
+/// The reserved halfword (reservedA).
+pub const RELOCATION_RESERVED_AT: usize = 2;
 
 /// The number of halfwords of the program (relocCount).
 pub const RELOC_COUNT_AT: usize = 4;

@@ -6,3 +6,5 @@ pub use Rattle.pef_views.proofs.Containers.{counts}
 pub use Rattle.pef_views.proofs.Written.{IsWritten, container_of-written}
 -- for a written header, and for a written section, no test holds
 pub use Rattle.pef_views.proofs.Written.{header_tests-unmet, section_tests-unmet}
+-- the first of all faults is the one that is reported alone, and what can be read of a container is the container
+pub use Rattle.pef_views.proofs.FindingLemmas.{first_is_reported, unrefused_container, whole_container}

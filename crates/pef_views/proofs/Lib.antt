@@ -1,4 +1,6 @@
 mod Containers
+mod FindingLemmas
+mod Headers
 mod Sections
 mod Written
 pub mod Laws

@@ -1,6 +1,6 @@
 -- The container header: the 40 bytes at the front (Mac OS Runtime Architectures, "PEF Structure", container
 -- header; PEFContainerHeader of PEFBinaryFormat.h). The order of its tests is this project's own.
-use Rattle.std.specs.Prelude.{ℕ, ◌+◌, ◌*◌, ◌==◌, ◌&&◌, Bool, not, List, [], ◌∷◌, Option, Some, nat_lt}
+use Rattle.std.specs.Prelude.{ℕ, ◌+◌, ◌*◌, ◌==◌, ◌&&◌, Bool, not, List, [], ◌∷◌, ◌++◌, Option, Some, nat_lt}
 use Rattle.pef_words.specs.Bytes.{number_at}
 use Rattle.pef_words.specs.Refusals.{◌>>=◌}
 use Rattle.pef_views.specs.declared.header.Header.{Header}
@@ -57,11 +57,19 @@ section_header_from i = 40 + 28 * i
 abbrev pub names_from : Header → ℕ
 names_from h = section_header_from h.section_count
 
--- the tests of a header in a container of some length, in order
-unfoldable pub header_tests : Header → ℕ → List (Bool × ViewFault)
-header_tests h len = (not (h.tag_1 == joy && h.tag_2 == peff), BadTag)
-    ∷ (not (h.architecture == pwpc), BadArchitecture)
+-- the test on which all others depend: other bytes are no container
+abbrev pub tag_tests : Header → List (Bool × ViewFault)
+tag_tests h = (not (h.tag_1 == joy && h.tag_2 == peff), BadTag) ∷ []
+
+-- the tests of the other fields of a header in a container of some length, in order
+abbrev pub field_tests : Header → ℕ → List (Bool × ViewFault)
+field_tests h len =
+    (not (h.architecture == pwpc), BadArchitecture)
     ∷ (not (h.format_version == version_1), BadFormatVersion)
     ∷ (nat_lt h.section_count h.instantiated_section_count, BadSectionCounts)
     ∷ (nat_lt len (names_from h), TooShort)
     ∷ []
+
+-- the tests of a header, in order
+unfoldable pub header_tests : Header → ℕ → List (Bool × ViewFault)
+header_tests h len = tag_tests h ++ field_tests h len

@@ -1,4 +1,4 @@
-ghost use Rattle.std.specs.Prelude.{◌≡◌, ◌<◌, ◌≤◌, ◌↔◌, ◌^◌, None, Ok, IsSome, IfSome, option_map, length};
+ghost use Rattle.std.specs.Prelude.{◌≡◌, ◌<◌, ◌≤◌, ◌↔◌, ◌^◌, Ok, IsSome, IfSome, option_map, length};
 ghost use Rattle.std.specs.Result.{result_err};
 ghost use Rattle.std.specs.Option.{option_copied};
 ghost use Rattle.pef_words.specs.Refusals.{first_among, result_map};
@@ -138,8 +138,7 @@ fn test_section_at(cut: Cut<'_>, header: Header, i: u16) -> Result<(), ViewFault
 }
 
 /// Returns the raw bytes of the first loader section that isn't instantiated.
-fn find_loader<'a>(cut: Cut<'a>, header: Header) -> Option<&'a [u8]>
-    requires { first_among (section_refusal cut.bytes.now header) 0 header.section_count ≡ None }
+pub(crate) fn find_loader<'a>(cut: Cut<'a>, header: Header) -> Option<&'a [u8]>
     ensures { option_copied result ≡ loader_of cut.entry.bytes.now header }
 {
     for i in 0..usize::from(header.section_count) {
@@ -152,10 +151,8 @@ fn find_loader<'a>(cut: Cut<'a>, header: Header) -> Option<&'a [u8]>
 }
 
 /// Returns the raw bytes of section `i`, if it is a loader section that isn't instantiated.
-#[tactic(auto, using(crate::proofs::Sections::section_inside))]
 fn loader_at<'a>(cut: Cut<'a>, header: Header, i: usize) -> Option<&'a [u8]>
-    requires below { i < header.section_count }
-    requires unrefused { first_among (section_refusal cut.bytes.now header) 0 header.section_count ≡ None }
+    requires { i < 2 ^ 16 }
     ensures { option_copied result ≡ loader_here cut.entry.bytes.now header i }
 {
     if i < usize::from(header.instantiated_section_count) {
@@ -169,7 +166,7 @@ fn loader_at<'a>(cut: Cut<'a>, header: Header, i: usize) -> Option<&'a [u8]>
 }
 
 /// Returns where the first loader section that isn't instantiated begins.
-fn loader_offset(cut: Cut<'_>, header: Header) -> Option<usize>
+pub(crate) fn loader_offset(cut: Cut<'_>, header: Header) -> Option<usize>
     ensures value { result ≡ first_among (loader_offset_here cut.entry.bytes.now header) 0 header.section_count }
     ensures small { IfSome result (λ offset. offset < 2 ^ 32) }
 {

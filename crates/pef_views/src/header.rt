@@ -1,7 +1,7 @@
 ghost use Rattle.std.specs.Prelude.{◌≡◌, ◌<◌, ◌^◌};
 ghost use Rattle.std.specs.Result.{result_err};
 ghost use Rattle.pef_words.specs.Refusals.{first_met};
-ghost use Rattle.pef_views.specs.Header.{header_of, header_tests, names_from, section_header_from};
+ghost use Rattle.pef_views.specs.Header.{field_tests, header_of, header_tests, names_from, section_header_from, tag_tests};
 
 use crate::fault::ViewFault;
 use pef_format::layout::{
@@ -10,7 +10,7 @@ use pef_format::layout::{
     OLD_DEF_VERSION_AT, OLD_IMP_VERSION_AT, POWERPC, SECTION_COUNT_AT, SECTION_HEADER_SIZE, TAG_1,
     TAG_1_AT, TAG_2, TAG_2_AT,
 };
-use pef_words::Cut;
+use pef_words::{Cut, first_met};
 
 /// The container header, field by field (PEFContainerHeader).
 ///
@@ -56,26 +56,43 @@ pub(crate) fn read_header(cut: Cut<'_>) -> Option<Header>
 }
 
 /// Tests a header in a container of `len` bytes, and reports the first rule that it breaks.
-#[tactic(auto, unfolding(crate::specs::Header::header_tests))]
+#[tactic(auto, using(crate::proofs::Headers::tested_in_two))]
 pub(crate) fn test_header(header: Header, len: usize) -> Result<(), ViewFault>
     ensures { result_err result ≡ first_met (header_tests header len) }
+{
+    test_tag(header)?;
+    match first_met(field_table(header, len)) {
+        Some(fault) => Err(fault),
+        None => Ok(()),
+    }
+}
+
+/// Tests the tags of a header. Bytes with other tags are no container.
+pub(crate) fn test_tag(header: Header) -> Result<(), ViewFault>
+    ensures { result_err result ≡ first_met (tag_tests header) }
 {
     if header.tag_1 != TAG_1 || header.tag_2 != TAG_2 {
         return Err(ViewFault::BadTag);
     }
-    if header.architecture != POWERPC {
-        return Err(ViewFault::BadArchitecture);
-    }
-    if header.format_version != FORMAT_VERSION {
-        return Err(ViewFault::BadFormatVersion);
-    }
-    if header.instantiated_section_count > header.section_count {
-        return Err(ViewFault::BadSectionCounts);
-    }
-    if len < names_at(header) {
-        return Err(ViewFault::TooShort);
-    }
     Ok(())
+}
+
+/// Returns the tests of the other fields of a header in a container of `len` bytes, in order.
+pub(crate) fn field_table(header: Header, len: usize) -> [(bool, ViewFault); 4]
+    ensures { result ≡ field_tests header len }
+{
+    [
+        (header.architecture != POWERPC, ViewFault::BadArchitecture),
+        (
+            header.format_version != FORMAT_VERSION,
+            ViewFault::BadFormatVersion,
+        ),
+        (
+            header.instantiated_section_count > header.section_count,
+            ViewFault::BadSectionCounts,
+        ),
+        (len < names_at(header), ViewFault::TooShort),
+    ]
 }
 
 /// Returns where the header of section `i` begins.

@@ -8,9 +8,13 @@
 mod container;
 mod fault;
 mod header;
+mod partial;
 mod section;
+mod theorems;
 
 pub use container::Container;
 pub use fault::ViewFault;
 pub use header::Header;
+pub use partial::PartialContainer;
 pub use section::{SectionHeader, SectionView};
+pub use theorems::{containers_open, first_fault_is_reported};

@@ -1,4 +1,4 @@
-ghost use Rattle.std.specs.Prelude.{◌≡◌, ◌+◌, ◌^◌, ◌<◌, IsTrue, length};
+ghost use Rattle.std.specs.Prelude.{◌≡◌, ◌+◌, ◌^◌, ◌<◌};
 ghost use Rattle.std.specs.Result.{result_err};
 ghost use Rattle.pef_words.specs.Refusals.{first_met};
 ghost use Rattle.pef_format.specs.Sections.{kind_of, share_of};
@@ -12,7 +12,7 @@ use pef_format::layout::{
     UNPACKED_SIZE_AT,
 };
 use pef_format::{SectionKind, Share};
-use pef_words::Cut;
+use pef_words::{Cut, first_met};
 
 /// A section header, field by field (PEFSectionHeader).
 ///
@@ -85,7 +85,6 @@ pub(crate) fn read_section(cut: Cut<'_>, i: usize) -> Option<SectionHeader>
 }
 
 /// Tests section `i` in a container of `len` bytes, and reports the first rule that it breaks.
-#[tactic(auto, unfolding(crate::specs::Section::section_tests))]
 pub(crate) fn test_section(
     i: u16,
     section: SectionHeader,
@@ -94,19 +93,40 @@ pub(crate) fn test_section(
 ) -> Result<(), ViewFault>
     ensures { result_err result ≡ first_met (section_tests i instantiated section len) }
 {
-    if !lies_inside(section, len) {
-        return Err(ViewFault::SectionOutside { section: i });
+    match first_met(section_table(i, section, instantiated, len)) {
+        Some(fault) => Err(fault),
+        None => Ok(()),
     }
-    if instantiated && !section.kind().is_instantiable() {
-        return Err(ViewFault::BadSectionKind { section: i });
-    }
-    if instantiated && !has_fitting_sizes(section) {
-        return Err(ViewFault::BadSizes { section: i });
-    }
-    if instantiated && section.alignment > MAX_ALIGNMENT {
-        return Err(ViewFault::BadAlignment { section: i });
-    }
-    Ok(())
+}
+
+/// Returns the tests of section `i` in a container of `len` bytes, in order.
+#[tactic(auto, unfolding(crate::specs::Section::section_tests))]
+pub(crate) fn section_table(
+    i: u16,
+    section: SectionHeader,
+    instantiated: bool,
+    len: usize,
+) -> [(bool, ViewFault); 4]
+    ensures { result ≡ section_tests i instantiated section len }
+{
+    [
+        (
+            !lies_inside(section, len),
+            ViewFault::SectionOutside { section: i },
+        ),
+        (
+            instantiated && !section.kind().is_instantiable(),
+            ViewFault::BadSectionKind { section: i },
+        ),
+        (
+            instantiated && !has_fitting_sizes(section),
+            ViewFault::BadSizes { section: i },
+        ),
+        (
+            instantiated && section.alignment > MAX_ALIGNMENT,
+            ViewFault::BadAlignment { section: i },
+        ),
+    ]
 }
 
 /// Returns whether the raw bytes lie in a container of `len` bytes. If the packed size is 0, they lie
@@ -127,15 +147,13 @@ fn has_fitting_sizes(section: SectionHeader) -> bool
         && (section.kind().is_packed() || section.unpacked_size <= section.packed_size)
 }
 
-/// Returns a section's raw bytes. If it has none and its offset passes the end, they are the empty
-/// slice at the end.
+/// Returns a section's raw bytes, as far as they are in the container.
 pub(crate) fn raw_bytes<'a>(cut: Cut<'a>, section: SectionHeader) -> &'a [u8]
-    requires { IsTrue (is_inside section (length cut.bytes.now)) }
     ensures { result.now ≡ raw_of cut.entry.bytes.now section }
 {
     let bytes = cut.bytes();
     let from = bytes.len().min(section.container_offset as usize);
     let (_, rest) = bytes.split_at(from);
-    let (raw, _) = rest.split_at(section.packed_size as usize);
+    let (raw, _) = rest.split_at(rest.len().min(section.packed_size as usize));
     raw
 }

@@ -3,11 +3,8 @@ use Rattle.std.proofs.Common.{◌≡◌, ◌≤◌, ◌∙◌, ap, refl, subst, 
 use Rattle.std.proofs.lemmas.Bool.{le-ltb}
 use Rattle.pef_views.specs.Container.{IsInstantiable, Section, section_in, section_of}
 use Rattle.pef_views.specs.Views.{contained}
-use Rattle.pef_views.proofs.Containers.{instantiable, raw_inside, raw_whole, section_header_is}
+use Rattle.pef_views.proofs.Containers.{instantiable, raw_whole, section_header_is}
 use Rattle.pef_views.proofs.container.Container.section.Goals as goal
-
-pub raw_bytes-raw-requires : goal.raw_bytes-raw-requires
-raw_bytes-raw-requires c = raw_inside (contained c.args.self.now) c.args.i c.in_ok-header.header c.args.self.now.accepted (omega arith) (sym c.in_ok-header.ensures)
 
 pub returns-in_err-header-clause-there : goal.returns-in_err-header-clause-there
 returns-in_err-header-clause-there c =

@@ -1,0 +1,156 @@
+ghost use Rattle.std.specs.Prelude.{◌≡◌, ◌<◌, ◌^◌, ◌∷◌, [], Some, option_map, Ok, IfSome, length};
+ghost use Rattle.std.specs.Option.{ForSome, option_copied};
+ghost use Rattle.pef_words.specs.Refusals.{result_map};
+ghost use Rattle.pef_views.specs.Container.{loader_of, loader_offset_of};
+ghost use Rattle.pef_views.specs.Header.{field_tests, names_from};
+ghost use Rattle.pef_views.specs.Partial.{header_in, loader_tests, name_of_section, opened, partial_of, tests_of_section};
+ghost use Rattle.pef_views.specs.Section.{raw_of};
+
+use crate::container::{find_loader, loader_offset};
+use crate::fault::ViewFault;
+use crate::header::{Header, field_table, names_at, read_header, test_tag};
+use crate::section::{SectionHeader, raw_bytes, read_section, section_table};
+use pef_words::Cut;
+
+/// A container that may be damaged, seen in place: whatever can be read of it.
+///
+/// Only its header is there for certain. Its views are slices of the bytes that it was read from, and live as long as
+/// those.
+#[derive(Clone, Copy, Debug)]
+pub struct PartialContainer<'a> {
+    cut: Cut<'a>,
+    header: Header,
+    loader: Option<&'a [u8]>,
+    loader_offset: Option<usize>,
+    ghost loads: { option_copied loader ≡ loader_of cut.bytes.now header },
+    ghost begins: { loader_offset ≡ loader_offset_of (opened cut.bytes.now header) },
+    ghost small: { ForSome loader_offset (λ offset. offset < 2 ^ 32) },
+}
+
+impl<'a> PartialContainer<'a> {
+    ghost use Rattle.pef_views.specs.PartialViews.{partly};
+
+    /// Reads what can be read of `bytes`.
+    ///
+    /// # Errors
+    ///
+    /// `TooShort` if there are fewer than 40 bytes, `BadTag` if the first eight aren't `Joy!peff`.
+    #[tactic(auto, unfolding(crate::specs::Partial::partial_of, crate::specs::Container::loader_offset_of))]
+    pub fn read(bytes: &'a [u8]) -> Result<PartialContainer<'a>, ViewFault>
+        ensures { result_map partly result ≡ partial_of bytes.entry.now }
+    {
+        let cut = Cut::new(bytes);
+        let header = read_header(cut).ok_or(ViewFault::TooShort)?;
+        test_tag(header)?;
+        Ok(PartialContainer {
+            cut,
+            header,
+            loader: find_loader(cut, header),
+            loader_offset: loader_offset(cut, header),
+        })
+    }
+
+    /// Returns the bytes that it was read from.
+    pub fn bytes(&self) -> &'a [u8]
+        ensures { result.now ≡ (partly self.now).bytes }
+    {
+        self.cut.bytes()
+    }
+
+    /// Returns the container header.
+    pub fn header(&self) -> Header
+        ensures { result ≡ (partly self.now).header }
+    {
+        self.header
+    }
+
+    /// Returns the header of section `i`, or `None` past the last one and if it isn't in the bytes.
+    pub fn section(&self, i: usize) -> Option<SectionHeader>
+        ensures { result ≡ header_in (partly self.now) i }
+    {
+        if i >= usize::from(self.header.section_count) {
+            return None;
+        }
+        read_section(self.cut, i)
+    }
+
+    /// Returns the raw bytes of section `i`, as far as they are in the container.
+    ///
+    /// They are fewer than the packed size if the section extends past the end.
+    pub fn raw(&self, i: usize) -> Option<&'a [u8]>
+        ensures { option_copied result ≡ option_map (raw_of (partly self.now).bytes) (header_in (partly self.now) i) }
+    {
+        let section = self.section(i)?;
+        Some(raw_bytes(self.cut, section))
+    }
+
+    /// Returns the name of section `i`, without the zero byte at its end. `None` as for
+    /// [`Container::section_name`](crate::Container::section_name).
+    pub fn section_name(&self, i: usize) -> Option<&'a [u8]>
+        ensures { option_copied result ≡ name_of_section (partly self.now) i }
+    {
+        let offset = usize::try_from(self.section(i)?.name_offset).ok()?;
+        self.cut.name_at(names_at(self.header) + offset)
+    }
+
+    /// Returns where the section name table begins.
+    pub fn names_start(&self) -> usize
+        ensures { result ≡ names_from (partly self.now).header }
+    {
+        names_at(self.header)
+    }
+
+    /// Returns the raw bytes of the loader section, as far as they are in the container, or `None` if none of the sections
+    /// that aren't instantiated is a loader section.
+    pub fn loader(&self) -> Option<&'a [u8]>
+        ensures { option_copied result ≡ loader_of (partly self.now).bytes (partly self.now).header }
+    {
+        self.loader
+    }
+
+    /// Returns the same bytes, and none if there is no loader section.
+    pub fn loader_bytes(&self) -> &'a [u8]
+        ensures { result.now ≡ (partly self.now).loader }
+    {
+        self.loader.unwrap_or(&[])
+    }
+
+    /// Returns the offset of the first byte of the loader section.
+    pub fn loader_offset(&self) -> Option<usize>
+        ensures value { result ≡ loader_offset_of (partly self.now) }
+        ensures small { IfSome result (λ offset. offset < 2 ^ 32) }
+    {
+        self.loader_offset
+    }
+
+    /// Returns the tests of the fields of the header, in order: whether each rule is broken, and which it is.
+    pub fn header_tests(&self) -> [(bool, ViewFault); 4]
+        ensures { result ≡ field_tests (partly self.now).header (length (partly self.now).bytes) }
+    {
+        field_table(self.header, self.cut.len())
+    }
+
+    /// Returns the tests of section `i`, in order, or `None` if its header isn't in the bytes.
+    pub fn section_tests(&self, i: u32) -> Option<[(bool, ViewFault); 4]>
+        ensures { result ≡ tests_of_section (partly self.now) i }
+    {
+        if i >= u32::from(self.header.section_count) {
+            return None;
+        }
+        let row = i as u16;
+        let section = read_section(self.cut, usize::from(row))?;
+        Some(section_table(
+            row,
+            section,
+            row < self.header.instantiated_section_count,
+            self.cut.len(),
+        ))
+    }
+
+    /// Returns the test of the loader section.
+    pub fn loader_tests(&self) -> [(bool, ViewFault); 1]
+        ensures { result ≡ loader_tests (partly self.now) }
+    {
+        [(self.loader.is_none(), ViewFault::NoLoader)]
+    }
+}

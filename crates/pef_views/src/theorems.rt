@@ -1,0 +1,15 @@
+//! Laws of all faults of a container. The functions do nothing.
+ghost use Rattle.pef_views.specs.Theorems.{FirstIsReported, OpensContainers};
+
+/// The first of all faults of some bytes is the one that [`Container::read`](crate::Container::read) reports, and there is
+/// none exactly if it reports none.
+#[tactic(auto, using(crate::proofs::FindingLemmas::first_is_reported))]
+pub fn first_fault_is_reported()
+    ensures { FirstIsReported }
+{}
+
+/// What can be read of a container is the container.
+#[tactic(auto, using(crate::proofs::FindingLemmas::whole_container))]
+pub fn containers_open()
+    ensures { OpensContainers }
+{}
