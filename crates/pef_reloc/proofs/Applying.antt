@@ -49,7 +49,7 @@ pub record Fine (before : List Instr) (steps : ℕ) (x : Instr) : Type 0 where
   pub block : repeat_fault before (repeat_of x) ≡ None
   pub under : steps + steps_as before (repeat_of x) ≤ step_limit
 
-steps_fine : (place n : ℕ) → steps_fault place n ≡ None → n ≤ step_limit
+pub steps_fine : (place n : ℕ) → steps_fault place n ≡ None → n ≤ step_limit
 steps_fine place n none =
     let go : (b : Bool) → cond b None (Some (TooManySteps place)) ≡ None → b ≡ true = λ b. elim b as (λ v. cond v None (Some (TooManySteps place)) ≡ None → v ≡ true) [ true ↦ (λ e. refl) | false ↦ (λ e. absurd (cc e)) ] in
     leb-true n step_limit (go (nat_le n step_limit) none)
@@ -59,7 +59,7 @@ parts None None rest last none = (refl, refl, none)
 parts None (Some f) rest last none = absurd (cc none)
 parts (Some f) steps rest last none = absurd (cc none)
 
-fine_parts : (bytes : List ℕ) (at : ℕ) (x : Instr) (before : List Instr) (steps : ℕ) → at < length bytes → first_instr at (drop at bytes) ≡ Ok x → code_fault before steps (code_at at (drop at bytes)) ≡ None → (repeat_fault before (repeat_of x) ≡ None) × (steps_fault (place_after before) (steps + steps_as before (repeat_of x)) ≡ None) × (code_fault (x ∷ before) (steps + steps_as before (repeat_of x)) (code_at (at + 2 * instr_length x) (drop (at + 2 * instr_length x) bytes)) ≡ None)
+pub fine_parts : (bytes : List ℕ) (at : ℕ) (x : Instr) (before : List Instr) (steps : ℕ) → at < length bytes → first_instr at (drop at bytes) ≡ Ok x → code_fault before steps (code_at at (drop at bytes)) ≡ None → (repeat_fault before (repeat_of x) ≡ None) × (steps_fault (place_after before) (steps + steps_as before (repeat_of x)) ≡ None) × (code_fault (x ∷ before) (steps + steps_as before (repeat_of x)) (code_at (at + 2 * instr_length x) (drop (at + 2 * instr_length x) bytes)) ≡ None)
 fine_parts bytes at x before steps under here none =
     parts (repeat_fault before (repeat_of x)) (steps_fault (place_after before) (steps + steps_as before (repeat_of x))) _ _ (sym (ap (code_fault before steps) (code-next bytes at x under here)) ∙ none)
 
@@ -68,12 +68,15 @@ fine-here bytes at x before steps under here none =
     let p = fine_parts bytes at x before steps under here none in
     record { block = p.0; under = steps_fine _ _ p.1 }
 
+pub fine-next : (bytes : List ℕ) (at : ℕ) (x : Instr) (before : List Instr) (steps : ℕ) → at < length bytes → first_instr at (drop at bytes) ≡ Ok x → code_fault before steps (code_at at (drop at bytes)) ≡ None → code_fault (x ∷ before) (steps + steps_as before (repeat_of x)) (code_at (at + 2 * instr_length x) (drop (at + 2 * instr_length x) bytes)) ≡ None
+fine-next bytes at x before steps under here none = (fine_parts bytes at x before steps under here none).2
+
 -- a readable program has an instruction wherever one is read
 pub fine-begins : (bytes : List ℕ) (at : ℕ) (before : List Instr) (steps : ℕ) (f : RelocFault) → at < length bytes → first_instr at (drop at bytes) ≡ Err f → code_fault before steps (code_at at (drop at bytes)) ≡ None → ⊥
 fine-begins bytes at before steps f under here none =
     let no : ◌≡◌ {A = Option RelocFault} (Some f) None = sym (fault-none bytes at before steps f under here) ∙ none in cc no
 
-room : (bytes : List ℕ) (before : List Instr) (r : Option Repeat) (at : ℕ) → Before bytes before at → repeat_fault before r ≡ None → IfSome r (λ x. 2 * x.blocks ≤ at)
+pub room : (bytes : List ℕ) (before : List Instr) (r : Option Repeat) (at : ℕ) → Before bytes before at → repeat_fault before r ≡ None → IfSome r (λ x. 2 * x.blocks ≤ at)
 room bytes before None at stands none = tt
 room bytes before (Some r) at stands none = (repeat-reach bytes before r at stands none).room
 
@@ -81,7 +84,7 @@ pub apply-room : (bytes : List ℕ) (a : Addresses) (at : ℕ) (m : Machine) (me
 apply-room bytes a at m memory whole x left under here =
     room bytes left.before (repeat_of x) at left.stands (fine-here bytes at x left.before left.steps under here left.fine).block
 
-some_steps : (before : List Instr) (r : Option Repeat) → 1 ≤ steps_as before r
+pub some_steps : (before : List Instr) (r : Option Repeat) → 1 ≤ steps_as before r
 some_steps before None = omega arith
 some_steps before (Some r) = omega arith
 

@@ -31,3 +31,5 @@ pub use Rattle.pef_reloc.proofs.DeliveredBases.{first_addition}
 pub use Rattle.pef_reloc.proofs.DeliveredBases.{index_kept, index_after-append}
 -- each of some fixups that fit does; and the sections that they use are below the limit
 pub use Rattle.pef_reloc.proofs.DeliveredBases.{each_fits, FixupFits, fixup_fits-parts, used_section-below, uses_section-append, uses_import-append}
+-- relocation is refused by sizes alone, not by addresses or by the contents of memory
+pub use Rattle.pef_reloc.proofs.Independence.{program-verified, refusal_at-verified, relocation-verified}

@@ -20,12 +20,12 @@ use Rattle.pef_reloc.proofs.CodeLemmas.{some_length}
 use Rattle.pef_reloc.proofs.Spellings.{spelled-nothing, spelled-one}
 
 -- the row that a table of tests picked has a property that each of its rows has
-picked : (P : Instr → Type 0) (b : Bool) (y : Instr) (others : Option Instr) (x : Instr) → (b ≡ true → P y) → (others ≡ Some x → P x) → cond b (Some y) others ≡ Some x → P x
+pub picked : (P : Instr → Type 0) (b : Bool) (y : Instr) (others : Option Instr) (x : Instr) → (b ≡ true → P y) → (others ≡ Some x → P x) → cond b (Some y) others ≡ Some x → P x
 picked P true y others x here later e = subst P (same_Some y x e) (here refl)
 picked P false y others x here later e = later e
 
 -- a table that is used if a test holds
-gated : (P : Instr → Type 0) (b : Bool) (r : Option Instr) (x : Instr) → (b ≡ true → r ≡ Some x → P x) → cond b r None ≡ Some x → P x
+pub gated : (P : Instr → Type 0) (b : Bool) (r : Option Instr) (x : Instr) → (b ≡ true → r ≡ Some x → P x) → cond b r None ≡ Some x → P x
 gated P true r x here e = here refl e
 gated P false r x here e = absurd (cc e)
 

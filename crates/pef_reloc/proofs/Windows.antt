@@ -239,7 +239,7 @@ block-there bytes before r at stands reaches =
     let found = there (reached before r.blocks []) reaches.begins_is in
     record { place_is = reaches.place_is; block = found.0; is = found.1; spans = (reach bytes before r.blocks at [] found.0 at stands refl found.1).spans }
 
-pub length-repeated : (n : ℕ) (block : List Instr) → length (repeated n block) ≡ n * length block
+pub length-repeated : {A : Type 0} (n : ℕ) (block : List A) → length (repeated n block) ≡ n * length block
 length-repeated zero block = omega arith
 length-repeated (suc n) block = rw (length-append block (repeated n block), length-repeated n block) (omega arith)
 

@@ -7,7 +7,7 @@ use Rattle.std.specs.Option.{option_and_then}
 use Rattle.pef_words.specs.Refusals.{first_among}
 use Rattle.pef_reloc.specs.declared.fault.RelocFault.{RelocFault}
 use Rattle.pef_reloc.specs.Applied.{Addresses, Done, relocation, then_done, unless_refused}
-use Rattle.pef_reloc.specs.Unrolled.{program_fault}
+use Rattle.pef_reloc.specs.Unrolled.{program_fault, steps_of}
 
 -- nothing is done
 abbrev pub untouched : List ℕ → Done RelocFault
@@ -35,6 +35,20 @@ refusal_at a memory header i = option_and_then (λ h. (program_done a h.1 (reloc
 -- the first refusal among n headers, in their order, for any section
 abbrev pub first_refusal : Addresses → (ℕ → List ℕ) → (ℕ → Option (ℕ × List ℕ)) → ℕ → Option RelocFault
 first_refusal a memory header n = first_among (refusal_at a memory header) 0 n
+
+-- the steps of a program and those after it, if the bytes are one: programs after one that can't be read aren't reached
+abbrev pub steps_and : List ℕ → ℕ → Option RelocFault → ℕ
+steps_and bytes more None = steps_of bytes + more
+steps_and bytes more (Some fault) = 0
+
+abbrev pub header_steps : Option (ℕ × List ℕ) → ℕ → ℕ
+header_steps None more = 0
+header_steps (Some header) more = steps_and header.1 more (program_fault header.1)
+
+-- the steps that the programs of the n headers from a number on take, up to the first that can't be read
+abbrev pub steps_by : (ℕ → Option (ℕ × List ℕ)) → ℕ → ℕ → ℕ
+steps_by header from zero = 0
+steps_by header from (suc n) = header_steps (header from) (steps_by header (from + 1) n)
 
 -- no header, or one for another section
 abbrev pub IsOther : ℕ → Option (ℕ × List ℕ) → Type 0

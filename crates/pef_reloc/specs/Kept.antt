@@ -1,5 +1,9 @@
 -- Definitions for proofs and private contracts alone.
+pub mod Added
+pub mod Additions
+pub mod Executions
 pub mod Machines
 pub mod Places
 pub mod Readers
 pub mod Rows
+pub mod Walks

@@ -7,7 +7,10 @@ pub mod Fixups
 pub mod Headers
 pub mod Instrs
 pub mod Kept
+pub mod Left
 pub mod Limits
 pub mod Steps
+pub mod Traces
 pub mod Unrolled
+pub mod Verified
 pub mod Views

@@ -4,7 +4,7 @@
 -- The pass that ran before it isn't counted. That, the refusals and the limit of steps are this
 -- project's own rules.
 use Rattle.std.specs.Prelude.{ℕ, zero, suc, ◌+◌, ◌-◌, ◌*◌, nat_le, if◌then◌else◌, List, [], ◌∷◌, ◌++◌, length, map, Option, None, Some, Result, Ok, Err}
-use Rattle.std.specs.Option.{option_or}
+use Rattle.std.specs.Option.{is_some, option_or}
 use Rattle.std.specs.Result.{result_unwrap_or}
 use Rattle.pef_reloc.specs.declared.fault.RelocFault.{RelocFault}
 use Rattle.pef_reloc.specs.declared.fault.RelocFault.TheVariants.{RepeatTooFar, RepeatCuts, NestedRepeat, TooManySteps}
@@ -106,3 +106,12 @@ program_fault bytes = code_fault [] 0 (code_at 0 bytes)
 -- the instructions of a program
 unfoldable pub instrs_of : List ℕ → List Instr
 instrs_of bytes = (code_at 0 bytes).instrs
+
+-- how many repeats some instructions have
+abbrev pub repeat_count : List Instr → ℕ
+repeat_count [] = 0
+repeat_count (instr ∷ instrs) = if is_some (repeat_of instr) then suc (repeat_count instrs) else repeat_count instrs
+
+-- the steps that a program takes: one for each instruction that it executes, in each pass anew, and one for each repeat
+unfoldable pub steps_of : List ℕ → ℕ
+steps_of bytes = length (unrolled (instrs_of bytes)) + repeat_count (instrs_of bytes)

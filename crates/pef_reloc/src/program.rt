@@ -1,10 +1,11 @@
 ghost use Rattle.std.specs.Prelude.{◌≡◌, IfSome, None, true};
 ghost use Rattle.pef_reloc.specs.Decoding.{starting};
 ghost use Rattle.pef_reloc.specs.Instrs.{instr_fits, repeat_free};
-ghost use Rattle.pef_reloc.specs.Unrolled.{instrs_of, program_fault};
+ghost use Rattle.pef_reloc.specs.Unrolled.{instrs_of, program_fault, steps_of};
 
 use crate::decode::instr_from;
 use crate::fault::RelocFault;
+use crate::fixups::Fixups;
 use crate::instr::Instr;
 use crate::recent::Reader;
 
@@ -12,12 +13,16 @@ use crate::recent::Reader;
 #[derive(Clone, Copy, Debug)]
 pub struct Program<'a> {
     bytes: &'a [u8],
+    steps: u32,
     ghost readable: { program_fault bytes.now ≡ None },
+    ghost counted: { steps ≡ steps_of bytes.now },
 }
 
 impl<'a> Program<'a> {
     ghost use Rattle.std.specs.Prelude.{Ok};
     ghost use Rattle.pef_words.specs.Refusals.{result_map, unless};
+    ghost use Rattle.pef_reloc.specs.Left.{fixups_left};
+    ghost use Rattle.pef_reloc.specs.Traces.{fixups_of};
     ghost use Rattle.pef_reloc.specs.Views.{listed, program_bytes};
 
     /// Reads a program, in time linear in its bytes: no pass of a repeat is run.
@@ -36,7 +41,8 @@ impl<'a> Program<'a> {
             reader.pass(instr, bytes, at)?;
             at += 2 * instr.length();
         }
-        Ok(Program { bytes })
+        let steps = reader.steps();
+        Ok(Program { bytes, steps })
     }
 
     /// Returns the bytes that it was read from.
@@ -46,10 +52,25 @@ impl<'a> Program<'a> {
         self.bytes
     }
 
+    /// Returns how many steps it takes: one for each instruction that it executes, in each pass anew, and one for each
+    /// repeat. They were counted when it was read.
+    pub fn steps(&self) -> u32
+        ensures { result ≡ steps_of (program_bytes self.now) }
+    {
+        self.steps
+    }
+
     /// Returns an iterator over its instructions, from the first one on.
     #[tactic(auto, unfolding(crate::specs::Unrolled::instrs_of))]
     pub fn instrs(&self) -> Instrs<'a>
         ensures { listed result ≡ instrs_of (program_bytes self.now) }
+    {
+        self.whole()
+    }
+
+    /// Returns an iterator at the first instruction.
+    pub(crate) fn whole(self) -> Instrs<'a>
+        ensures { result ≡ record { bytes = self.entry.bytes; at = 0 } }
     {
         Instrs {
             bytes: self.bytes,
@@ -77,6 +98,16 @@ impl<'a> Program<'a> {
         None
     }
 
+    /// Returns an iterator over its additions, in the order in which it makes them. Nothing is allocated, and each
+    /// addition takes constant time; so does each instruction that adds nothing.
+    ///
+    /// Which words, sections and imports there are isn't asked.
+    pub fn fixups(&self) -> Fixups<'a>
+        ensures { fixups_left result ≡ fixups_of (program_bytes self.now) }
+    {
+        Fixups::new(*self)
+    }
+
     /// Returns whether it has no repeats.
     pub fn flat(&self) -> bool
         ensures { result ≡ repeat_free (instrs_of (program_bytes self.now)) }
@@ -99,12 +130,15 @@ pub struct Instrs<'a> {
 }
 
 impl<'a> Instrs<'a> {
+    ghost use Rattle.std.specs.Prelude.{◌≤◌, [], length};
+    ghost use Rattle.pef_reloc.specs.Kept.Executions.{IsPassed, behind};
     ghost use Rattle.pef_reloc.specs.Views.{TakesFirst, listed};
 
     /// Returns the next instruction and moves past it, or returns `None` at the end.
     pub fn next_instr(&mut self) -> Option<Instr>
         ensures takes { TakesFirst (listed self.old) result (listed self.new) }
         ensures fits { IfSome result (λ instr. instr_fits instr ≡ true) }
+        ensures passes { IfSome result (λ instr. IsPassed self.old instr self.new) }
     {
         if self.at >= self.bytes.len() {
             return None;
@@ -115,6 +149,36 @@ impl<'a> Instrs<'a> {
                 Some(instr)
             }
             Err(_) => None,
+        }
+    }
+
+    /// Returns the place of the next instruction.
+    pub(crate) fn place(&self) -> usize
+        ensures { result ≡ self.now.at }
+    {
+        self.at
+    }
+
+    /// Returns an iterator over no instructions.
+    pub(crate) fn none(self) -> Instrs<'a>
+        ensures { listed result ≡ [] }
+    {
+        Instrs {
+            bytes: self.bytes,
+            at: self.bytes.len(),
+        }
+    }
+
+    /// Returns an iterator over the instructions of the last `blocks` halfwords before a place.
+    #[tactic(auto, unfolding(crate::specs::Kept::Executions::behind))]
+    pub(crate) fn behind(self, place: usize, blocks: u32) -> Instrs<'a>
+        requires { place ≤ length self.bytes.now }
+        ensures { listed result ≡ behind self.entry.bytes.now place blocks }
+    {
+        let (front, _) = self.bytes.split_at(place);
+        Instrs {
+            bytes: front,
+            at: place.saturating_sub(2 * blocks as usize),
         }
     }
 }

@@ -27,7 +27,7 @@ const WINDOW: usize = MAX_BLOCKS as usize;
 #[derive(Clone, Copy)]
 pub(crate) struct Reader {
     begins: [bool; WINDOW],
-    steps: u32,
+    pub steps: u32,
 }
 
 impl Reader {
@@ -39,6 +39,13 @@ impl Reader {
             begins: [false; WINDOW],
             steps: 0,
         }
+    }
+
+    /// Returns how many steps the instructions so far take.
+    pub(crate) fn steps(&self) -> u32
+        ensures { result ≡ self.now.steps }
+    {
+        self.steps
     }
 
     /// Passes the instruction at a place of the bytes, unless it is refused for its block or for the

@@ -19,7 +19,7 @@ use Rattle.pef_reloc.proofs.FixupLemmas.{fixups_from-first}
 use Rattle.pef_reloc.proofs.FlatLaws.{applied-trace}
 
 -- an addition leaves the length of memory
-length-added_at : (memory : List ℕ) (at x : ℕ) → at + 4 ≤ length memory → length (added_at memory at x) ≡ length memory
+pub length-added_at : (memory : List ℕ) (at x : ℕ) → at + 4 ≤ length memory → length (added_at memory at x) ≡ length memory
 unfolding added_at
 length-added_at memory at x inside =
     let word = big_bytes 4 ((big_number 4 (drop at memory) + x) % 2 ^ 32) in

@@ -1,7 +1,7 @@
 use Rattle.std.proofs.Common.{◌≡◌, Some, sym, refl, ◌∙◌, arith}
 use Rattle.std.proofs.lemmas.Result.{err_from_is_err_and}
 use Rattle.pef_reloc.specs.Unrolled.{program_fault}
-use Rattle.pef_reloc.proofs.Readings.{fault-end, fault-here, fault-none, read-more, read-start}
+use Rattle.pef_reloc.proofs.Readings.{counted-end, fault-end, fault-here, fault-none, read-more, read-start}
 use Rattle.pef_reloc.proofs.program.Program.read.Goals as goal
 
 pub loop-at-init : goal.loop-at-init
@@ -40,4 +40,7 @@ loop-at-preserved c =
 pub invariant_of-result : goal.invariant_of-result
 invariant_of-result c =
     let left = c.loop-at.invariant.left in
-    record { readable = sym left.rest ∙ fault-end _ _ left.before _ c.loop-at-test.false }
+    record {
+      readable = sym left.rest ∙ fault-end _ _ left.before _ c.loop-at-test.false;
+      counted = c.steps-steps.ensures ∙ counted-end c.args.bytes.now c.loop-at.at c.loop-at.reader.steps left.before c.loop-at-test.false left.counted;
+    }

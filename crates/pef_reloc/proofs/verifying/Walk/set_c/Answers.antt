@@ -1,0 +1,12 @@
+use Rattle.std.proofs.Common.{◌∙◌}
+use Rattle.std.proofs.lemmas.Result.{err_from_is_err_and}
+use Rattle.pef_reloc.proofs.Verifications.{first-goes, first-none, first-stops}
+use Rattle.pef_reloc.proofs.verifying.Walk.set_c.Goals as goal
+
+pub returns-in_err-section-clause-fault : goal.returns-in_err-section-clause-fault
+returns-in_err-section-clause-fault c =
+    let p = err_from_is_err_and c.from_residual.result c.from_residual.ensures.1 in
+    rw (p.1, p.2) (first-stops _ _ _ _ c.in_err-section.ensures)
+
+pub returns-clause-fault : goal.returns-clause-fault
+returns-clause-fault c = first-goes _ _ _ c.in_ok-section.ensures ∙ first-none _
