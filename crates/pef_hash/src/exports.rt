@@ -4,7 +4,7 @@ ghost use Rattle.std.specs.Str.{bytes_eq};
 ghost use Rattle.pef_words.specs.Refusals.{first_among};
 ghost use Rattle.pef_hash.specs.Exports.{entry_at, entry_of, export_place, export_named, has_table, is_named, key_place, key_of, name_of, named_at, slot_word_of};
 ghost use Rattle.pef_hash.specs.Limits.{most_power};
-ghost use Rattle.pef_hash.specs.Regular.{IsSearchable};
+ghost use Rattle.pef_hash.specs.Regular.{IsRegular, IsSearchable};
 ghost use Rattle.pef_hash.specs.Word.{hash_word};
 ghost use Rattle.pef_hash.specs.Kept.Ends.{end_of};
 ghost use Rattle.pef_hash.specs.Kept.Searches.{LeadsToAll};
@@ -96,6 +96,15 @@ impl<'a> Exports<'a> {
             strings,
             regular,
         }
+    }
+
+    /// Returns whether the table is searched by its hash words and slots: it is regular, and its names are together no
+    /// longer than its strings.
+    pub fn is_searched(&self) -> bool
+        ensures regular { IsTrue result → IsRegular (table_of self.now) }
+        ensures found { IsSearchable (table_of self.now) → IsTrue result }
+    {
+        self.is_regular()
     }
 
     /// Returns the hash word that the table has for export `i`, or `None` if there is no such export.

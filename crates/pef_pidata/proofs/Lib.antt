@@ -4,4 +4,5 @@ mod Packings
 mod Parts
 mod Repeats
 mod Steps
+mod Verifying
 mod Weaves

@@ -58,7 +58,7 @@ left_next packed out written rest after piece at len left under is shorter same_
         }
 
 -- a refusal of the next instruction is that of all
-pattern_refused : (len n : ℕ) (rest : List ℕ) (room : ℕ) (fault : PackFault) → 0 < room → length rest ≤ n → next_output (len - length rest) room rest ≡ Err fault → pattern len n rest room ≡ Err fault
+pub pattern_refused : (len n : ℕ) (rest : List ℕ) (room : ℕ) (fault : PackFault) → 0 < room → length rest ≤ n → next_output (len - length rest) room rest ≡ Err fault → pattern len n rest room ≡ Err fault
 unfolding next_output next_instruction
 pattern_refused len zero [] room fault some bound is =
     elim (eqb_tells room 0) [

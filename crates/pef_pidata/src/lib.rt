@@ -13,6 +13,6 @@ mod theorems;
 mod write;
 
 pub use fault::PackFault;
-pub use packed::expand;
+pub use packed::{expand, verify};
 pub use packing::pack;
 pub use theorems::packed_images_expand;

@@ -1,4 +1,5 @@
 ghost use Rattle.std.specs.Prelude.{◌≡◌, ◌<◌, ◌≤◌, length, IfOk};
+ghost use Rattle.std.specs.Result.{result_err};
 ghost use Rattle.pef_words.specs.Refusals.{result_map};
 ghost use Rattle.pef_pidata.specs.Pattern.{copied_len, next_output, output_of, pattern_text, spelled_len};
 ghost use Rattle.pef_pidata.specs.Kept.Views.{instruction_seen, step_seen};
@@ -34,6 +35,24 @@ pub fn expand(packed: &[u8], out: &mut [u8]) -> Result<(), PackFault>
         let step = next_step(packed.len() - rest.len(), rest, out.len() - at)?;
         step.instruction
             .write(step.bytes, &mut out[at..at + step.len]);
+        at += step.len;
+        rest = step.rest;
+    }
+    Ok(())
+}
+
+/// Tests what packed bytes expand to, and keeps none of it: whether [`expand`] fills `len` bytes with them.
+///
+/// # Errors
+///
+/// Those of `expand`.
+pub fn verify(packed: &[u8], len: usize) -> Result<(), PackFault>
+    ensures { result_err result ≡ result_err (pattern_text packed.now len) }
+{
+    let mut rest = packed;
+    let mut at = 0;
+    while at < len {
+        let step = next_step(packed.len() - rest.len(), rest, len - at)?;
         at += step.len;
         rest = step.rest;
     }
