@@ -8,3 +8,5 @@ pub use Rattle.pef_loader.proofs.Loaders.{loaded_of-ok}
 pub use Rattle.pef_loader.proofs.Loaders.{named_there}
 -- what is found by its name is one of the exports
 pub use Rattle.pef_loader.proofs.Loaders.{named_is}
+-- the first of all faults is the one that is reported alone, and what can be read of a loader section is the loader section
+pub use Rattle.pef_loader.proofs.FindingLemmas.{first_is_reported, unrefused_loader, whole_loader}

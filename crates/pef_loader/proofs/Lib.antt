@@ -1,4 +1,5 @@
 mod BlockLemmas
+mod FindingLemmas
 pub mod Laws
 mod Loaders
 mod NameEnds

@@ -1,13 +1,10 @@
--- Cells that no library has painted.
+-- The steps between cells that no library has painted.
 use Rattle.std.proofs.Common.{◌≡◌, ℕ, ◌+◌, ◌-◌, ◌^◌, List, length, replicate, sym, subst, ◌∙◌, arith}
 use Rattle.std.specs.Prelude.{slice_index}
 use Rattle.std.proofs.lemmas.List.{get_or-replicate, length-replicate}
-use Rattle.pef_loader.specs.Kept.Blocks.{AreEmpty, AreSteps, IsStep}
+use Rattle.pef_loader.specs.Kept.Blocks.{AreSteps, IsStep}
 
--- n cells that are empty, and a step of one cell from each
-pub first_cells : (n : ℕ) → AreEmpty (replicate n (2 ^ 32 - 1))
-first_cells n = λ k under. get_or-replicate n k (2 ^ 32 - 1) 0 (let len = length-replicate n (2 ^ 32 - 1) in omega arith)
-
+-- a step of one cell from each
 pub first_steps : (n : ℕ) (cells : List ℕ) → length cells ≡ n → AreSteps cells (replicate n 1)
 first_steps n cells all = record {
   as_many = length-replicate n 1 ∙ sym all;

@@ -5,7 +5,10 @@ pub mod Import
 pub mod Kept
 pub mod Library
 pub mod Loader
+pub mod Partial
+pub mod PartialViews
 pub mod Places
 pub mod Programs
 pub mod Reloc
+pub mod Theorems
 pub mod Views

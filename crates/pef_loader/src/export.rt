@@ -1,13 +1,14 @@
-ghost use Rattle.std.specs.Prelude.{◌≡◌, drop, IsTrue};
+ghost use Rattle.std.specs.Prelude.{◌≡◌, drop, IsTrue, option_map};
+ghost use Rattle.pef_hash.specs.Exports.{entry_of};
 ghost use Rattle.std.specs.Result.{result_err};
 ghost use Rattle.pef_hash.specs.Views.{table_of};
 ghost use Rattle.pef_loader.specs.Export.{export_refusal, export_table, export_tests, has_exports, has_section};
 
-use crate::fault::{LoaderFault, NamedRow};
+use crate::fault::{LoaderFault, NamedRow, refused_by};
 use crate::header::{LoaderHeader, LoaderTables};
 use pef_format::{ExportValue, is_export_section};
 use pef_hash::Exports;
-use pef_words::Cut;
+use pef_words::{Cut, first_met};
 
 /// Returns the bytes from an offset on, none if it passes the end.
 pub(crate) fn bytes_from<'a>(cut: Cut<'a>, offset: u32) -> &'a [u8]
@@ -39,7 +40,6 @@ pub(crate) fn exports<'a>(tables: LoaderTables<'a>) -> Exports<'a>
 }
 
 /// Reports the first rule that export `i` breaks.
-#[tactic(auto, unfolding(crate::specs::Export::export_tests))]
 pub(crate) fn test_export(
     exports: Exports<'_>,
     tables: LoaderTables<'_>,
@@ -49,20 +49,38 @@ pub(crate) fn test_export(
     requires { table_of exports ≡ export_table tables.cut.bytes.now tables.header }
     ensures { result_err result ≡ export_refusal tables.entry.cut.bytes.now tables.entry.header sections i }
 {
-    let export = exports
-        .entry(i as usize)
-        .ok_or(LoaderFault::BadExportTable)?;
-    if tables.header.strings_offset as usize > tables.cut.len()
-        || exports.name(i as usize).is_none()
-    {
-        return Err(LoaderFault::BadName {
-            of: NamedRow::Export(i),
-        });
+    match tests_of_export(exports, tables, sections, i) {
+        Some(table) => refused_by(first_met(table)),
+        None => Err(LoaderFault::BadExportTable),
     }
-    if !has_section(export.section, export.value, tables.header, sections) {
-        return Err(LoaderFault::BadExportSection { export: i });
-    }
-    Ok(())
+}
+
+/// Returns the tests of export `i`, in order, or `None` past the last one.
+#[tactic(auto, unfolding(crate::specs::Export::export_tests))]
+pub(crate) fn tests_of_export(
+    exports: Exports<'_>,
+    tables: LoaderTables<'_>,
+    sections: u16,
+    i: u32,
+) -> Option<[(bool, LoaderFault); 2]>
+    requires { table_of exports ≡ export_table tables.cut.bytes.now tables.header }
+    ensures { result ≡ option_map (export_tests tables.entry.cut.bytes.now tables.entry.header sections i) (entry_of (export_table tables.entry.cut.bytes.now tables.entry.header) i) }
+{
+    let export = exports.entry(i as usize)?;
+    let nameless = tables.header.strings_offset as usize > tables.cut.len()
+        || exports.name(i as usize).is_none();
+    Some([
+        (
+            nameless,
+            LoaderFault::BadName {
+                of: NamedRow::Export(i),
+            },
+        ),
+        (
+            !has_section(export.section, export.value, tables.header, sections),
+            LoaderFault::BadExportSection { export: i },
+        ),
+    ])
 }
 
 /// Returns whether an export's value exists: it is in an instantiated section, it is absolute, or it is that of one

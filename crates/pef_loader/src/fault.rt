@@ -1,17 +1,19 @@
 ghost use Rattle.std.specs.Prelude.{◌≡◌};
+ghost use Rattle.std.specs.Result.{result_err};
 ghost use Rattle.pef_format.specs.declared.place.Part.TheVariants.{LoaderHeader};
+ghost use Rattle.pef_views.specs.PartialViews.{partly};
 ghost use Rattle.pef_views.specs.Views.{contained};
 ghost use Rattle.pef_loader.specs.Faults.{fault_field, fault_name, fault_number, fault_offset, fault_place, field_of, name_field};
 ghost use Rattle.pef_loader.specs.Kept.Fields.{field_seen};
 
 use crate::header::EntryKind;
-use crate::place::{field_from, place_in, start_in};
+use crate::place::{field_from, partial_place, place_in, start_in};
 use pef_format::layout::{
     EXPORT_CLASS_AND_NAME_AT, EXPORT_HASH_OFFSET_AT, EXPORT_SECTION_AT, FIRST_IMPORTED_SYMBOL_AT,
     IMPORTED_LIBRARY_COUNT_AT, LIBRARY_NAME_OFFSET_AT, RELOC_COUNT_AT, SECTION_INDEX_AT,
 };
 use pef_format::{Part, Place};
-use pef_views::Container;
+use pef_views::{Container, PartialContainer};
 use std::fmt;
 use thiserror::Error;
 
@@ -115,6 +117,14 @@ impl LoaderFault {
         place_in(container, of.part, of.row, of.field)
     }
 
+    /// Returns the place of that field in a container that may be damaged.
+    pub fn partial_place(&self, container: &PartialContainer<'_>) -> Place
+        ensures { result ≡ fault_place (partly container.now) self.now }
+    {
+        let of = self.field();
+        partial_place(container, of.part, of.row, of.field)
+    }
+
     /// Returns the field that the broken rule is about.
     fn field(&self) -> RowField
         ensures { field_seen result ≡ fault_field self.now }
@@ -139,6 +149,16 @@ impl LoaderFault {
                 row_field(Part::Export, export, EXPORT_SECTION_AT)
             }
         }
+    }
+}
+
+/// Returns the refusal by a fault, if there is one.
+pub(crate) fn refused_by(fault: Option<LoaderFault>) -> Result<(), LoaderFault>
+    ensures { result_err result ≡ fault }
+{
+    match fault {
+        Some(fault) => Err(fault),
+        None => Ok(()),
     }
 }
 

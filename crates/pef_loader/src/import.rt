@@ -1,12 +1,12 @@
-ghost use Rattle.std.specs.Prelude.{◌≡◌, ◌<◌, ◌^◌};
+ghost use Rattle.std.specs.Prelude.{◌≡◌, ◌<◌, ◌^◌, option_map};
 ghost use Rattle.std.specs.Result.{result_err};
 ghost use Rattle.pef_loader.specs.Kept.Names.{NamesEndAt};
 ghost use Rattle.pef_loader.specs.Import.{import_at, import_refusal, import_tests, owner_of};
 
-use crate::fault::{LoaderFault, NamedRow};
+use crate::fault::{LoaderFault, NamedRow, refused_by};
 use crate::header::LoaderTables;
 use pef_format::layout::{CLASS_COUNT, CLASS_SHIFT, WEAK_IMPORT};
-use pef_words::Cut;
+use pef_words::{Cut, first_met};
 
 /// An imported symbol, field by field (PEFImportedSymbol).
 #[derive(Clone, Copy)]
@@ -32,7 +32,6 @@ pub(crate) fn read_import(tables: LoaderTables<'_>, j: usize) -> Option<ImportEn
 }
 
 /// Reports the first rule that import `j` breaks.
-#[tactic(auto, unfolding(crate::specs::Import::import_tests))]
 pub(crate) fn test_import(
     tables: LoaderTables<'_>,
     names_end: usize,
@@ -43,14 +42,32 @@ pub(crate) fn test_import(
     requires owner { owner ≡ owner_of tables.cut.bytes.now tables.header j }
     ensures { result_err result ≡ import_refusal tables.entry.cut.bytes.now tables.entry.header j }
 {
-    let import = read_import(tables, j as usize).ok_or(LoaderFault::BadTableOffset)?;
-    if tables.header.name(import.name_offset) >= names_end {
-        return Err(LoaderFault::BadName {
-            of: NamedRow::Import(j),
-        });
+    match import_table(tables, names_end, owner, j) {
+        Some(table) => refused_by(first_met(table)),
+        None => Err(LoaderFault::BadTableOffset),
     }
-    if owner.is_none() {
-        return Err(LoaderFault::OrphanImport { import: j });
-    }
-    Ok(())
+}
+
+/// Returns the tests of import `j`, in order, or `None` if it passes the end.
+#[tactic(auto, unfolding(crate::specs::Import::import_tests))]
+pub(crate) fn import_table(
+    tables: LoaderTables<'_>,
+    names_end: usize,
+    owner: Option<usize>,
+    j: u32,
+) -> Option<[(bool, LoaderFault); 2]>
+    requires names { NamesEndAt tables.cut.bytes.now names_end }
+    requires owner { owner ≡ owner_of tables.cut.bytes.now tables.header j }
+    ensures { result ≡ option_map (import_tests tables.entry.cut.bytes.now tables.entry.header j) (import_at tables.entry.cut.bytes.now tables.entry.header j) }
+{
+    let import = read_import(tables, j as usize)?;
+    Some([
+        (
+            tables.header.name(import.name_offset) >= names_end,
+            LoaderFault::BadName {
+                of: NamedRow::Import(j),
+            },
+        ),
+        (owner.is_none(), LoaderFault::OrphanImport { import: j }),
+    ])
 }

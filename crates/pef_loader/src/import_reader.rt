@@ -1,7 +1,6 @@
 ghost use Rattle.std.specs.Prelude.{◌≡◌, ◌<◌, ◌↔◌, IfSome, IsSome, option_map};
-ghost use Rattle.std.specs.Option.{ForSome};
 ghost use Rattle.pef_loader.specs.Import.{owner_of};
-ghost use Rattle.pef_loader.specs.Kept.Blocks.{AreOwners};
+ghost use Rattle.pef_loader.specs.Kept.Blocks.{AreOwnersIf};
 ghost use Rattle.pef_loader.specs.Kept.Cursors.{HasRange};
 ghost use Rattle.pef_loader.specs.Loader.{import_of};
 
@@ -13,7 +12,7 @@ use pef_format::ImportView;
 /// Reads many imports of a loader section, each with its library, and allocates nothing.
 ///
 /// For imports in rising order, one walk over the libraries finds the libraries of all imports if the libraries
-/// are in the order of their imports, and those of 16,384 imports if not. In any other order the answers are the
+/// are in the order of their imports, and those of 2,048 imports if not. In any other order the answers are the
 /// same, and each may need a walk.
 #[derive(Drop)]
 pub struct ImportReader<'a> {
@@ -21,9 +20,9 @@ pub struct ImportReader<'a> {
     /// Finds an import's library if the libraries are in order.
     cursor: OwnerCursor,
     /// The last block that was painted. Libraries in order need none.
-    block: Option<OwnerBlock>,
+    block: OwnerBlock,
     ghost range: { HasRange loader.tables.cut.bytes.now cursor },
-    ghost painted: { ForSome block (λ b. AreOwners loader.tables.cut.bytes.now loader.tables.header b.from b.cells) },
+    ghost painted: { AreOwnersIf block.painted loader.tables.cut.bytes.now loader.tables.header block.from block.cells },
 }
 
 impl<'a> ImportReader<'a> {
@@ -37,7 +36,7 @@ impl<'a> ImportReader<'a> {
         ImportReader {
             loader,
             cursor: OwnerCursor::new(loader.tables.cut),
-            block: None,
+            block: OwnerBlock::new(),
         }
     }
 
@@ -66,23 +65,6 @@ impl<'a> ImportReader<'a> {
         if loader.in_order {
             return self.cursor.owner(loader.tables, j);
         }
-        match &mut self.block {
-            Some(block) => block.owner(loader.tables, j),
-            None => self.first_owner(j),
-        }
-    }
-
-    /// Returns the first library of import `j` if no block was painted yet. Inside `owner`, each call would pay for the
-    /// locals of a block.
-    #[inline(never)]
-    fn first_owner(&mut self, j: usize) -> Option<usize>
-        ensures value { result ≡ owner_of self.old.loader.tables.cut.bytes.now self.old.loader.tables.header j }
-        ensures same { self.new.loader ≡ self.old.loader }
-    {
-        let loader = self.loader;
-        let mut block = OwnerBlock::paint(loader.tables, j);
-        let owner = block.owner(loader.tables, j);
-        self.block = Some(block);
-        owner
+        self.block.owner(loader.tables, j)
     }
 }

@@ -14,17 +14,25 @@ mod import;
 mod import_reader;
 mod library;
 mod names;
+mod owners;
 mod painting;
+mod partial;
 mod place;
 mod program_fault;
 mod ranges;
 mod reloc;
 mod tables;
+mod theorems;
 
 pub use fault::{LoaderFault, NamedRow};
 pub use header::{EntryKind, LoaderHeader};
 pub use import_reader::ImportReader;
 pub use library::LibraryView;
-pub use place::place_in;
+pub use partial::{
+    LibraryVersions, PartialExport, PartialImport, PartialImports, PartialLibrary, PartialLoader,
+    PartialRelocation,
+};
+pub use place::{partial_place, place_in};
 pub use program_fault::ProgramFault;
 pub use tables::Loader;
+pub use theorems::{first_fault_is_reported, loaders_open};

@@ -1,17 +1,17 @@
-ghost use Rattle.std.specs.Prelude.{◌≡◌, ◌+◌, ◌^◌, ◌<◌};
+ghost use Rattle.std.specs.Prelude.{◌≡◌, ◌+◌, ◌^◌, ◌<◌, option_map};
 ghost use Rattle.std.specs.Result.{result_err};
 ghost use Rattle.pef_format.specs.Symbols.{options_of};
 ghost use Rattle.pef_loader.specs.Kept.Names.{NamesEndAt};
 ghost use Rattle.pef_loader.specs.Library.{library_at, library_refusal, library_tests};
 
-use crate::fault::{LoaderFault, NamedRow};
+use crate::fault::{LoaderFault, NamedRow, refused_by};
 use crate::header::{LoaderTables, library_place};
 use pef_format::LibraryOptions;
 use pef_format::layout::{
     FIRST_IMPORTED_SYMBOL_AT, IMPORTED_SYMBOL_COUNT_AT, LIBRARY_CURRENT_VERSION_AT,
     LIBRARY_NAME_OFFSET_AT, LIBRARY_OLD_IMP_VERSION_AT, LIBRARY_OPTIONS_AT,
 };
-use pef_words::Cut;
+use pef_words::{Cut, first_met};
 
 /// An imported library, field by field (PEFImportedLibrary).
 #[derive(Clone, Copy)]
@@ -67,7 +67,6 @@ pub(crate) fn read_library(cut: Cut<'_>, i: usize) -> Option<LibraryEntry>
 }
 
 /// Reports the first rule that library `i` breaks.
-#[tactic(auto, unfolding(crate::specs::Library::library_tests))]
 pub(crate) fn test_library(
     tables: LoaderTables<'_>,
     names_end: usize,
@@ -76,14 +75,34 @@ pub(crate) fn test_library(
     requires { NamesEndAt tables.cut.bytes.now names_end }
     ensures { result_err result ≡ library_refusal tables.entry.cut.bytes.now tables.entry.header i }
 {
-    let library = read_library(tables.cut, i as usize).ok_or(LoaderFault::BadTableOffset)?;
-    if tables.header.name(library.name_offset) >= names_end {
-        return Err(LoaderFault::BadName {
-            of: NamedRow::Library(i),
-        });
+    match library_table(tables, names_end, i) {
+        Some(table) => refused_by(first_met(table)),
+        None => Err(LoaderFault::BadTableOffset),
     }
-    if u64::from(library.first) + u64::from(library.count) > u64::from(tables.header.import_count) {
-        return Err(LoaderFault::BadLibraryRange { library: i });
-    }
-    Ok(())
+}
+
+/// Returns the tests of library `i`, in order, or `None` if it passes the end.
+#[tactic(auto, unfolding(crate::specs::Library::library_tests))]
+pub(crate) fn library_table(
+    tables: LoaderTables<'_>,
+    names_end: usize,
+    i: u32,
+) -> Option<[(bool, LoaderFault); 2]>
+    requires { NamesEndAt tables.cut.bytes.now names_end }
+    ensures { result ≡ option_map (library_tests tables.entry.cut.bytes.now tables.entry.header i) (library_at tables.entry.cut.bytes.now i) }
+{
+    let library = read_library(tables.cut, i as usize)?;
+    let end = u64::from(library.first) + u64::from(library.count);
+    Some([
+        (
+            tables.header.name(library.name_offset) >= names_end,
+            LoaderFault::BadName {
+                of: NamedRow::Library(i),
+            },
+        ),
+        (
+            end > u64::from(tables.header.import_count),
+            LoaderFault::BadLibraryRange { library: i },
+        ),
+    ])
 }

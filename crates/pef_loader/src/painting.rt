@@ -27,9 +27,9 @@ pub(crate) fn paint_owners(
     tables: LoaderTables<'_>,
     from: usize,
     cells: &mut [u32],
-    steps: &mut [u32],
+    steps: &mut [u16],
 )
-    requires few { length cells.old < 2 ^ 32 }
+    requires few { length cells.old < 2 ^ 16 }
     requires empty { AreEmpty cells.old }
     requires steps { AreSteps cells.old steps.old }
     ensures owners { AreOwners tables.entry.cut.bytes.now tables.entry.header from cells.new }
@@ -44,8 +44,8 @@ pub(crate) fn paint_owners(
 }
 
 /// Writes a library into the cells of its imports that are still empty.
-fn paint(cells: &mut [u32], steps: &mut [u32], imports: Range<usize>, library: u32)
-    requires few { length cells.old < 2 ^ 32 }
+fn paint(cells: &mut [u32], steps: &mut [u16], imports: Range<usize>, library: u32)
+    requires few { length cells.old < 2 ^ 16 }
     requires order { imports.start ≤ imports.end }
     requires within { imports.end ≤ length cells.old }
     requires steps { AreSteps cells.old steps.old }
@@ -59,8 +59,8 @@ fn paint(cells: &mut [u32], steps: &mut [u32], imports: Range<usize>, library: u
 }
 
 /// Writes a library into a cell if the cell is empty, and returns the next cell to look at.
-fn paint_cell(cells: &mut [u32], steps: &mut [u32], k: usize, library: u32) -> usize
-    requires few { length cells.old < 2 ^ 32 }
+fn paint_cell(cells: &mut [u32], steps: &mut [u16], k: usize, library: u32) -> usize
+    requires few { length cells.old < 2 ^ 16 }
     requires within { k < length cells.old }
     requires steps { AreSteps cells.old steps.old }
     ensures painted { IsPainted cells.old cells.new k (k + 1) library }
@@ -77,8 +77,8 @@ fn paint_cell(cells: &mut [u32], steps: &mut [u32], k: usize, library: u32) -> u
 
 /// Adds to the step of a cell that of the cell it leads to, if that one is painted. Each walk over painted cells
 /// halves the number of steps of the next one, so libraries that share imports don't walk over them in full.
-fn lengthen(cells: &[u32], steps: &mut [u32], k: usize)
-    requires few { length cells.now < 2 ^ 32 }
+fn lengthen(cells: &[u32], steps: &mut [u16], k: usize)
+    requires few { length cells.now < 2 ^ 16 }
     requires within { k < length cells.now }
     requires steps { AreSteps cells.now steps.old }
     ensures { AreSteps cells.now steps.new }

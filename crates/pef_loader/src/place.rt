@@ -1,5 +1,6 @@
 ghost use Rattle.std.specs.Prelude.{◌≡◌, ◌<◌, ◌^◌, IfSome};
 ghost use Rattle.pef_format.specs.Places.{field_from};
+ghost use Rattle.pef_views.specs.PartialViews.{partly};
 ghost use Rattle.pef_views.specs.Views.{contained};
 ghost use Rattle.pef_loader.specs.Places.{export_start, loader_start, place_of, program_start, start_in, start_of};
 
@@ -11,7 +12,7 @@ use pef_format::layout::{
 };
 use pef_format::{Part, Place};
 use pef_hash::export_place;
-use pef_views::Container;
+use pef_views::{Container, PartialContainer};
 use pef_words::Cut;
 
 /// Returns the place of a part's field in a container, by the part's number and the field's offset in the part.
@@ -27,6 +28,55 @@ pub fn place_in(container: &Container<'_>, part: Part, row: u32, field: usize) -
         field,
         offset: field_from(start_of(container, part, row), field),
     }
+}
+
+/// Returns the place of a part's field in a container that may be damaged, by the part's number and the field's offset in the
+/// part.
+///
+/// It has no offset where [`place_in`] has none. It takes the same time however large the container is.
+pub fn partial_place(container: &PartialContainer<'_>, part: Part, row: u32, field: usize) -> Place
+    ensures { result ≡ place_of (partly container.now) part row field }
+{
+    Place {
+        part,
+        row: row as usize,
+        field,
+        offset: field_from(partial_start(container, part, row), field),
+    }
+}
+
+/// Returns where a part begins in a container that may be damaged.
+#[tactic(auto, unfolding(crate::specs::Places::start_of, pef_views::specs::Container::section_of))]
+fn partial_start(container: &PartialContainer<'_>, part: Part, row: u32) -> Option<usize>
+    ensures { result ≡ start_of (partly container.now) part row }
+{
+    match part {
+        Part::Header => Some(0),
+        Part::Section => Some(CONTAINER_HEADER_SIZE + SECTION_HEADER_SIZE * row as usize),
+        Part::PackedData => {
+            let section = container.section(row as usize)?;
+            Some(section.container_offset as usize)
+        }
+        Part::LoaderHeader
+        | Part::Library
+        | Part::Import
+        | Part::Main
+        | Part::Init
+        | Part::Term
+        | Part::Relocation
+        | Part::Export
+        | Part::Program
+        | Part::Line => partial_loader_start(container, part, row),
+    }
+}
+
+/// Returns where a part of a loader section begins in a container that may be damaged.
+fn partial_loader_start(container: &PartialContainer<'_>, part: Part, row: u32) -> Option<usize>
+    ensures { result ≡ loader_start (partly container.now) part row }
+{
+    let from = container.loader_offset()?;
+    let start = start_in(container.loader_bytes(), part, row)?;
+    Some(from + start)
 }
 
 /// Returns where a field is, if its part begins somewhere.

@@ -1,12 +1,12 @@
-ghost use Rattle.std.specs.Prelude.{◌≡◌, ◌+◌, ◌*◌, ◌<◌, ◌^◌};
+ghost use Rattle.std.specs.Prelude.{◌≡◌, ◌+◌, ◌*◌, ◌<◌, ◌^◌, option_map};
 ghost use Rattle.std.specs.Result.{result_err};
 ghost use Rattle.std.specs.Option.{option_copied};
 ghost use Rattle.pef_loader.specs.Reloc.{instructions_of, reloc_at, reloc_refusal, reloc_tests};
 
-use crate::fault::LoaderFault;
+use crate::fault::{LoaderFault, refused_by};
 use crate::header::LoaderTables;
 use pef_format::layout::{FIRST_RELOC_OFFSET_AT, HALFWORD_SIZE, RELOC_COUNT_AT, SECTION_INDEX_AT};
-use pef_words::Cut;
+use pef_words::{Cut, first_met};
 
 /// A relocation header, field by field (PEFLoaderRelocationHeader).
 #[derive(Clone, Copy)]
@@ -33,18 +33,35 @@ pub(crate) fn read_reloc(tables: LoaderTables<'_>, k: usize) -> Option<RelocEntr
 }
 
 /// Reports the first rule that relocation header `k` breaks.
-#[tactic(auto, unfolding(crate::specs::Reloc::reloc_tests, crate::specs::Reloc::instructions_of, pef_words::specs::Bytes::part_of))]
 pub(crate) fn test_reloc(tables: LoaderTables<'_>, sections: u16, k: u32) -> Result<(), LoaderFault>
     ensures { result_err result ≡ reloc_refusal tables.entry.cut.bytes.now tables.entry.header sections k }
 {
-    let reloc = read_reloc(tables, k as usize).ok_or(LoaderFault::BadTableOffset)?;
-    if reloc.section >= sections {
-        return Err(LoaderFault::BadRelocSection { header: k });
+    match reloc_table(tables, sections, k) {
+        Some(table) => refused_by(first_met(table)),
+        None => Err(LoaderFault::BadTableOffset),
     }
-    if instructions(tables, reloc).is_none() {
-        return Err(LoaderFault::RelocOutside { header: k });
-    }
-    Ok(())
+}
+
+/// Returns the tests of relocation header `k`, in order, or `None` if it passes the end.
+#[tactic(auto, unfolding(crate::specs::Reloc::reloc_tests, crate::specs::Reloc::instructions_of, pef_words::specs::Bytes::part_of))]
+pub(crate) fn reloc_table(
+    tables: LoaderTables<'_>,
+    sections: u16,
+    k: u32,
+) -> Option<[(bool, LoaderFault); 2]>
+    ensures { result ≡ option_map (reloc_tests tables.entry.cut.bytes.now tables.entry.header sections k) (reloc_at tables.entry.cut.bytes.now tables.entry.header k) }
+{
+    let reloc = read_reloc(tables, k as usize)?;
+    Some([
+        (
+            reloc.section >= sections,
+            LoaderFault::BadRelocSection { header: k },
+        ),
+        (
+            instructions(tables, reloc).is_none(),
+            LoaderFault::RelocOutside { header: k },
+        ),
+    ])
 }
 
 /// Returns the instructions of a relocation header, or `None` if they pass the end.

@@ -15,7 +15,7 @@ ghost use Rattle.pef_loader.specs.Reloc.{reloc_refusal};
 use crate::block::OwnerBlock;
 use crate::cursor::OwnerCursor;
 use crate::export::{exports, has_exports, test_export};
-use crate::fault::LoaderFault;
+use crate::fault::{LoaderFault, refused_by};
 use crate::header::{EntryKind, LoaderHeader, LoaderTables, is_entry, read_header};
 use crate::import::{read_import, test_import};
 use crate::library::{LibraryView, read_library, test_library};
@@ -25,7 +25,7 @@ use crate::reloc::{instructions, read_reloc, test_reloc};
 use pef_format::{EntryPoint, ExportView, ImportView};
 use pef_hash::Exports;
 use pef_views::Container;
-use pef_words::Cut;
+use pef_words::{Cut, first_met};
 
 /// A loader section, read in place.
 ///
@@ -333,7 +333,7 @@ fn test_imports_by_blocks(tables: LoaderTables<'_>, names_end: usize) -> Result<
     ensures { result_err result
         ≡ first_among (import_refusal tables.entry.cut.bytes.now tables.entry.header) 0 tables.entry.header.import_count }
 {
-    let mut owners = OwnerBlock::paint(tables, 0);
+    let mut owners = OwnerBlock::new();
     for j in 0..tables.header.import_count {
         let owner = owners.owner(tables, j as usize);
         test_import(tables, names_end, owner, j)?;
@@ -342,26 +342,37 @@ fn test_imports_by_blocks(tables: LoaderTables<'_>, names_end: usize) -> Result<
 }
 
 /// Reports the first entry point that is neither missing nor in an instantiated section.
-#[tactic(auto, unfolding(crate::specs::Loader::entry_tests))]
 fn test_entries(header: LoaderHeader, sections: u16) -> Result<(), LoaderFault>
     ensures { result_err result ≡ first_met (entry_tests sections header) }
 {
-    if !is_entry(header.main_section, sections) {
-        return Err(LoaderFault::BadEntry {
-            entry: EntryKind::Main,
-        });
-    }
-    if !is_entry(header.init_section, sections) {
-        return Err(LoaderFault::BadEntry {
-            entry: EntryKind::Init,
-        });
-    }
-    if !is_entry(header.term_section, sections) {
-        return Err(LoaderFault::BadEntry {
-            entry: EntryKind::Term,
-        });
-    }
-    Ok(())
+    refused_by(first_met(entry_table(header, sections)))
+}
+
+/// Returns the tests of the entry points, in order.
+#[tactic(auto, unfolding(crate::specs::Loader::entry_tests))]
+pub(crate) fn entry_table(header: LoaderHeader, sections: u16) -> [(bool, LoaderFault); 3]
+    ensures { result ≡ entry_tests sections header }
+{
+    [
+        (
+            !is_entry(header.main_section, sections),
+            LoaderFault::BadEntry {
+                entry: EntryKind::Main,
+            },
+        ),
+        (
+            !is_entry(header.init_section, sections),
+            LoaderFault::BadEntry {
+                entry: EntryKind::Init,
+            },
+        ),
+        (
+            !is_entry(header.term_section, sections),
+            LoaderFault::BadEntry {
+                entry: EntryKind::Term,
+            },
+        ),
+    ]
 }
 
 /// Reports the first rule that a relocation header breaks, header by header.

@@ -707,7 +707,7 @@ fn imports_in_order(rt: HostRuntime) {
 
 /// A loader section alone, with 16,386 imports and two libraries out of order: library 0 has the last two
 /// imports, and library 1 all but the last.
-const TWO_BLOCKS: &[(usize, u32)] = &[
+const BLOCKS: &[(usize, u32)] = &[
     (0, 0x4A6F_7921),
     (4, 0x7065_6666),
     (8, 0x7077_7063),
@@ -733,9 +733,12 @@ const TWO_BLOCKS: &[(usize, u32)] = &[
     (164, 0),
 ];
 
-/// Imports of both blocks and their libraries, in rising order, and back again, and one that doesn't exist.
+/// Imports on both sides of the ends of two blocks, and their libraries, in rising order, and back again, and one that
+/// doesn't exist.
 const OWNED: &[(usize, Option<usize>)] = &[
     (0, Some(1)),
+    (4_095, Some(1)),
+    (4_096, Some(1)),
     (16_383, Some(1)),
     (16_384, Some(0)),
     (16_385, Some(0)),
@@ -748,8 +751,8 @@ fn library_of(import: Option<ImportView<'_>>) -> Option<usize> {
     Some(import?.library)
 }
 
-/// Tests the imports of a loader section of two blocks.
-fn test_two_blocks(rt: &impl Abort, bytes: &[u8]) {
+/// Tests the imports of a loader section of several blocks.
+fn test_blocks(rt: &impl Abort, bytes: &[u8]) {
     let container = Container::read(bytes).expect(rt, "a container");
     let loader = Loader::read(&container).expect(rt, "a loader section");
     let mut reader = ImportReader::new(loader);
@@ -759,8 +762,8 @@ fn test_two_blocks(rt: &impl Abort, bytes: &[u8]) {
 }
 
 #[test]
-fn imports_of_two_blocks(rt: HostRuntime) {
+fn imports_of_blocks(rt: HostRuntime) {
     let mut bytes = vec![in rt.alloc(); 0; 65_720].expect(&rt, "memory");
-    change_words(&mut bytes, TWO_BLOCKS).expect(&rt, "places in the container");
-    test_two_blocks(&rt, &bytes);
+    change_words(&mut bytes, BLOCKS).expect(&rt, "places in the container");
+    test_blocks(&rt, &bytes);
 }

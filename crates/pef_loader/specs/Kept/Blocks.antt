@@ -1,5 +1,5 @@
 -- Cells of owners: a cell for each import of a run, which holds the first library that has it.
-use Rattle.std.specs.Prelude.{◌≡◌, ℕ, ◌+◌, ◌-◌, ◌^◌, ◌<◌, ◌≤◌, ◌==◌, ◌&&◌, false, List, Option, Some, None, length, nat_le, nat_lt, slice_index, if◌then◌else◌}
+use Rattle.std.specs.Prelude.{◌≡◌, ℕ, ◌+◌, ◌-◌, ◌^◌, ◌<◌, ◌≤◌, ◌==◌, ◌&&◌, Bool, false, true, List, Option, Some, None, length, nat_le, nat_lt, slice_index, if◌then◌else◌}
 use Rattle.pef_words.specs.Refusals.{first_among}
 use Rattle.pef_loader.specs.declared.header.LoaderHeader.{LoaderHeader}
 use Rattle.pef_loader.specs.Import.{owner_at}
@@ -40,3 +40,7 @@ AreOwnersBefore bytes l from cells = (k : ℕ) → k < length cells → cell_lib
 -- each cell holds the owner of its import
 abbrev pub AreOwners : List ℕ → LoaderHeader → ℕ → List ℕ → Type 0
 AreOwners bytes h from cells = AreOwnersBefore bytes h.library_count from cells
+
+-- the same, if the cells were painted
+abbrev pub AreOwnersIf : Bool → List ℕ → LoaderHeader → ℕ → List ℕ → Type 0
+AreOwnersIf painted bytes h from cells = painted ≡ true → AreOwners bytes h from cells

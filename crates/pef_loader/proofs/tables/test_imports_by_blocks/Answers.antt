@@ -8,7 +8,7 @@ use Rattle.pef_loader.proofs.tables.test_imports_by_blocks.Goals as goal
 pub loop-j-init : goal.loop-j-init
 loop-j-init c =
     let all : c.args.tables.header.import_count - 0 ≡ c.args.tables.header.import_count = omega arith in
-    record { left = rw all refl; owners = c.paint-owners.ensures.owners }
+    record { left = rw all refl; owners = λ painted. absurd (cc) }
 
 pub loop-j-preserved : goal.loop-j-preserved
 loop-j-preserved c =

@@ -1,0 +1,26 @@
+-- What the views show of a loader section that may be damaged, without addresses in memory.
+use Rattle.std.specs.Option.{option_copied}
+use Rattle.pef_views.specs.PartialViews.{partly}
+use Rattle.pef_loader.specs.declared.partial.PartialLoader.{PartialLoader}
+use Rattle.pef_loader.specs.declared.partial.PartialLibrary.{PartialLibrary}
+use Rattle.pef_loader.specs.declared.partial.PartialImport.{PartialImport}
+use Rattle.pef_loader.specs.declared.partial.PartialRelocation.{PartialRelocation}
+use Rattle.pef_loader.specs.declared.partial.PartialExport.{PartialExport}
+use Rattle.pef_loader.specs.Loader.{Loaded}
+use Rattle.pef_loader.specs.Partial.{ExportRow, ImportRow, LibraryRow, RelocationRow}
+
+-- the loader section that a view shows
+abbrev pub partly_loaded : PartialLoader → Loaded
+partly_loaded p = record { sections = (partly p.container).header.instantiated_section_count; bytes = p.tables.cut.bytes.now; header = p.tables.header }
+
+abbrev pub library_seen : PartialLibrary → LibraryRow
+library_seen v = record { name = option_copied v.name; current = v.current; old_imp = v.old_imp; count = v.count; first = v.first; options = v.options }
+
+abbrev pub import_seen : PartialImport → ImportRow
+import_seen v = record { name = option_copied v.name; class = v.class; weak = v.weak; library = v.library }
+
+abbrev pub relocation_seen : PartialRelocation → RelocationRow
+relocation_seen v = record { section = v.section; count = v.count; first = v.first; program = option_copied v.program }
+
+abbrev pub export_seen : PartialExport → ExportRow
+export_seen v = record { name = option_copied v.name; class = v.class; section = v.section; value = v.value }

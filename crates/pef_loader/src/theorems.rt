@@ -1,0 +1,15 @@
+//! Laws of all faults of a loader section. The functions do nothing.
+ghost use Rattle.pef_loader.specs.Theorems.{FirstIsReported, OpensLoaders};
+
+/// The first of all faults of a loader section is the one that [`Loader::read`](crate::Loader::read) reports, and there is
+/// none exactly if it reports none.
+#[tactic(auto, using(crate::proofs::FindingLemmas::first_is_reported))]
+pub fn first_fault_is_reported()
+    ensures { FirstIsReported }
+{}
+
+/// What can be read of a loader section is the loader section.
+#[tactic(auto, using(crate::proofs::FindingLemmas::whole_loader))]
+pub fn loaders_open()
+    ensures { OpensLoaders }
+{}
