@@ -1,0 +1,8 @@
+-- What was taken and what is left are all.
+use Rattle.std.proofs.Common.{◌≡◌, ◌++◌, drop, map}
+use Rattle.pef_words.specs.Findings.{all_met}
+use Rattle.pef_inspect.specs.Findings.{view_finding}
+use Rattle.pef_inspect.proofs.tables.take_views.Given as goal
+
+abbrev pub invariant-loop-met : goal.invariant-loop-met
+invariant-loop-met g l = g.S.Findings.taken l.sink ++ map view_finding (all_met (drop l.met-index l.fn.tests)) ≡ g.S.Findings.taken l.fn.sink ++ map view_finding (all_met l.fn.tests)

@@ -1,0 +1,485 @@
+ghost use Rattle.std.specs.Prelude.{◌≡◌, ◌++◌, Bool, OnOk, Some};
+ghost use Rattle.std.specs.Option.{option_to_list};
+ghost use Rattle.pef_views.specs.PartialViews.{partly};
+ghost use Rattle.pef_loader.specs.PartialViews.{partly_loaded};
+ghost use Rattle.pef_inspect.specs.Oddities.{behind_notes, entry_notes, header_notes, image_size, irregular_note, is_past, is_past_entry, is_past_value, is_unknown_kind, is_unknown_share, loader_notes, note_at, notes_in, notes_of, section_notes, word_inside, word_note, word_outside};
+ghost use Rattle.pef_inspect.specs.Runs.{run_seen};
+ghost use Rattle.pef_loader.specs.Partial.{partial_of};
+
+use crate::finding::Finding;
+use crate::note::Note;
+use crate::runs::{Run, runs_within};
+use crate::sink::{Findings, Rows, take_met, take_rows, take_some};
+use pef_format::layout::{
+    CONTAINER_RESERVED_AT, EXPORT_HASH_OFFSET_AT, EXPORT_VALUE_AT, LIBRARY_OLD_IMP_VERSION_AT,
+    LIBRARY_RESERVED_AT, MAIN_OFFSET_AT, OLD_DEF_VERSION_AT, OLD_IMP_VERSION_AT,
+    RELOCATION_RESERVED_AT, SECTION_KIND_AT, SECTION_RESERVED_AT, SHARE_KIND_AT,
+};
+use pef_format::{ExportValue, Part, SectionKind, Share};
+use pef_loader::{PartialLoader, partial_place};
+use pef_reloc::{RelocFault, Sizes, verify};
+use pef_views::{PartialContainer, SectionHeader};
+
+/// Hands the notes on some bytes as a container to a sink, except those that need memory: of the header, of each section, and
+/// of the loader section.
+///
+/// # Errors
+///
+/// Only those of the sink.
+#[tactic(auto, unfolding(crate::specs::Oddities::notes_of))]
+pub fn find_notes<S: Findings>(bytes: &[u8], sink: &mut S) -> Result<(), S::Error>
+    ensures { OnOk result ((irregular : Bool) × (S.taken sink.new ≡ S.taken sink.old ++ notes_of bytes.now irregular)) }
+{
+    match PartialContainer::read(bytes) {
+        Ok(container) => find_in_container(&container, sink),
+        Err(_) => Ok(()),
+    }
+}
+
+/// Hands the notes on a container to a sink.
+fn find_in_container<S: Findings>(
+    container: &PartialContainer<'_>,
+    sink: &mut S,
+) -> Result<(), S::Error>
+    ensures { OnOk result ((irregular : Bool) × (S.taken sink.new ≡ S.taken sink.old ++ notes_in (partly container.now) irregular)) }
+{
+    take_met(&header_notes(container), sink)?;
+    let count = u32::from(container.header().section_count);
+    take_rows(&mut Sections { container }, count, sink)?;
+    find_behind(container, sink)?;
+    Ok(())
+}
+
+/// Hands the notes on the loader section to a sink.
+fn find_behind<S: Findings>(container: &PartialContainer<'_>, sink: &mut S) -> Result<(), S::Error>
+    ensures { OnOk result ((irregular : Bool) × (S.taken sink.new ≡ S.taken sink.old ++ behind_notes (partly container.now) (partial_of (partly container.now).header.instantiated_section_count (partly container.now).loader) irregular)) }
+{
+    match PartialLoader::read(container) {
+        Ok(loader) => {
+            find_in_loader(container, &loader, sink)?;
+            let irregular = loader.is_irregular();
+            take_some(irregular_note(container, irregular), sink)?;
+            Ok(())
+        }
+        Err(_) => Ok(()),
+    }
+}
+
+/// Hands the notes on a loader section with a header to a sink, without that on irregular exports.
+fn find_in_loader<S: Findings>(
+    container: &PartialContainer<'_>,
+    loader: &PartialLoader<'_>,
+    sink: &mut S,
+) -> Result<(), S::Error>
+    ensures { OnOk result (S.taken sink.new ≡ S.taken sink.old ++ loader_notes (partly container.now) (partly_loaded loader.now)) }
+{
+    let libraries = loader.libraries() as u32;
+    take_rows(&mut Libraries { container, loader }, libraries, sink)?;
+    take_met(&entry_notes(container, loader), sink)?;
+    let relocations = loader.relocations() as u32;
+    take_rows(&mut Relocations { container, loader }, relocations, sink)?;
+    let exports = loader.exports() as u32;
+    take_rows(&mut Exported { container, loader }, exports, sink)?;
+    let programs = runs_within(container, loader);
+    take_rows(&mut Words { container, loader }, programs, sink)?;
+    Ok(())
+}
+
+/// Returns a note at a field of a part.
+fn note_at(
+    container: &PartialContainer<'_>,
+    note: Note,
+    part: Part,
+    row: u32,
+    field: usize,
+) -> Finding
+    ensures { result ≡ note_at (partly container.now) note part row field }
+{
+    Finding::of_note(note, partial_place(container, part, row, field))
+}
+
+/// Returns the note on irregular exports, if they are.
+fn irregular_note(container: &PartialContainer<'_>, irregular: bool) -> Option<Finding>
+    ensures { option_to_list result ≡ irregular_note (partly container.now) irregular }
+{
+    if irregular {
+        Some(note_at(
+            container,
+            Note::IrregularExports,
+            Part::LoaderHeader,
+            0,
+            EXPORT_HASH_OFFSET_AT,
+        ))
+    } else {
+        None
+    }
+}
+
+/// Returns the tests of a container header.
+fn header_notes(container: &PartialContainer<'_>) -> [(bool, Finding); 3]
+    ensures { result ≡ header_notes (partly container.now) }
+{
+    let header = container.header();
+    [
+        (
+            header.old_def_version > header.current_version,
+            note_at(
+                container,
+                Note::VersionBelowOldest,
+                Part::Header,
+                0,
+                OLD_DEF_VERSION_AT,
+            ),
+        ),
+        (
+            header.old_imp_version > header.current_version,
+            note_at(
+                container,
+                Note::VersionBelowOldest,
+                Part::Header,
+                0,
+                OLD_IMP_VERSION_AT,
+            ),
+        ),
+        (
+            header.reserved != 0,
+            note_at(
+                container,
+                Note::ReservedNotZero,
+                Part::Header,
+                0,
+                CONTAINER_RESERVED_AT,
+            ),
+        ),
+    ]
+}
+
+/// The sections of a container.
+#[derive(Clone, Copy)]
+struct Sections<'c, 'a> {
+    container: &'c PartialContainer<'a>,
+}
+
+impl<'c, 'a> Rows for Sections<'c, 'a> {
+    ghost use Rattle.pef_views.specs.PartialViews.{partly};
+    ghost use Rattle.pef_inspect.specs.Oddities.{section_row};
+
+    ghost found = { λ rows i. section_row (partly rows.container.now) i };
+
+    fn take_row<S: Findings>(&mut self, i: u32, sink: &mut S) -> Result<(), S::Error> {
+        match self.container.section(i as usize) {
+            Some(section) => take_met(&section_notes(self.container, i, section), sink),
+            None => Ok(()),
+        }
+    }
+}
+
+/// Returns the tests of section `i`.
+fn section_notes(
+    container: &PartialContainer<'_>,
+    i: u32,
+    section: SectionHeader,
+) -> [(bool, Finding); 3]
+    ensures { result ≡ section_notes (partly container.now) i section }
+{
+    let instantiated = i < u32::from(container.header().instantiated_section_count);
+    [
+        (
+            is_unknown_kind(section.kind()),
+            note_at(
+                container,
+                Note::UnknownKind,
+                Part::Section,
+                i,
+                SECTION_KIND_AT,
+            ),
+        ),
+        (
+            instantiated && is_unknown_share(section.share()),
+            note_at(
+                container,
+                Note::UnknownShare,
+                Part::Section,
+                i,
+                SHARE_KIND_AT,
+            ),
+        ),
+        (
+            section.reserved != 0,
+            note_at(
+                container,
+                Note::ReservedNotZero,
+                Part::Section,
+                i,
+                SECTION_RESERVED_AT,
+            ),
+        ),
+    ]
+}
+
+/// Returns whether the format names no kind with this code.
+fn is_unknown_kind(kind: SectionKind) -> bool
+    ensures { result ≡ is_unknown_kind kind }
+{
+    match kind {
+        SectionKind::Other(_) => true,
+        SectionKind::Code
+        | SectionKind::UnpackedData
+        | SectionKind::PatternData
+        | SectionKind::Constant
+        | SectionKind::Loader
+        | SectionKind::Debug
+        | SectionKind::ExecutableData
+        | SectionKind::Exception
+        | SectionKind::Traceback => false,
+    }
+}
+
+/// Returns whether the format names no share with this code.
+fn is_unknown_share(share: Share) -> bool
+    ensures { result ≡ is_unknown_share share }
+{
+    match share {
+        Share::Other(_) => true,
+        Share::Process | Share::Global | Share::Protected => false,
+    }
+}
+
+/// The libraries of a loader section.
+#[derive(Clone, Copy)]
+struct Libraries<'c, 'a> {
+    container: &'c PartialContainer<'a>,
+    loader: &'c PartialLoader<'a>,
+}
+
+impl<'c, 'a> Rows for Libraries<'c, 'a> {
+    ghost use Rattle.pef_views.specs.PartialViews.{partly};
+    ghost use Rattle.pef_loader.specs.PartialViews.{partly_loaded};
+    ghost use Rattle.pef_inspect.specs.Oddities.{library_row};
+
+    ghost found = { λ rows i. library_row (partly rows.container.now) (partly_loaded rows.loader.now) i };
+
+    fn take_row<S: Findings>(&mut self, i: u32, sink: &mut S) -> Result<(), S::Error> {
+        let container = self.container;
+        match self.loader.library_versions(i as usize) {
+            Some(library) => {
+                let tests = [
+                    (
+                        library.old_imp > library.current,
+                        note_at(
+                            container,
+                            Note::VersionBelowOldest,
+                            Part::Library,
+                            i,
+                            LIBRARY_OLD_IMP_VERSION_AT,
+                        ),
+                    ),
+                    (
+                        library.reserved != 0,
+                        note_at(
+                            container,
+                            Note::ReservedNotZero,
+                            Part::Library,
+                            i,
+                            LIBRARY_RESERVED_AT,
+                        ),
+                    ),
+                ];
+                take_met(&tests, sink)
+            }
+            None => Ok(()),
+        }
+    }
+}
+
+/// Returns the tests of the entry points.
+fn entry_notes(container: &PartialContainer<'_>, loader: &PartialLoader<'_>) -> [(bool, Finding); 3]
+    ensures { result ≡ entry_notes (partly container.now) (partly_loaded loader.now) }
+{
+    let header = loader.header();
+    [
+        (
+            is_past_entry(container, header.main_section, header.main_offset),
+            note_at(container, Note::EntryOutside, Part::Main, 0, MAIN_OFFSET_AT),
+        ),
+        (
+            is_past_entry(container, header.init_section, header.init_offset),
+            note_at(container, Note::EntryOutside, Part::Init, 0, MAIN_OFFSET_AT),
+        ),
+        (
+            is_past_entry(container, header.term_section, header.term_offset),
+            note_at(container, Note::EntryOutside, Part::Term, 0, MAIN_OFFSET_AT),
+        ),
+    ]
+}
+
+/// Returns whether an entry point is past the end of its section.
+fn is_past_entry(container: &PartialContainer<'_>, section: i32, offset: u32) -> bool
+    ensures { result ≡ is_past_entry (partly container.now) section offset }
+{
+    section >= 0 && is_past(container, section.cast_unsigned(), offset)
+}
+
+/// Returns whether an offset is past the end of an instantiated section. The end itself isn't.
+fn is_past(container: &PartialContainer<'_>, section: u32, offset: u32) -> bool
+    ensures { result ≡ is_past (partly container.now) section offset }
+{
+    section < u32::from(container.header().instantiated_section_count)
+        && match container.section(section as usize) {
+            Some(header) => offset > header.total_size,
+            None => false,
+        }
+}
+
+/// The relocation headers of a loader section.
+#[derive(Clone, Copy)]
+struct Relocations<'c, 'a> {
+    container: &'c PartialContainer<'a>,
+    loader: &'c PartialLoader<'a>,
+}
+
+impl<'c, 'a> Rows for Relocations<'c, 'a> {
+    ghost use Rattle.pef_views.specs.PartialViews.{partly};
+    ghost use Rattle.pef_loader.specs.PartialViews.{partly_loaded};
+    ghost use Rattle.pef_inspect.specs.Oddities.{relocation_row};
+
+    ghost found = { λ rows k. relocation_row (partly rows.container.now) (partly_loaded rows.loader.now) k };
+
+    fn take_row<S: Findings>(&mut self, i: u32, sink: &mut S) -> Result<(), S::Error> {
+        match self.loader.relocation_reserved(i as usize) {
+            Some(reserved) => {
+                let note = note_at(
+                    self.container,
+                    Note::ReservedNotZero,
+                    Part::Relocation,
+                    i,
+                    RELOCATION_RESERVED_AT,
+                );
+                take_met(&[(reserved != 0, note)], sink)
+            }
+            None => Ok(()),
+        }
+    }
+}
+
+/// The exports of a loader section.
+#[derive(Clone, Copy)]
+struct Exported<'c, 'a> {
+    container: &'c PartialContainer<'a>,
+    loader: &'c PartialLoader<'a>,
+}
+
+impl<'c, 'a> Rows for Exported<'c, 'a> {
+    ghost use Rattle.pef_views.specs.PartialViews.{partly};
+    ghost use Rattle.pef_loader.specs.PartialViews.{partly_loaded};
+    ghost use Rattle.pef_inspect.specs.Oddities.{export_row};
+
+    ghost found = { λ rows i. export_row (partly rows.container.now) (partly_loaded rows.loader.now) i };
+
+    fn take_row<S: Findings>(&mut self, i: u32, sink: &mut S) -> Result<(), S::Error> {
+        match self.loader.export(i as usize) {
+            Some(export) => {
+                let value = ExportValue::from_fields(export.section, export.value);
+                let note = note_at(
+                    self.container,
+                    Note::ExportOutside,
+                    Part::Export,
+                    i,
+                    EXPORT_VALUE_AT,
+                );
+                take_met(&[(is_past_value(self.container, value), note)], sink)
+            }
+            None => Ok(()),
+        }
+    }
+}
+
+/// Returns whether a value is an offset past the end of its section.
+fn is_past_value(container: &PartialContainer<'_>, value: ExportValue) -> bool
+    ensures { result ≡ is_past_value (partly container.now) value }
+{
+    match value {
+        ExportValue::InSection { section, offset } => is_past(container, section, offset),
+        ExportValue::Absolute(_) | ExportValue::Reexport { .. } => false,
+    }
+}
+
+/// The programs of a loader section, with the words that they relocate outside an image.
+#[derive(Clone, Copy)]
+struct Words<'c, 'a> {
+    container: &'c PartialContainer<'a>,
+    loader: &'c PartialLoader<'a>,
+}
+
+impl<'c, 'a> Rows for Words<'c, 'a> {
+    ghost use Rattle.std.specs.Option.{option_to_list};
+    ghost use Rattle.pef_views.specs.PartialViews.{partly};
+    ghost use Rattle.pef_loader.specs.PartialViews.{partly_loaded};
+    ghost use Rattle.pef_inspect.specs.Oddities.{word_note};
+
+    ghost found = { λ rows k. option_to_list (word_note (partly rows.container.now) (partly_loaded rows.loader.now) k) };
+
+    fn take_row<S: Findings>(&mut self, i: u32, sink: &mut S) -> Result<(), S::Error> {
+        take_some(word_note(self.container, self.loader, i), sink)
+    }
+}
+
+/// Returns the note on the first word that the program of relocation header `k` relocates outside an image.
+fn word_note(
+    container: &PartialContainer<'_>,
+    loader: &PartialLoader<'_>,
+    k: u32,
+) -> Option<Finding>
+    ensures { result ≡ word_note (partly container.now) (partly_loaded loader.now) k }
+{
+    let image = image_size(container, loader, k)?;
+    let run = Run::at(container, loader, k)?;
+    let (at, word) = word_outside(image, run)?;
+    Some(note_at(
+        container,
+        Note::WordOutsideImage { word },
+        Part::Program,
+        k,
+        at,
+    ))
+}
+
+/// Returns the size of the image that the program of relocation header `k` is for.
+fn image_size(container: &PartialContainer<'_>, loader: &PartialLoader<'_>, k: u32) -> Option<u32>
+    ensures { result ≡ image_size (partly container.now) (partly_loaded loader.now) k }
+{
+    let relocation = loader.relocation(k as usize)?;
+    let section = container.section(usize::from(relocation.section))?;
+    Some(section.unpacked_size)
+}
+
+/// Returns the first word that a program relocates outside an image of this size and inside its section: the offset of the
+/// instruction in the program, and that of the word in the section.
+fn word_outside(image: u32, run: Run<'_>) -> Option<(usize, u64)>
+    ensures { result ≡ word_outside image (run_seen run.entry) }
+{
+    let inner = Sizes {
+        memory: image.min(run.sizes.memory),
+        ..run.sizes
+    };
+    match verify(&run.program, inner) {
+        Err(fault) => word_inside(run.sizes.memory, fault),
+        Ok(()) => None,
+    }
+}
+
+/// Returns where a word is that is refused, if it ends inside the section's memory.
+fn word_inside(memory: u32, fault: RelocFault) -> Option<(usize, u64)>
+    ensures { result ≡ word_inside memory (Some fault) }
+{
+    match fault {
+        RelocFault::WordOutside { at, word } => {
+            if word <= u64::from(memory) && u64::from(memory) - word >= 4 {
+                Some((at, word))
+            } else {
+                None
+            }
+        }
+        _ => None,
+    }
+}

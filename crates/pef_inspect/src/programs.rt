@@ -1,0 +1,121 @@
+ghost use Rattle.std.specs.Prelude.{◌≡◌, ◌++◌, OnOk};
+ghost use Rattle.std.specs.Option.{option_copied};
+ghost use Rattle.pef_views.specs.PartialViews.{partly};
+ghost use Rattle.pef_loader.specs.PartialViews.{partly_loaded};
+ghost use Rattle.pef_inspect.specs.Errors.{headers_of, program_at, program_errors, programs_reached, programs_unverified};
+ghost use Rattle.pef_inspect.specs.Findings.{program_finding};
+
+use crate::checked::{Checked, check_within, within};
+use crate::finding::{Cause, Finding};
+use crate::note::Note;
+use crate::sink::Findings;
+use pef_format::Part;
+use pef_loader::{PartialLoader, partial_place};
+use pef_reloc::{Program, RelocFault};
+use pef_views::PartialContainer;
+
+/// How many bytes the relocation programs that are read may have together.
+pub const MAX_PROGRAM_BYTES: u64 = 0x0400_0000;
+
+/// The relocation programs of a loader section, as they are read.
+#[derive(Clone, Copy)]
+struct Programs<'c, 'a> {
+    container: &'c PartialContainer<'a>,
+    loader: &'c PartialLoader<'a>,
+}
+
+impl<'c, 'a> Checked for Programs<'c, 'a> {
+    ghost use Rattle.pef_views.specs.PartialViews.{partly};
+    ghost use Rattle.pef_loader.specs.PartialViews.{partly_loaded};
+    ghost use Rattle.pef_inspect.specs.Errors.{program_cost, program_error, programs_unverified};
+
+    ghost cost = { λ parts k. program_cost (partly_loaded parts.loader.now) k };
+
+    ghost error = { λ parts k. program_error (partly parts.container.now) (partly_loaded parts.loader.now) k };
+
+    ghost unchecked = { λ parts k. programs_unverified (partly parts.container.now) k };
+
+    fn cost(&self, i: u32) -> u64 {
+        match program(self.loader, i) {
+            Some(bytes) => bytes.len() as u64,
+            None => 0,
+        }
+    }
+
+    fn error(&self, i: u32) -> Option<Finding> {
+        let bytes = program(self.loader, i)?;
+        match Program::read(bytes) {
+            Ok(_) => None,
+            Err(fault) => Some(program_finding(self.container, i, fault)),
+        }
+    }
+
+    fn unchecked(&self, i: u32) -> Finding {
+        programs_unverified(self.container, i)
+    }
+}
+
+/// Hands the error of each relocation program that isn't readable to a sink.
+pub(crate) fn find_in_programs<S: Findings>(
+    container: &PartialContainer<'_>,
+    loader: &PartialLoader<'_>,
+    sink: &mut S,
+) -> Result<(), S::Error>
+    ensures { OnOk result (S.taken sink.new ≡ S.taken sink.old ++ program_errors (partly container.now) (partly_loaded loader.now)) }
+{
+    let parts = Programs { container, loader };
+    check_within(&parts, MAX_PROGRAM_BYTES, headers(loader), sink)
+}
+
+/// Returns how many programs are read.
+pub(crate) fn programs_within(container: &PartialContainer<'_>, loader: &PartialLoader<'_>) -> u32
+    ensures { result ≡ programs_reached (partly_loaded loader.now) }
+{
+    within(
+        &Programs { container, loader },
+        MAX_PROGRAM_BYTES,
+        headers(loader),
+    )
+}
+
+/// Returns how many relocation headers there are, or 0 if one isn't in the loader section.
+pub(crate) fn headers(loader: &PartialLoader<'_>) -> u32
+    ensures { result ≡ headers_of (partly_loaded loader.now) }
+{
+    if loader.has_relocations() {
+        loader.header().reloc_count
+    } else {
+        0
+    }
+}
+
+/// Returns the bytes of the program of relocation header `k`.
+fn program<'a>(loader: &PartialLoader<'a>, k: u32) -> Option<&'a [u8]>
+    ensures { option_copied result ≡ program_at (partly_loaded loader.now) k }
+{
+    loader.relocation(k as usize)?.program
+}
+
+/// Returns the error of the program of relocation header `k`.
+pub(crate) fn program_finding(
+    container: &PartialContainer<'_>,
+    k: u32,
+    fault: RelocFault,
+) -> Finding
+    ensures { result ≡ program_finding (partly container.now) k fault }
+{
+    Finding {
+        cause: Cause::Reloc(fault),
+        place: partial_place(container, Part::Program, k, fault.offset().unwrap_or(0)),
+    }
+}
+
+/// Returns the note that the programs from that of relocation header `k` on weren't verified.
+pub(crate) fn programs_unverified(container: &PartialContainer<'_>, k: u32) -> Finding
+    ensures { result ≡ programs_unverified (partly container.now) k }
+{
+    Finding::of_note(
+        Note::ProgramsUnverified,
+        partial_place(container, Part::Relocation, k, 0),
+    )
+}
