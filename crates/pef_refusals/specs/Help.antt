@@ -1,5 +1,5 @@
 -- What refusals mean and what to do, by their numbers (docs/ERRORS.md explains them at length).
-use Rattle.std.specs.Prelude.{◌==◌, ℕ, List, Option, None, Some, codes, if◌then◌else◌, nat_le}
+use Rattle.std.specs.Prelude.{◌==◌, ◌&&◌, ℕ, List, Option, None, Some, codes, if◌then◌else◌, nat_le}
 
 -- of a container
 unfoldable pub container_help : ℕ → Option (List ℕ)
@@ -83,7 +83,32 @@ closure_help number =
     else if number == 66 then Some (codes "Fragments have to be initialized before each other in a cycle, and this one is in it or waits for it. Remove the option before from one library of the cycle.")
     else if number == 67 then Some (codes "No address below the limit has room for the next section. Place less, or raise the limit; that of the commands is 0x10000000.")
     else if number == 68 then Some (codes "No open connection has this number. It was closed already, or belongs to another context.")
-    else if number == 69 then Some (codes "The context has given 65,536 connections, open or closed. Make a new context.")
+    else if number == 69 then Some (codes "The context has given as many connections as it may, open or closed: 65,536, if no other number was asked for. Make a new context.")
+    else if number == 70 then Some (codes "The relocation programs of the new fragments take more steps together than the context allows. Allow more, or leave this fragment out.")
+    else None
+
+-- of files of the classic Mac OS
+unfoldable pub mac_help : ℕ → Option (List ℕ)
+mac_help number =
+    if number == 80 then Some (codes "The file has no container with this name or number. Numbers begin at #0; upper and lower case of a name differ.")
+    else if number == 81 then Some (codes "The header says that it is of MacBinary II or III, and its CRC is wrong. The forks are read all the same.")
+    else if number == 82 then Some (codes "The file begins as AppleSingle or AppleDouble, and ends inside its header. The file is truncated.")
+    else if number == 83 then Some (codes "The file begins as AppleSingle or AppleDouble, and its version is neither 1 nor 2. The file is damaged.")
+    else if number == 84 then Some (codes "The table of entries passes the end of the file. The number of entries is damaged, or the file is truncated.")
+    else if number == 85 then Some (codes "An entry passes the end of the file. The file is truncated, or the entry's row is damaged; other entries can be read.")
+    else if number == 86 then Some (codes "An entry has too few bytes for its fields. The length in its row is damaged.")
+    else if number == 87 then Some (codes "The map of a resource fork passes the end of the fork. The fork is truncated, or it isn't a resource fork.")
+    else if number == 88 then Some (codes "The type list of a resource fork passes the end of the map. The fork is damaged.")
+    else if number == 89 then Some (codes "The row of a resource type passes the end of the map. The number of types is damaged, or the map is truncated.")
+    else if number == 90 then Some (codes "A resource type counts more resources than the map has bytes for. The other types can be read.")
+    else if number == 91 then Some (codes "The reference to a resource passes the end of the map. The type's count is damaged, or the map is truncated.")
+    else if number == 92 then Some (codes "The name of a resource passes the end of the map. The resource's bytes can be read all the same.")
+    else if number == 93 then Some (codes "The bytes of a resource pass the end of the fork's data. The reference or the length is damaged, or the fork is truncated.")
+    else if number == 94 then Some (codes "The resource cfrg is shorter than its header. It is truncated.")
+    else if number == 95 then Some (codes "The version of the resource cfrg isn't 1. It is damaged.")
+    else if number == 96 then Some (codes "A member of the resource cfrg passes its end, or has too small a size, so the members after it aren't found. Search the data fork for containers.")
+    else if number == 97 then Some (codes "The name of a member passes the end of the member. Its other fields can be read all the same.")
+    else if number == 98 then Some (codes "The container of a member passes the end of the data fork, or there is no data fork. The fork is truncated, or lies in another file.")
     else None
 
 -- of files, inputs and memory
@@ -93,7 +118,27 @@ port_help number =
     else if number == 72 then Some (codes "The file couldn't be written, and may be missing or hold any bytes now. Check its folder, your permissions and the space on the disk, and run the command again.")
     else if number == 73 then Some (codes "Reading the standard input failed. Check the program at the other end of the pipe, and run the command again.")
     else if number == 74 then Some (codes "The standard input has more than 536,870,912 bytes. Check what was piped in: a script isn't that long.")
+    else if number == 75 then Some (codes "The sections of the new fragments take more bytes together than the context allows. Allow more, or leave this fragment out.")
     else if number == 99 then Some (codes "An allocation failed. Give the program more memory.")
+    else None
+
+-- of notes on a container
+unfoldable pub note_help : ℕ → Option (List ℕ)
+note_help number =
+    if number == 101 then Some (codes "A reserved field isn't 0. Nothing depends on it, but the file may be damaged there.")
+    else if number == 102 then Some (codes "The format doesn't name this kind of section. Nothing is done with the section.")
+    else if number == 103 then Some (codes "The format doesn't name this way of sharing a section. There is one instance, as for every share.")
+    else if number == 104 then Some (codes "A current version is below an oldest version beside it. Clients of some version will be refused.")
+    else if number == 105 then Some (codes "An entry point is past the end of its section. Calling it would run what isn't this section's.")
+    else if number == 106 then Some (codes "An export is past the end of its section. What is imported from it isn't in this section.")
+    else if number == 107 then Some (codes "A program relocates a word past the image of its section. The word is in memory that begins as zeros.")
+    else if number == 108 then Some (codes "The hash table doesn't lead to each export, or the names are longer than all strings together. Exports are found all the same, but by going through all of them.")
+    else if number == 109 then Some (codes "Bytes follow the last part of the container. They may belong to another container, or the file is padded.")
+    else if number == 110 then Some (codes "The relocation programs from this one on ask for too many steps together, and weren't verified. The file may be crafted to hang a loader.")
+    else if number == 111 then Some (codes "The packed data from this section on is too long together, and wasn't verified. The file may be crafted to hang a loader.")
+    else if number == 112 then Some (codes "A section has bytes that an earlier part has, too. An offset or a size may be damaged.")
+    else if number == 113 then Some (codes "Bytes between two parts belong to none. An offset or a size may be damaged.")
+    else if number == 114 then Some (codes "An address is added to a word to which one was added already.")
     else None
 
 -- all of them
@@ -105,4 +150,6 @@ help_of number =
     else if nat_le number 40 then relocation_help number
     else if nat_le number 50 then script_help number
     else if nat_le number 70 then closure_help number
-    else port_help number
+    else if nat_le 80 number && nat_le number 98 then mac_help number
+    else if nat_le number 100 then port_help number
+    else note_help number

@@ -1,5 +1,5 @@
 -- Names of refusals, by their numbers (docs/ERRORS.md).
-use Rattle.std.specs.Prelude.{◌==◌, ℕ, List, Option, None, Some, codes, if◌then◌else◌, nat_le}
+use Rattle.std.specs.Prelude.{◌==◌, ◌&&◌, ℕ, List, Option, None, Some, codes, if◌then◌else◌, nat_le}
 
 -- of a container
 unfoldable pub container_name : ℕ → Option (List ℕ)
@@ -84,6 +84,31 @@ closure_name number =
     else if number == 67 then Some (codes "NoRoom")
     else if number == 68 then Some (codes "BadConnection")
     else if number == 69 then Some (codes "TooManyConnections")
+    else if number == 70 then Some (codes "TooManyStepsInAll")
+    else None
+
+-- of files of the classic Mac OS
+unfoldable pub mac_name : ℕ → Option (List ℕ)
+mac_name number =
+    if number == 80 then Some (codes "NoContainer")
+    else if number == 81 then Some (codes "BadMacBinaryCrc")
+    else if number == 82 then Some (codes "AppleHeaderCut")
+    else if number == 83 then Some (codes "BadAppleVersion")
+    else if number == 84 then Some (codes "AppleEntryCut")
+    else if number == 85 then Some (codes "AppleEntryOutside")
+    else if number == 86 then Some (codes "AppleEntryShort")
+    else if number == 87 then Some (codes "ResourceMapOutside")
+    else if number == 88 then Some (codes "BadTypeList")
+    else if number == 89 then Some (codes "ResourceTypeCut")
+    else if number == 90 then Some (codes "TooManyReferences")
+    else if number == 91 then Some (codes "ReferenceCut")
+    else if number == 92 then Some (codes "ResourceNameCut")
+    else if number == 93 then Some (codes "ResourceDataOutside")
+    else if number == 94 then Some (codes "FragmentTableCut")
+    else if number == 95 then Some (codes "BadFragmentTable")
+    else if number == 96 then Some (codes "MemberCut")
+    else if number == 97 then Some (codes "MemberNameCut")
+    else if number == 98 then Some (codes "FragmentOutside")
     else None
 
 -- of files, inputs and memory
@@ -93,7 +118,27 @@ port_name number =
     else if number == 72 then Some (codes "FileUnwritable")
     else if number == 73 then Some (codes "InputUnreadable")
     else if number == 74 then Some (codes "InputTooLong")
+    else if number == 75 then Some (codes "TooManyBytes")
     else if number == 99 then Some (codes "OutOfMemory")
+    else None
+
+-- of notes on a container
+unfoldable pub note_name : ℕ → Option (List ℕ)
+note_name number =
+    if number == 101 then Some (codes "ReservedNotZero")
+    else if number == 102 then Some (codes "UnknownKind")
+    else if number == 103 then Some (codes "UnknownShare")
+    else if number == 104 then Some (codes "VersionBelowOldest")
+    else if number == 105 then Some (codes "EntryOutside")
+    else if number == 106 then Some (codes "ExportOutside")
+    else if number == 107 then Some (codes "WordOutsideImage")
+    else if number == 108 then Some (codes "IrregularExports")
+    else if number == 109 then Some (codes "TrailingBytes")
+    else if number == 110 then Some (codes "ProgramsUnverified")
+    else if number == 111 then Some (codes "ImagesUnverified")
+    else if number == 112 then Some (codes "Overlap")
+    else if number == 113 then Some (codes "UnownedBytes")
+    else if number == 114 then Some (codes "WordRelocatedTwice")
     else None
 
 -- all of them
@@ -105,4 +150,6 @@ name_of number =
     else if nat_le number 40 then relocation_name number
     else if nat_le number 50 then script_name number
     else if nat_le number 70 then closure_name number
-    else port_name number
+    else if nat_le 80 number && nat_le number 98 then mac_name number
+    else if nat_le number 100 then port_name number
+    else note_name number

@@ -1,6 +1,6 @@
 //! What refusals mean, and what to do.
 ghost use Rattle.std.specs.Prelude.{◌≡◌, option_map};
-ghost use Rattle.pef_refusals.specs.Help.{closure_help, container_help, help_of, loader_help, packed_help, port_help, relocation_help, script_help};
+ghost use Rattle.pef_refusals.specs.Help.{closure_help, container_help, help_of, loader_help, mac_help, note_help, packed_help, port_help, relocation_help, script_help};
 
 /// Returns one or two sentences on the refusal with this number, if there is one: what it means, and what to do.
 pub fn help(number: u32) -> Option<&'static str>
@@ -13,7 +13,9 @@ pub fn help(number: u32) -> Option<&'static str>
         31..=40 => relocation_help(number),
         41..=50 => script_help(number),
         51..=70 => closure_help(number),
-        _ => port_help(number),
+        80..=98 => mac_help(number),
+        71..=100 => port_help(number),
+        _ => note_help(number),
     }
 }
 
@@ -219,7 +221,73 @@ fn closure_help(number: u32) -> Option<&'static str>
         68 => Some(
             "No open connection has this number. It was closed already, or belongs to another context.",
         ),
-        69 => Some("The context has given 65,536 connections, open or closed. Make a new context."),
+        69 => Some(
+            "The context has given as many connections as it may, open or closed: 65,536, if no other number was asked for. Make a new context.",
+        ),
+        70 => Some(
+            "The relocation programs of the new fragments take more steps together than the context allows. Allow more, or leave this fragment out.",
+        ),
+        _ => None,
+    }
+}
+
+/// Returns the help of files of the classic Mac OS.
+#[tactic(auto, unfolding(crate::specs::Help::mac_help))]
+fn mac_help(number: u32) -> Option<&'static str>
+    ensures { option_map (λ text. text.now) result ≡ mac_help number }
+{
+    match number {
+        80 => Some(
+            "The file has no container with this name or number. Numbers begin at #0; upper and lower case of a name differ.",
+        ),
+        81 => Some(
+            "The header says that it is of MacBinary II or III, and its CRC is wrong. The forks are read all the same.",
+        ),
+        82 => Some(
+            "The file begins as AppleSingle or AppleDouble, and ends inside its header. The file is truncated.",
+        ),
+        83 => Some(
+            "The file begins as AppleSingle or AppleDouble, and its version is neither 1 nor 2. The file is damaged.",
+        ),
+        84 => Some(
+            "The table of entries passes the end of the file. The number of entries is damaged, or the file is truncated.",
+        ),
+        85 => Some(
+            "An entry passes the end of the file. The file is truncated, or the entry's row is damaged; other entries can be read.",
+        ),
+        86 => Some("An entry has too few bytes for its fields. The length in its row is damaged."),
+        87 => Some(
+            "The map of a resource fork passes the end of the fork. The fork is truncated, or it isn't a resource fork.",
+        ),
+        88 => Some(
+            "The type list of a resource fork passes the end of the map. The fork is damaged.",
+        ),
+        89 => Some(
+            "The row of a resource type passes the end of the map. The number of types is damaged, or the map is truncated.",
+        ),
+        90 => Some(
+            "A resource type counts more resources than the map has bytes for. The other types can be read.",
+        ),
+        91 => Some(
+            "The reference to a resource passes the end of the map. The type's count is damaged, or the map is truncated.",
+        ),
+        92 => Some(
+            "The name of a resource passes the end of the map. The resource's bytes can be read all the same.",
+        ),
+        93 => Some(
+            "The bytes of a resource pass the end of the fork's data. The reference or the length is damaged, or the fork is truncated.",
+        ),
+        94 => Some("The resource cfrg is shorter than its header. It is truncated."),
+        95 => Some("The version of the resource cfrg isn't 1. It is damaged."),
+        96 => Some(
+            "A member of the resource cfrg passes its end, or has too small a size, so the members after it aren't found. Search the data fork for containers.",
+        ),
+        97 => Some(
+            "The name of a member passes the end of the member. Its other fields can be read all the same.",
+        ),
+        98 => Some(
+            "The container of a member passes the end of the data fork, or there is no data fork. The fork is truncated, or lies in another file.",
+        ),
         _ => None,
     }
 }
@@ -242,7 +310,58 @@ fn port_help(number: u32) -> Option<&'static str>
         74 => Some(
             "The standard input has more than 536,870,912 bytes. Check what was piped in: a script isn't that long.",
         ),
+        75 => Some(
+            "The sections of the new fragments take more bytes together than the context allows. Allow more, or leave this fragment out.",
+        ),
         99 => Some("An allocation failed. Give the program more memory."),
+        _ => None,
+    }
+}
+
+/// Returns the help of notes on a container.
+#[tactic(auto, unfolding(crate::specs::Help::note_help))]
+fn note_help(number: u32) -> Option<&'static str>
+    ensures { option_map (λ text. text.now) result ≡ note_help number }
+{
+    match number {
+        101 => Some(
+            "A reserved field isn't 0. Nothing depends on it, but the file may be damaged there.",
+        ),
+        102 => Some(
+            "The format doesn't name this kind of section. Nothing is done with the section.",
+        ),
+        103 => Some(
+            "The format doesn't name this way of sharing a section. There is one instance, as for every share.",
+        ),
+        104 => Some(
+            "A current version is below an oldest version beside it. Clients of some version will be refused.",
+        ),
+        105 => Some(
+            "An entry point is past the end of its section. Calling it would run what isn't this section's.",
+        ),
+        106 => Some(
+            "An export is past the end of its section. What is imported from it isn't in this section.",
+        ),
+        107 => Some(
+            "A program relocates a word past the image of its section. The word is in memory that begins as zeros.",
+        ),
+        108 => Some(
+            "The hash table doesn't lead to each export, or the names are longer than all strings together. Exports are found all the same, but by going through all of them.",
+        ),
+        109 => Some(
+            "Bytes follow the last part of the container. They may belong to another container, or the file is padded.",
+        ),
+        110 => Some(
+            "The relocation programs from this one on ask for too many steps together, and weren't verified. The file may be crafted to hang a loader.",
+        ),
+        111 => Some(
+            "The packed data from this section on is too long together, and wasn't verified. The file may be crafted to hang a loader.",
+        ),
+        112 => Some(
+            "A section has bytes that an earlier part has, too. An offset or a size may be damaged.",
+        ),
+        113 => Some("Bytes between two parts belong to none. An offset or a size may be damaged."),
+        114 => Some("An address is added to a word to which one was added already."),
         _ => None,
     }
 }

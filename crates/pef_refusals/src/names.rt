@@ -1,6 +1,6 @@
 //! Names of refusals.
 ghost use Rattle.std.specs.Prelude.{◌≡◌, option_map};
-ghost use Rattle.pef_refusals.specs.Names.{closure_name, container_name, loader_name, name_of, packed_name, port_name, relocation_name, script_name};
+ghost use Rattle.pef_refusals.specs.Names.{closure_name, container_name, loader_name, mac_name, name_of, note_name, packed_name, port_name, relocation_name, script_name};
 
 /// Returns the name of the refusal with this number, if there is one.
 pub fn name(number: u32) -> Option<&'static str>
@@ -13,7 +13,9 @@ pub fn name(number: u32) -> Option<&'static str>
         31..=40 => relocation_name(number),
         41..=50 => script_name(number),
         51..=70 => closure_name(number),
-        _ => port_name(number),
+        80..=98 => mac_name(number),
+        71..=100 => port_name(number),
+        _ => note_name(number),
     }
 }
 
@@ -128,6 +130,36 @@ fn closure_name(number: u32) -> Option<&'static str>
         67 => Some("NoRoom"),
         68 => Some("BadConnection"),
         69 => Some("TooManyConnections"),
+        70 => Some("TooManyStepsInAll"),
+        _ => None,
+    }
+}
+
+/// Returns the names of files of the classic Mac OS.
+#[tactic(auto, unfolding(crate::specs::Names::mac_name))]
+fn mac_name(number: u32) -> Option<&'static str>
+    ensures { option_map (λ text. text.now) result ≡ mac_name number }
+{
+    match number {
+        80 => Some("NoContainer"),
+        81 => Some("BadMacBinaryCrc"),
+        82 => Some("AppleHeaderCut"),
+        83 => Some("BadAppleVersion"),
+        84 => Some("AppleEntryCut"),
+        85 => Some("AppleEntryOutside"),
+        86 => Some("AppleEntryShort"),
+        87 => Some("ResourceMapOutside"),
+        88 => Some("BadTypeList"),
+        89 => Some("ResourceTypeCut"),
+        90 => Some("TooManyReferences"),
+        91 => Some("ReferenceCut"),
+        92 => Some("ResourceNameCut"),
+        93 => Some("ResourceDataOutside"),
+        94 => Some("FragmentTableCut"),
+        95 => Some("BadFragmentTable"),
+        96 => Some("MemberCut"),
+        97 => Some("MemberNameCut"),
+        98 => Some("FragmentOutside"),
         _ => None,
     }
 }
@@ -142,7 +174,32 @@ fn port_name(number: u32) -> Option<&'static str>
         72 => Some("FileUnwritable"),
         73 => Some("InputUnreadable"),
         74 => Some("InputTooLong"),
+        75 => Some("TooManyBytes"),
         99 => Some("OutOfMemory"),
+        _ => None,
+    }
+}
+
+/// Returns the names of notes on a container.
+#[tactic(auto, unfolding(crate::specs::Names::note_name))]
+fn note_name(number: u32) -> Option<&'static str>
+    ensures { option_map (λ text. text.now) result ≡ note_name number }
+{
+    match number {
+        101 => Some("ReservedNotZero"),
+        102 => Some("UnknownKind"),
+        103 => Some("UnknownShare"),
+        104 => Some("VersionBelowOldest"),
+        105 => Some("EntryOutside"),
+        106 => Some("ExportOutside"),
+        107 => Some("WordOutsideImage"),
+        108 => Some("IrregularExports"),
+        109 => Some("TrailingBytes"),
+        110 => Some("ProgramsUnverified"),
+        111 => Some("ImagesUnverified"),
+        112 => Some("Overlap"),
+        113 => Some("UnownedBytes"),
+        114 => Some("WordRelocatedTwice"),
         _ => None,
     }
 }
