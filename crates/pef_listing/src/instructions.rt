@@ -1,4 +1,4 @@
-ghost use Rattle.std.specs.Prelude.{◌≡◌, [], ◌∷◌, true};
+ghost use Rattle.std.specs.Prelude.{◌≡◌, [], ◌∷◌, None, Some, true};
 ghost use Rattle.std.specs.Option.{option_to_list};
 ghost use Rattle.pef_reloc.specs.Instrs.{instr_fits};
 ghost use Rattle.pef_reloc.specs.Unrolled.{instrs_of};
@@ -26,7 +26,7 @@ pub fn print_program<W: Sink>(
 
 /// Prints the line of an instruction.
 #[tactic(auto, unfolding(crate::specs::Instructions::instr_text))]
-fn print_instr<W: Sink>(out: &mut W, page: &mut Page, instr: Instr) -> Result<(), StreamFault>
+pub fn print_instr<W: Sink>(out: &mut W, page: &mut Page, instr: Instr) -> Result<(), StreamFault>
     requires { instr_fits instr ≡ true }
     ensures { Sends result (W.stream out.old) (W.stream out.new) page.old.items page.new.items (instr_text instr) }
 {
@@ -51,23 +51,44 @@ fn print_halfwords<W: Sink>(
     }
 }
 
-/// Prints the numbers of an instruction, by their meanings.
-fn print_numbers<W: Sink>(out: &mut W, page: &mut Page, instr: Instr) -> Result<(), StreamFault>
-    ensures { Sends result (W.stream out.old) (W.stream out.new) page.old.items page.new.items (numbers_text (numbers_of instr)) }
+/// The numbers of an instruction.
+#[derive(Clone, Copy, Debug, PartialEq, Eq)]
+pub struct InstrNumbers {
+    pub first: u32,
+    pub second: Option<u32>,
+}
+
+impl InstrNumbers {
+    /// Returns the only number of an instruction.
+    fn one(first: u32) -> InstrNumbers
+        ensures { result ≡ record { first = first; second = None } }
+    {
+        InstrNumbers {
+            first,
+            second: None,
+        }
+    }
+
+    /// Returns the two numbers of an instruction.
+    fn two(first: u32, second: u32) -> InstrNumbers
+        ensures { result ≡ record { first = first; second = Some second } }
+    {
+        InstrNumbers {
+            first,
+            second: Some(second),
+        }
+    }
+}
+
+/// Returns the numbers of an instruction, by their meanings.
+pub fn instr_numbers(instr: Instr) -> InstrNumbers
+    ensures { result.first ∷ option_to_list result.second ≡ numbers_of instr }
 {
     match instr {
-        Instr::BySectDWithSkip {
-            skip: first,
-            count: second,
+        Instr::BySectDWithSkip { skip, count } => InstrNumbers::two(skip, count),
+        Instr::SmRepeat { blocks, count } | Instr::LgRepeat { blocks, count } => {
+            InstrNumbers::two(blocks, count)
         }
-        | Instr::SmRepeat {
-            blocks: first,
-            count: second,
-        }
-        | Instr::LgRepeat {
-            blocks: first,
-            count: second,
-        } => print_two(out, page, first, second),
         Instr::BySectC(n)
         | Instr::BySectD(n)
         | Instr::TVector12(n)
@@ -83,7 +104,18 @@ fn print_numbers<W: Sink>(out: &mut W, page: &mut Page, instr: Instr) -> Result<
         | Instr::LgByImport(n)
         | Instr::LgBySection(n)
         | Instr::LgSetSectC(n)
-        | Instr::LgSetSectD(n) => print_one(out, page, n),
+        | Instr::LgSetSectD(n) => InstrNumbers::one(n),
+    }
+}
+
+/// Prints the numbers of an instruction.
+fn print_numbers<W: Sink>(out: &mut W, page: &mut Page, instr: Instr) -> Result<(), StreamFault>
+    ensures { Sends result (W.stream out.old) (W.stream out.new) page.old.items page.new.items (numbers_text (numbers_of instr)) }
+{
+    let numbers = instr_numbers(instr);
+    match numbers.second {
+        None => print_one(out, page, numbers.first),
+        Some(second) => print_two(out, page, numbers.first, second),
     }
 }
 
@@ -112,7 +144,7 @@ fn print_two<W: Sink>(
 }
 
 /// Returns the name of an instruction's kind.
-fn kind_name(instr: Instr) -> &'static [u8]
+pub fn kind_name(instr: Instr) -> &'static [u8]
     ensures { result.now ≡ kind_name instr }
 {
     match instr {

@@ -11,4 +11,5 @@ mod lines;
 mod listing;
 
 pub use fault::ListFault;
+pub use instructions::{InstrNumbers, instr_numbers, kind_name, print_instr};
 pub use listing::Listing;

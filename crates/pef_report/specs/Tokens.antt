@@ -1,0 +1,73 @@
+-- A line or a JSON text as its tokens.
+use Rattle.std.specs.Prelude.{ℕ, ◌/◌, ◌%◌, ◌^◌, ◌==◌, List, [], ◌∷◌, ◌++◌, Option, None, Some, codes, decimal, nat_lt, if◌then◌else◌}
+use Rattle.std.specs.Option.{option_copied}
+use Rattle.byteorder.specs.Endian.{big_bytes}
+use Rattle.pef_ports.specs.Names.{byte_text, name_text}
+use Rattle.pef_ports.specs.Text.{hex_text, word_text}
+use Rattle.pef_report.specs.declared.tokens.Token.{Token}
+use Rattle.pef_report.specs.declared.tokens.Token.TheVariants.{Text, Number, Word, Halfword, Byte, Name, Path, At, Version, Date, Tag, Octets, Member}
+use Rattle.pef_report.specs.Dates.{date_text}
+use Rattle.pef_report.specs.Strings.{is_ascii, string_text}
+use Rattle.pef_report.specs.Versions.{version_text}
+
+-- an offset in a file: eight hex digits, or sixteen past 4 gigabytes
+unfoldable pub at_text : ℕ → List ℕ
+at_text n = if nat_lt n (2 ^ 32) then word_text n else word_text (n / 2 ^ 32) ++ word_text (n % 2 ^ 32)
+
+-- a byte of a path inside a JSON string
+unfoldable pub path_byte : ℕ → List ℕ
+path_byte b = if b == 34 then codes "\\\"" else if b == 92 then codes "\\\\" else byte_text b
+
+-- a path inside a JSON string, with the bytes escaped as in other output
+abbrev pub path_text : List ℕ → List ℕ
+path_text [] = []
+path_text (b ∷ path) = path_byte b ++ path_text path
+
+-- the four characters of a number, inside a JSON string
+unfoldable pub tag_text : ℕ → List ℕ
+tag_text n = string_text (big_bytes 4 n)
+
+-- the bytes of a name in hex digits, after the end of a string
+unfoldable pub hex_bytes : List ℕ → List ℕ → List ℕ
+hex_bytes key name = (codes "\",\"" ++ key ++ codes "_hex\":\"") ++ hex_text name
+
+-- if it isn't ASCII
+unfoldable pub hex_member : List ℕ → List ℕ → List ℕ
+hex_member key name = if is_ascii name then [] else hex_bytes key name
+
+-- a name as a member of a JSON object
+unfoldable pub name_member : List ℕ → List ℕ → List ℕ
+name_member key name = (codes "\"" ++ key ++ codes "\":\"") ++ (string_text name ++ (hex_member key name ++ codes "\""))
+
+-- a member of a JSON object: a name, or `null`
+abbrev pub member_text : List ℕ → Option (List ℕ) → List ℕ
+member_text key None = codes "\"" ++ key ++ codes "\":null"
+member_text key (Some name) = name_member key name
+
+-- a token as it is printed: text unchanged, a number in decimal, numbers of 32, 16 and 8 bits in hex digits, a name with
+-- the bytes escaped that could break a line, a path inside a JSON string, an offset in a file, a version, a date,
+-- four characters, bytes in hex digits, and a member of a JSON object
+abbrev pub token_text : Token → List ℕ
+token_text (Text text) = text.now
+token_text (Number n) = decimal n
+token_text (Word n) = word_text n
+token_text (Halfword n) = hex_text (big_bytes 2 n)
+token_text (Byte n) = hex_text (n ∷ [])
+token_text (Name name) = name_text name.now
+token_text (Path path) = path_text path.now
+token_text (At n) = at_text n
+token_text (Version n) = version_text n
+token_text (Date n) = date_text n
+token_text (Tag n) = tag_text n
+token_text (Octets bytes) = hex_text bytes.now
+token_text (Member key name) = member_text key.now (option_copied name)
+
+-- tokens after a text
+abbrev pub tokens_after : List ℕ → List Token → List ℕ
+tokens_after text [] = text
+tokens_after text (token ∷ tokens) = tokens_after (text ++ token_text token) tokens
+
+-- the tokens one after the other
+abbrev pub tokens_text : List Token → List ℕ
+tokens_text [] = []
+tokens_text (token ∷ tokens) = tokens_after (token_text token) tokens

@@ -1,0 +1,32 @@
+//! What is printed of a file, of the rows of a container, and of errors and notes: lines of text, and JSON.
+#![tactic(auto)]
+
+mod dates;
+mod finding;
+mod frames;
+mod lines;
+mod objects;
+mod optional;
+mod rows;
+mod strings;
+mod tokens;
+mod versions;
+
+pub use finding::{print_finding, print_finding_object};
+pub use frames::{
+    Counts, print_counts, print_error_end, print_file_error, print_file_line, print_file_object,
+    print_unread_line, print_unread_object,
+};
+pub use lines::{
+    print_entry, print_export, print_header, print_import, print_library, print_loader,
+    print_relocation, print_section,
+};
+pub use objects::{
+    print_entry_object, print_export_object, print_header_object, print_import_object,
+    print_library_object, print_loader_object, print_relocation_object, print_section_object,
+};
+pub use rows::{
+    Detail, EntryRow, ExportRow, FindingRow, HeaderRow, ImportRow, LibraryRow, LoaderRow,
+    RelocationRow, SectionRow,
+};
+pub use tokens::{Token, print_tokens};

@@ -1,0 +1,295 @@
+//! The lines of the rows. The words of a line of a listing come first, after the offset.
+ghost use Rattle.std.specs.Prelude.{◌≡◌};
+ghost use Rattle.std.specs.Option.{option_copied};
+ghost use Rattle.pef_ports.specs.Sent.{Sends};
+ghost use Rattle.pef_listing.specs.Listing.{section_name_text};
+ghost use Rattle.pef_report.specs.Tokens.{token_text};
+ghost use Rattle.pef_report.specs.Lines.{name_or_mark, entry_line, export_line, header_line, import_line, library_line, loader_line, relocation_line, section_line};
+
+use crate::optional::{is_none_entry, magnitude, sign};
+use crate::rows::{
+    EntryRow, ExportRow, HeaderRow, ImportRow, LibraryRow, LoaderRow, RelocationRow, SectionRow,
+};
+use crate::tokens::{Token, print_tokens};
+use pef_ports::{Page, Sink, StreamFault};
+
+/// Prints the line of a container's header.
+#[tactic(auto, unfolding(crate::specs::Lines::header_line))]
+pub fn print_header<W: Sink>(
+    out: &mut W,
+    page: &mut Page,
+    row: HeaderRow,
+) -> Result<(), StreamFault>
+    ensures { Sends result (W.stream out.old) (W.stream out.new) page.old.items page.new.items (header_line row.at row.header) }
+{
+    let header = row.header;
+    print_tokens(
+        out,
+        page,
+        &[
+            Token::At(row.at),
+            Token::Text(b" container current "),
+            Token::Number(u64::from(header.current_version)),
+            Token::Text(b" olddef "),
+            Token::Number(u64::from(header.old_def_version)),
+            Token::Text(b" oldimp "),
+            Token::Number(u64::from(header.old_imp_version)),
+            Token::Text(b" date "),
+            Token::Number(u64::from(header.date_time_stamp)),
+            Token::Text(b" versions "),
+            Token::Version(header.current_version),
+            Token::Text(b" "),
+            Token::Version(header.old_def_version),
+            Token::Text(b" "),
+            Token::Version(header.old_imp_version),
+            Token::Text(b" time "),
+            Token::Date(header.date_time_stamp),
+            Token::Text(b" sections "),
+            Token::Number(u64::from(header.section_count)),
+            Token::Text(b" instantiated "),
+            Token::Number(u64::from(header.instantiated_section_count)),
+            Token::Text(b"\n"),
+        ],
+    )
+}
+
+/// Prints the line of a section.
+#[tactic(auto, unfolding(crate::specs::Lines::section_line))]
+pub fn print_section<W: Sink>(
+    out: &mut W,
+    page: &mut Page,
+    row: SectionRow<'_>,
+) -> Result<(), StreamFault>
+    ensures { Sends result (W.stream out.old) (W.stream out.new) page.old.items page.new.items (section_line row.entry.at row.entry.number row.entry.header (option_copied row.entry.name) row.entry.raw) }
+{
+    let header = row.header;
+    print_tokens(
+        out,
+        page,
+        &[
+            Token::At(row.at),
+            Token::Text(b" section "),
+            Token::Number(row.number),
+            Token::Text(b" kind "),
+            Token::Number(u64::from(header.section_kind)),
+            Token::Text(b" share "),
+            Token::Number(u64::from(header.share_kind)),
+            Token::Text(b" align "),
+            Token::Number(u64::from(header.alignment)),
+            Token::Text(b" total "),
+            Token::Number(u64::from(header.total_size)),
+            Token::Text(b" unpacked "),
+            Token::Number(u64::from(header.unpacked_size)),
+            Token::Text(b" packed "),
+            Token::Number(u64::from(header.packed_size)),
+            Token::Text(b" default "),
+            Token::Word(header.default_address),
+            Token::Text(b" name "),
+            section_name(row.name),
+            Token::Text(b" raw "),
+            Token::At(row.raw),
+            Token::Text(b"\n"),
+        ],
+    )
+}
+
+/// Returns a section's name as it is listed.
+#[tactic(auto, unfolding(pef_listing::specs::Listing::section_name_text))]
+fn section_name<'a>(name: Option<&'a [u8]>) -> Token<'a>
+    ensures { token_text result ≡ section_name_text (option_copied name.entry) }
+{
+    match name {
+        None => Token::Text(b"-"),
+        Some(name) if name == b"-".as_slice() => Token::Text(b"%2D"),
+        Some(name) => Token::Name(name),
+    }
+}
+
+/// Prints the line of a loader header.
+#[tactic(auto, unfolding(crate::specs::Lines::loader_line))]
+pub fn print_loader<W: Sink>(
+    out: &mut W,
+    page: &mut Page,
+    row: LoaderRow,
+) -> Result<(), StreamFault>
+    ensures { Sends result (W.stream out.old) (W.stream out.new) page.old.items page.new.items (loader_line row.at row.header) }
+{
+    let header = row.header;
+    print_tokens(
+        out,
+        page,
+        &[
+            Token::At(row.at),
+            Token::Text(b" loader libraries "),
+            Token::Number(u64::from(header.library_count)),
+            Token::Text(b" imports "),
+            Token::Number(u64::from(header.import_count)),
+            Token::Text(b" relocs "),
+            Token::Number(u64::from(header.reloc_count)),
+            Token::Text(b" programs "),
+            Token::Word(header.reloc_instr_offset),
+            Token::Text(b" strings "),
+            Token::Word(header.strings_offset),
+            Token::Text(b" hash "),
+            Token::Word(header.export_hash_offset),
+            Token::Text(b" power "),
+            Token::Number(u64::from(header.export_power)),
+            Token::Text(b" exports "),
+            Token::Number(u64::from(header.export_count)),
+            Token::Text(b"\n"),
+        ],
+    )
+}
+
+/// Prints the line of an imported library.
+#[tactic(auto, unfolding(crate::specs::Lines::library_line))]
+pub fn print_library<W: Sink>(
+    out: &mut W,
+    page: &mut Page,
+    row: LibraryRow<'_>,
+) -> Result<(), StreamFault>
+    ensures { Sends result (W.stream out.old) (W.stream out.new) page.old.items page.new.items (library_line row.entry.at (option_copied row.entry.name) row.entry.current row.entry.old_imp row.entry.options row.entry.count row.entry.first) }
+{
+    print_tokens(
+        out,
+        page,
+        &[
+            Token::At(row.at),
+            Token::Text(b" library "),
+            name_or_mark(row.name),
+            Token::Text(b" current "),
+            Token::Number(u64::from(row.current)),
+            Token::Text(b" oldimp "),
+            Token::Number(u64::from(row.old_imp)),
+            Token::Text(b" options "),
+            Token::Byte(row.options),
+            Token::Text(b" versions "),
+            Token::Version(row.current),
+            Token::Text(b" "),
+            Token::Version(row.old_imp),
+            Token::Text(b" imports "),
+            Token::Number(u64::from(row.count)),
+            Token::Text(b" from "),
+            Token::Number(u64::from(row.first)),
+            Token::Text(b"\n"),
+        ],
+    )
+}
+
+/// Prints the line of an imported symbol.
+#[tactic(auto, unfolding(crate::specs::Lines::import_line))]
+pub fn print_import<W: Sink>(
+    out: &mut W,
+    page: &mut Page,
+    row: ImportRow<'_>,
+) -> Result<(), StreamFault>
+    ensures { Sends result (W.stream out.old) (W.stream out.new) page.old.items page.new.items (import_line row.entry.at row.entry.number (option_copied row.entry.name) (option_copied row.entry.library_name) row.entry.class row.entry.weak) }
+{
+    print_tokens(
+        out,
+        page,
+        &[
+            Token::At(row.at),
+            Token::Text(b" import "),
+            Token::Number(row.number),
+            Token::Text(b" "),
+            name_or_mark(row.name),
+            Token::Text(b" of "),
+            name_or_mark(row.library_name),
+            Token::Text(b" class "),
+            Token::Number(u64::from(row.class)),
+            Token::Text(if row.weak { b" weak\n" } else { b" strong\n" }),
+        ],
+    )
+}
+
+/// Prints the line of an entry point, if the section isn't -1.
+#[tactic(auto, unfolding(crate::specs::Lines::entry_line))]
+pub fn print_entry<W: Sink>(
+    out: &mut W,
+    page: &mut Page,
+    label: &[u8],
+    row: EntryRow,
+) -> Result<(), StreamFault>
+    ensures { Sends result (W.stream out.old) (W.stream out.new) page.old.items page.new.items (entry_line label.now row.at row.section row.offset) }
+{
+    if is_none_entry(row.section) {
+        return Ok(());
+    }
+    print_tokens(
+        out,
+        page,
+        &[
+            Token::At(row.at),
+            Token::Text(label),
+            sign(row.section),
+            magnitude(row.section),
+            Token::Text(b" "),
+            Token::Word(row.offset),
+            Token::Text(b"\n"),
+        ],
+    )
+}
+
+/// Prints the line of a relocation header.
+#[tactic(auto, unfolding(crate::specs::Lines::relocation_line))]
+pub fn print_relocation<W: Sink>(
+    out: &mut W,
+    page: &mut Page,
+    row: RelocationRow,
+) -> Result<(), StreamFault>
+    ensures { Sends result (W.stream out.old) (W.stream out.new) page.old.items page.new.items (relocation_line row.at row.section row.count row.first) }
+{
+    print_tokens(
+        out,
+        page,
+        &[
+            Token::At(row.at),
+            Token::Text(b" reloc section "),
+            Token::Number(u64::from(row.section)),
+            Token::Text(b" halfwords "),
+            Token::Number(u64::from(row.count)),
+            Token::Text(b" first "),
+            Token::Number(u64::from(row.first)),
+            Token::Text(b"\n"),
+        ],
+    )
+}
+
+/// Prints the line of an exported symbol.
+#[tactic(auto, unfolding(crate::specs::Lines::export_line))]
+pub fn print_export<W: Sink>(
+    out: &mut W,
+    page: &mut Page,
+    row: ExportRow<'_>,
+) -> Result<(), StreamFault>
+    ensures { Sends result (W.stream out.old) (W.stream out.new) page.old.items page.new.items (export_line row.entry.at (option_copied row.entry.name) row.entry.class row.entry.section row.entry.value) }
+{
+    print_tokens(
+        out,
+        page,
+        &[
+            Token::At(row.at),
+            Token::Text(b" export "),
+            name_or_mark(row.name),
+            Token::Text(b" class "),
+            Token::Number(u64::from(row.class)),
+            Token::Text(b" section "),
+            sign(row.section),
+            magnitude(row.section),
+            Token::Text(b" value "),
+            Token::Word(row.value),
+            Token::Text(b"\n"),
+        ],
+    )
+}
+
+/// Returns a name, or `?` for one that can't be read.
+fn name_or_mark<'a>(name: Option<&'a [u8]>) -> Token<'a>
+    ensures { token_text result ≡ name_or_mark (option_copied name.entry) }
+{
+    match name {
+        Some(name) => Token::Name(name),
+        None => Token::Text(b"?"),
+    }
+}

@@ -1,0 +1,104 @@
+//! The rows of a container as they are printed. `at` is the offset in the file of each.
+use pef_format::Place;
+use pef_loader::LoaderHeader;
+use pef_views::{Header, SectionHeader};
+
+/// A container's header.
+#[derive(Clone, Copy)]
+pub struct HeaderRow {
+    pub at: u64,
+    pub header: Header,
+}
+
+/// A section.
+#[derive(Clone, Copy)]
+pub struct SectionRow<'a> {
+    /// The offset of its header.
+    pub at: u64,
+    pub number: u64,
+    pub header: SectionHeader,
+    pub name: Option<&'a [u8]>,
+    /// The offset in the file of its raw bytes.
+    pub raw: u64,
+}
+
+/// A loader header.
+#[derive(Clone, Copy)]
+pub struct LoaderRow {
+    pub at: u64,
+    pub header: LoaderHeader,
+}
+
+/// An imported library.
+#[derive(Clone, Copy)]
+pub struct LibraryRow<'a> {
+    pub at: u64,
+    pub name: Option<&'a [u8]>,
+    pub current: u32,
+    pub old_imp: u32,
+    pub options: u8,
+    pub count: u32,
+    pub first: u32,
+}
+
+/// An imported symbol.
+#[derive(Clone, Copy)]
+pub struct ImportRow<'a> {
+    pub at: u64,
+    pub number: u64,
+    pub name: Option<&'a [u8]>,
+    pub class: u8,
+    pub weak: bool,
+    /// The number of its library, and the library's name.
+    pub library: Option<u64>,
+    pub library_name: Option<&'a [u8]>,
+}
+
+/// An entry point.
+#[derive(Clone, Copy)]
+pub struct EntryRow {
+    pub at: u64,
+    pub section: i32,
+    pub offset: u32,
+}
+
+/// A relocation header.
+#[derive(Clone, Copy)]
+pub struct RelocationRow {
+    pub at: u64,
+    pub section: u16,
+    pub count: u32,
+    pub first: u32,
+}
+
+/// An exported symbol.
+#[derive(Clone, Copy)]
+pub struct ExportRow<'a> {
+    pub at: u64,
+    pub name: Option<&'a [u8]>,
+    pub class: u8,
+    pub section: i32,
+    pub value: u32,
+}
+
+/// An error or a note.
+#[derive(Clone, Copy)]
+pub struct FindingRow {
+    /// The offset in the file of the container.
+    pub base: u64,
+    pub number: u32,
+    pub name: &'static str,
+    pub is_error: bool,
+    pub place: Place,
+    pub detail: Detail,
+}
+
+/// A number beyond the place of a finding.
+#[derive(Clone, Copy, Debug, PartialEq, Eq)]
+pub enum Detail {
+    /// The offset in a section of a word.
+    Word(u64),
+    /// A number of bytes.
+    Length(u64),
+    None,
+}

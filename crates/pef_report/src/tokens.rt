@@ -1,0 +1,197 @@
+ghost use Rattle.std.specs.Prelude.{◌≡◌};
+ghost use Rattle.pef_ports.specs.Sent.{Sends};
+ghost use Rattle.pef_ports.specs.Text.{hex_text};
+ghost use Rattle.pef_report.specs.Tokens.{at_text, hex_bytes, hex_member, name_member, path_byte, path_text, tag_text, token_text, tokens_text};
+
+use crate::dates::print_date;
+use crate::strings::{is_ascii, print_string};
+use crate::versions::print_version;
+use pef_ports::{Page, Piece, Sink, StreamFault, print_pieces, send};
+
+/// A token of a line or of a JSON text.
+#[derive(Clone, Copy)]
+pub enum Token<'a> {
+    /// A number in decimal.
+    Number(u64),
+    /// Text, printed unchanged.
+    Text(&'a [u8]),
+    /// A number of 32 bits in eight hex digits.
+    Word(u32),
+    /// A number of 16 bits in four hex digits.
+    Halfword(u16),
+    /// A number of 8 bits in two hex digits.
+    Byte(u8),
+    /// A name. Bytes that could break a line are escaped.
+    Name(&'a [u8]),
+    /// A path, inside a JSON string.
+    Path(&'a [u8]),
+    /// An offset in a file.
+    At(u64),
+    /// A version as people write it.
+    Version(u32),
+    /// A date in seconds since 1904.
+    Date(u32),
+    /// Four characters, such as `pwpc`, inside a JSON string.
+    Tag(u32),
+    /// Bytes in hex digits.
+    Octets(&'a [u8]),
+    /// A member of a JSON object, with its key: a name, or `null` if there is none.
+    Member(&'a [u8], Option<&'a [u8]>),
+}
+
+/// Prints tokens one after the other.
+pub fn print_tokens<W: Sink>(
+    out: &mut W,
+    page: &mut Page,
+    tokens: &[Token<'_>],
+) -> Result<(), StreamFault>
+    ensures { Sends result (W.stream out.old) (W.stream out.new) page.old.items page.new.items (tokens_text tokens.now) }
+{
+    for token in tokens {
+        print_token(out, page, *token)?;
+    }
+    Ok(())
+}
+
+/// Prints a token.
+fn print_token<W: Sink>(out: &mut W, page: &mut Page, token: Token<'_>) -> Result<(), StreamFault>
+    ensures { Sends result (W.stream out.old) (W.stream out.new) page.old.items page.new.items (token_text token.entry) }
+{
+    match token {
+        Token::Text(text) => send(out, page, text),
+        Token::Number(n) => print_pieces(out, page, &[Piece::Number(n)]),
+        Token::Word(n) => print_pieces(out, page, &[Piece::Word(n)]),
+        Token::Halfword(n) => print_pieces(out, page, &[Piece::Halfword(n)]),
+        Token::Byte(n) => print_pieces(out, page, &[Piece::Byte(n)]),
+        Token::Name(name) => print_pieces(out, page, &[Piece::Name(name)]),
+        Token::Path(path) => print_path(out, page, path),
+        Token::At(n) => print_at(out, page, n),
+        Token::Version(n) => print_version(out, page, n),
+        Token::Date(n) => print_date(out, page, n),
+        Token::Tag(tag) => print_tag(out, page, tag),
+        Token::Octets(bytes) => print_octets(out, page, bytes),
+        Token::Member(key, None) => print_pieces(
+            out,
+            page,
+            &[
+                Piece::Text(b"\""),
+                Piece::Text(key),
+                Piece::Text(b"\":null"),
+            ],
+        ),
+        Token::Member(key, Some(name)) => print_member(out, page, key, name),
+    }
+}
+
+/// Prints an offset in a file.
+#[tactic(auto, unfolding(crate::specs::Tokens::at_text))]
+fn print_at<W: Sink>(out: &mut W, page: &mut Page, n: u64) -> Result<(), StreamFault>
+    ensures { Sends result (W.stream out.old) (W.stream out.new) page.old.items page.new.items (at_text n) }
+{
+    if n < 0x1_0000_0000 {
+        return print_pieces(out, page, &[Piece::Word(n as u32)]);
+    }
+    let high = Piece::Word((n / 0x1_0000_0000) as u32);
+    let low = Piece::Word((n % 0x1_0000_0000) as u32);
+    print_pieces(out, page, &[high, low])
+}
+
+/// Prints the four characters of a number, inside a JSON string.
+#[tactic(auto, unfolding(crate::specs::Tokens::tag_text))]
+fn print_tag<W: Sink>(out: &mut W, page: &mut Page, tag: u32) -> Result<(), StreamFault>
+    ensures { Sends result (W.stream out.old) (W.stream out.new) page.old.items page.new.items (tag_text tag) }
+{
+    print_string(out, page, &tag.to_be_bytes())
+}
+
+/// Prints the two digits of each byte.
+fn print_octets<W: Sink>(out: &mut W, page: &mut Page, bytes: &[u8]) -> Result<(), StreamFault>
+    ensures { Sends result (W.stream out.old) (W.stream out.new) page.old.items page.new.items (hex_text bytes.now) }
+{
+    for b in bytes {
+        print_pieces(out, page, &[Piece::Byte(*b)])?;
+    }
+    Ok(())
+}
+
+/// Prints a name as a member of a JSON object.
+#[tactic(auto, unfolding(crate::specs::Tokens::name_member))]
+fn print_member<W: Sink>(
+    out: &mut W,
+    page: &mut Page,
+    key: &[u8],
+    name: &[u8],
+) -> Result<(), StreamFault>
+    ensures { Sends result (W.stream out.old) (W.stream out.new) page.old.items page.new.items (name_member key.now name.now) }
+{
+    print_pieces(
+        out,
+        page,
+        &[Piece::Text(b"\""), Piece::Text(key), Piece::Text(b"\":\"")],
+    )?;
+    print_string(out, page, name)?;
+    print_hex_member(out, page, key, name)?;
+    send(out, page, b"\"")
+}
+
+/// Prints the bytes of a name as a member of a JSON object, if they aren't ASCII. The string before it and this one are
+/// open at their ends.
+#[tactic(auto, unfolding(crate::specs::Tokens::hex_member))]
+fn print_hex_member<W: Sink>(
+    out: &mut W,
+    page: &mut Page,
+    key: &[u8],
+    name: &[u8],
+) -> Result<(), StreamFault>
+    ensures { Sends result (W.stream out.old) (W.stream out.new) page.old.items page.new.items (hex_member key.now name.now) }
+{
+    if is_ascii(name) {
+        print_pieces(out, page, &[])
+    } else {
+        print_hex_bytes(out, page, key, name)
+    }
+}
+
+/// Prints the end of a string, and the bytes of a name as another member, without its end.
+#[tactic(auto, unfolding(crate::specs::Tokens::hex_bytes))]
+fn print_hex_bytes<W: Sink>(
+    out: &mut W,
+    page: &mut Page,
+    key: &[u8],
+    name: &[u8],
+) -> Result<(), StreamFault>
+    ensures { Sends result (W.stream out.old) (W.stream out.new) page.old.items page.new.items (hex_bytes key.now name.now) }
+{
+    print_pieces(
+        out,
+        page,
+        &[
+            Piece::Text(b"\",\""),
+            Piece::Text(key),
+            Piece::Text(b"_hex\":\""),
+        ],
+    )?;
+    print_octets(out, page, name)
+}
+
+/// Prints a path as other commands do, inside a JSON string.
+fn print_path<W: Sink>(out: &mut W, page: &mut Page, path: &[u8]) -> Result<(), StreamFault>
+    ensures { Sends result (W.stream out.old) (W.stream out.new) page.old.items page.new.items (path_text path.now) }
+{
+    for b in path {
+        print_path_byte(out, page, *b)?;
+    }
+    Ok(())
+}
+
+/// Prints a byte of a path.
+#[tactic(auto, unfolding(crate::specs::Tokens::path_byte))]
+fn print_path_byte<W: Sink>(out: &mut W, page: &mut Page, b: u8) -> Result<(), StreamFault>
+    ensures { Sends result (W.stream out.old) (W.stream out.new) page.old.items page.new.items (path_byte b) }
+{
+    match b {
+        b'"' => print_pieces(out, page, &[Piece::Text(b"\\\"")]),
+        b'\\' => print_pieces(out, page, &[Piece::Text(b"\\\\")]),
+        b => print_pieces(out, page, &[Piece::Name(&[b])]),
+    }
+}
