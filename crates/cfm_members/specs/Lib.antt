@@ -1,4 +1,6 @@
 pub mod Faults
+pub mod FragmentFaults
+pub mod Fragments
 pub mod Kept
 pub mod Kinds
 pub mod Members

@@ -69,3 +69,11 @@ pub(crate) const IN_RESOURCE: u8 = 2;
 pub(crate) const CONTAINER_TAGS: [u8; 8] = [0x4A, 0x6F, 0x79, 0x21, 0x70, 0x65, 0x66, 0x66];
 
 pub(crate) const CONTAINER_HEADER_SIZE: usize = 40;
+
+/// The resource of a table of fragments: `cfrg` 0 (kCFragResourceType, kCFragResourceID).
+pub(crate) const FRAGMENT_TABLE_TYPE: u32 = 0x6366_7267;
+
+pub(crate) const FRAGMENT_TABLE_ID: i16 = 0;
+
+/// The architecture of CFM-68K, `m68k` (kMotorola68KCFragArch).
+pub(crate) const CFM_68K: u32 = 0x6D36_386B;

@@ -7,6 +7,8 @@
 
 mod fault;
 mod file_kind;
+mod fragment_fault;
+mod fragments;
 mod layout;
 mod member;
 mod num_version;
@@ -16,6 +18,8 @@ mod table;
 
 pub use fault::MemberFault;
 pub use file_kind::FileKind;
+pub use fragment_fault::FragmentFault;
+pub use fragments::{Forks, container_in_forks, named_container, numbered_container};
 pub use member::{Locator, Member, MemberHeader, Usage};
 pub use num_version::{NumVersion, Stage};
 pub use search::Containers;

@@ -140,7 +140,7 @@ impl<'a> Member<'a> {
 }
 
 /// Returns the `len` bytes from `offset`, or if `len` is 0 all bytes from there. `None` if they pass the end.
-fn lying_part<'f>(fork: &'f [u8], offset: usize, len: usize) -> Option<Part<'f>>
+pub(crate) fn lying_part<'f>(fork: &'f [u8], offset: usize, len: usize) -> Option<Part<'f>>
     ensures { option_map part_seen result ≡ lies fork.entry.now offset len }
 {
     let len = if len == 0 {

@@ -9,6 +9,8 @@ mod faults;
 #[cfg(test)]
 mod fixture;
 #[cfg(test)]
+mod fragments;
+#[cfg(test)]
 mod kinds;
 #[cfg(test)]
 mod mac_binary;

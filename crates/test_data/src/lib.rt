@@ -7,5 +7,6 @@ pub mod containers;
 pub mod labels;
 pub mod limits;
 pub mod lists;
+pub mod mac_files;
 pub mod refusals;
 pub mod scripts;

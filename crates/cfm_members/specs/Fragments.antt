@@ -1,0 +1,119 @@
+-- The container of a fragment, by its name in the table of fragments (the resource `cfrg` 0), or by its number among the
+-- containers that a search finds. Which member has a name if several have, and how errors are told, is this project's own.
+use Rattle.std.specs.Prelude.{ℕ, pos, ◌+◌, ◌==◌, ◌&&◌, ◌%◌, ◌^◌, Bool, false, List, [], ◌∷◌, Option, None, Some, option_and_then, option_map, Result, Ok, Err, not, if◌then◌else◌}
+use Rattle.std.specs.Int.{cast_signed, w16}
+use Rattle.std.specs.List.{slice_get}
+use Rattle.std.specs.Option.{option_map_or, option_or}
+use Rattle.std.specs.Str.{bytes_eq}
+use Rattle.mac_forks.specs.MacFile.{MacFileIs, bare, mac_binary, apple, data_fork_in, mac_file_of, resource_fork_in}
+use Rattle.mac_forks.specs.Parts.{Lying}
+use Rattle.mac_forks.specs.declared.fault.ForkFault.{ForkFault}
+use Rattle.mac_resources.specs.Fork.{ForkIs, fork_of, is_consistent}
+use Rattle.mac_resources.specs.Resources.{ResourceIs, resource_with}
+use Rattle.mac_resources.specs.declared.fault.ResourceFault.{ResourceFault}
+use Rattle.cfm_members.specs.Members.{MemberIs, TableIs, all_members, lies, locator_of, table_of}
+use Rattle.cfm_members.specs.Search.{containers_in}
+use Rattle.cfm_members.specs.declared.fault.MemberFault.{MemberFault}
+use Rattle.cfm_members.specs.declared.fault.MemberFault.TheVariants.{FragmentOutside}
+use Rattle.cfm_members.specs.declared.fragment_fault.FragmentFault.{FragmentFault}
+use Rattle.cfm_members.specs.declared.fragment_fault.FragmentFault.TheVariants.{Fork, Resource, Member, NoContainer}
+use Rattle.cfm_members.specs.declared.member.Locator.{Locator}
+use Rattle.cfm_members.specs.declared.member.Locator.TheVariants as locator
+
+-- the forks of a file. A file in none of the formats is a resource fork if it can be one, else a data fork
+abbrev pub data_fork_of : List ℕ → MacFileIs → Option (Result Lying ForkFault)
+data_fork_of bytes (bare all) = if is_consistent bytes then None else data_fork_in (bare all)
+data_fork_of bytes (mac_binary m) = data_fork_in (mac_binary m)
+data_fork_of bytes (apple a) = data_fork_in (apple a)
+
+abbrev pub resource_fork_of : List ℕ → MacFileIs → Option (Result Lying ForkFault)
+resource_fork_of bytes (bare all) = if is_consistent bytes then data_fork_in (bare all) else None
+resource_fork_of bytes (mac_binary m) = resource_fork_in (mac_binary m)
+resource_fork_of bytes (apple a) = resource_fork_in (apple a)
+
+-- the next step, if there was no error
+abbrev pub and_then : {A B F : Type 0} → Result A F → (A → Result B F) → Result B F
+and_then (Ok x) next = next x
+and_then (Err fault) next = Err fault
+
+-- the bytes of a fork that a file has
+abbrev pub fork_bytes : Option (Result Lying ForkFault) → Result (List ℕ) FragmentFault
+fork_bytes None = Err NoContainer
+fork_bytes (Some (Ok part)) = Ok part.bytes
+fork_bytes (Some (Err fault)) = Err (Fork fault)
+
+-- the bytes of a resource that a fork has
+abbrev pub contents_bytes : Result Lying ResourceFault → Result (List ℕ) FragmentFault
+contents_bytes (Ok part) = Ok part.bytes
+contents_bytes (Err fault) = Err (Resource fault)
+
+abbrev pub resource_bytes : Option ResourceIs → Result (List ℕ) FragmentFault
+resource_bytes None = Err NoContainer
+resource_bytes (Some r) = contents_bytes r.contents
+
+-- a member has a name, and isn't for CFM-68K (`m68k`)
+abbrev pub has_name : List ℕ → Result (List ℕ) MemberFault → Bool
+has_name name (Ok own) = bytes_eq own name
+has_name name (Err fault) = false
+
+abbrev pub is_named : List ℕ → MemberIs → Bool
+is_named name m = has_name name m.name && not (m.header.architecture == 0x6D36_386B)
+
+abbrev pub named_here : List ℕ → Result MemberIs MemberFault → Option MemberIs
+named_here name (Ok m) = if is_named name m then Some m else None
+named_here name (Err fault) = None
+
+-- the first such member
+abbrev pub first_named : List ℕ → List (Result MemberIs MemberFault) → Option MemberIs
+first_named name [] = None
+first_named name (row ∷ rows) = option_or (named_here name row) (first_named name rows)
+
+-- .. of a table
+abbrev pub named_in : List ℕ → Result TableIs MemberFault → Result MemberIs FragmentFault
+named_in name (Ok table) = option_map_or Ok (first_named name (all_members table)) (Err NoContainer)
+named_in name (Err fault) = Err (Member fault)
+
+-- the error of a member whose container isn't in the data fork
+abbrev pub outside : {A : Type 0} → MemberIs → Result A FragmentFault
+outside m = Err (Member (FragmentOutside m.member (m.offset + 24)))
+
+-- the bytes of a data fork that a member needs
+abbrev pub data_bytes : MemberIs → Option (Result Lying ForkFault) → Result (List ℕ) FragmentFault
+data_bytes m None = outside m
+data_bytes m (Some (Ok part)) = Ok part.bytes
+data_bytes m (Some (Err fault)) = Err (Fork fault)
+
+-- the container of a member. The id of a resource is the lower half of its field, signed
+abbrev pub lying_in : MemberIs → Option (Result Lying ForkFault) → ForkIs → Locator → Result (List ℕ) FragmentFault
+lying_in m data_fork resources locator.Memory = Err NoContainer
+lying_in m data_fork resources (locator.DataFork offset len) =
+    and_then (data_bytes m data_fork) (λ bytes. option_map_or (λ part. Ok part.bytes) (lies bytes offset len) (outside m))
+lying_in m data_fork resources (locator.Resource type id) = resource_bytes (resource_with resources type (cast_signed w16 (id % 2 ^ 16)))
+lying_in m data_fork resources (locator.Other code) = Err NoContainer
+
+-- the container of the fragment with a name, by the forks
+abbrev pub named_by : List ℕ → Option (Result Lying ForkFault) → ForkIs → Result (List ℕ) FragmentFault
+named_by name data_fork resources =
+    and_then (resource_bytes (resource_with resources 0x6366_7267 (pos 0)))
+    (λ table. and_then (named_in name (table_of table)) (λ m. lying_in m data_fork resources (locator_of m.header)))
+
+abbrev pub named_with : List ℕ → Option (Result Lying ForkFault) → Result ForkIs ResourceFault → Result (List ℕ) FragmentFault
+named_with name data_fork (Ok resources) = named_by name data_fork resources
+named_with name data_fork (Err fault) = Err (Resource fault)
+
+-- .. of which the resource fork has these bytes
+unfoldable pub named_in_forks : List ℕ → Option (Result Lying ForkFault) → List ℕ → Result (List ℕ) FragmentFault
+named_in_forks name data_fork resources = named_with name data_fork (fork_of resources)
+
+-- .. in a file
+abbrev pub named_in_file : List ℕ → List ℕ → Result MacFileIs ForkFault → Result (List ℕ) FragmentFault
+named_in_file name bytes (Ok file) = and_then (fork_bytes (resource_fork_of bytes file)) (named_in_forks name (data_fork_of bytes file))
+named_in_file name bytes (Err fault) = Err (Fork fault)
+
+unfoldable pub container_named : List ℕ → List ℕ → Result (List ℕ) FragmentFault
+container_named bytes name = named_in_file name bytes (mac_file_of bytes)
+
+-- the container with a number, from 0, among all that begin in some bytes, and all bytes after it
+unfoldable pub container_numbered : List ℕ → ℕ → Option (List ℕ)
+container_numbered bytes number =
+    option_and_then (λ at. option_map (λ part. part.bytes) (lies bytes at 0)) (slice_get (containers_in bytes 0) number)

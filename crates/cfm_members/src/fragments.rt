@@ -1,0 +1,266 @@
+ghost use Rattle.std.specs.Prelude.{◌≡◌, option_map};
+ghost use Rattle.std.specs.List.{slice_get};
+ghost use Rattle.std.specs.Option.{option_copied};
+ghost use Rattle.pef_words.specs.Refusals.{result_map};
+ghost use Rattle.mac_forks.specs.Views.{mac_file_seen, part_seen};
+ghost use Rattle.mac_resources.specs.Views.{fork_seen, resource_seen};
+ghost use Rattle.cfm_members.specs.Fragments.{
+  container_named,
+  container_numbered,
+  contents_bytes,
+  data_bytes,
+  data_fork_of,
+  fork_bytes,
+  is_named,
+  lying_in,
+  named_here,
+  named_in,
+  named_in_forks,
+  resource_bytes,
+  resource_fork_of,
+};
+ghost use Rattle.std.specs.Prelude.{◌+◌};
+ghost use Rattle.cfm_members.specs.Fragments.{first_named};
+ghost use Rattle.cfm_members.specs.declared.fault.MemberFault.TheVariants.{FragmentOutside};
+ghost use Rattle.cfm_members.specs.declared.fragment_fault.FragmentFault.TheVariants.{Member as MemberIs};
+ghost use Rattle.cfm_members.specs.Search.{containers_in};
+ghost use Rattle.cfm_members.specs.Members.{all_members, locator_of, table_of};
+ghost use Rattle.cfm_members.specs.Views.{member_seen, row_seen, table_seen};
+
+use crate::fault::MemberFault;
+use crate::fragment_fault::FragmentFault;
+use crate::layout::{CFM_68K, FRAGMENT_TABLE_ID, FRAGMENT_TABLE_TYPE, OFFSET_AT};
+use crate::member::{Locator, Member, lying_part};
+use crate::search::Containers;
+use crate::table::FragmentTable;
+use mac_forks::{ForkFault, MacFile, Part};
+use mac_resources::{Resource, ResourceFork};
+
+/// The forks of a file, or the errors of their entries. `None` if the file doesn't have the fork.
+#[derive(Clone, Copy, Debug)]
+pub struct Forks<'a> {
+    pub data_fork: Option<Result<Part<'a>, ForkFault>>,
+    pub resource_fork: Option<Result<Part<'a>, ForkFault>>,
+}
+
+impl<'a> Forks<'a> {
+    /// Returns the forks of a file with some bytes. A file in none of the formats is a resource fork if it can be one,
+    /// else a data fork.
+    pub fn of(bytes: &'a [u8], file: &MacFile<'a>) -> Forks<'a>
+        ensures data_fork { option_map (result_map part_seen) result.data_fork ≡ data_fork_of bytes.entry.now (mac_file_seen file.now) }
+        ensures resource_fork { option_map (result_map part_seen) result.resource_fork ≡ resource_fork_of bytes.entry.now (mac_file_seen file.now) }
+    {
+        match file {
+            MacFile::Bare(_) => {
+                if ResourceFork::is_consistent(bytes) {
+                    Forks {
+                        data_fork: None,
+                        resource_fork: file.data_fork(),
+                    }
+                } else {
+                    Forks {
+                        data_fork: file.data_fork(),
+                        resource_fork: None,
+                    }
+                }
+            }
+            MacFile::MacBinary(_) | MacFile::Apple(_) => Forks {
+                data_fork: file.data_fork(),
+                resource_fork: file.resource_fork(),
+            },
+        }
+    }
+}
+
+/// Returns the container of the fragment with a name: of the first member of the resource `cfrg` 0 with this name that
+/// isn't for CFM-68K. One in the data fork has the length of the member, or reaches to the end of the fork if that is 0.
+///
+/// # Errors
+///
+/// The first error of the file's header, of the resource fork's entry, of the fork's header and map, of the table's
+/// bytes and header, and of the container: no fragment has the name, or its bytes aren't there.
+#[tactic(auto, unfolding(crate::specs::Fragments::container_named))]
+pub fn named_container<'a>(bytes: &'a [u8], name: &[u8]) -> Result<&'a [u8], FragmentFault>
+    ensures { result_map (λ container. container.now) result ≡ container_named bytes.entry.now name.now }
+{
+    let file = match MacFile::read(bytes) {
+        Ok(file) => file,
+        Err(fault) => return Err(FragmentFault::Fork(fault)),
+    };
+    let forks = Forks::of(bytes, &file);
+    match fork_bytes(forks.resource_fork) {
+        Ok(resources) => container_in_forks(forks.data_fork, resources, name),
+        Err(fault) => Err(fault),
+    }
+}
+
+/// Returns the container of the fragment with a name, as [`named_container`] does, by the forks that it is in.
+///
+/// # Errors
+///
+/// The same, from the resource fork's header on.
+#[tactic(auto, unfolding(crate::specs::Fragments::named_in_forks))]
+pub fn container_in_forks<'a>(
+    data_fork: Option<Result<Part<'a>, ForkFault>>,
+    resources: &'a [u8],
+    name: &[u8],
+) -> Result<&'a [u8], FragmentFault>
+    ensures { result_map (λ container. container.now) result ≡ named_in_forks name.now (option_map (result_map part_seen) data_fork.entry) resources.entry.now }
+{
+    let resources = match ResourceFork::read(resources) {
+        Ok(resources) => resources,
+        Err(fault) => return Err(FragmentFault::Resource(fault)),
+    };
+    let table = match resource_bytes(resources.find(FRAGMENT_TABLE_TYPE, FRAGMENT_TABLE_ID)) {
+        Ok(table) => table,
+        Err(fault) => return Err(fault),
+    };
+    match member_named(table, name) {
+        Ok(member) => member_container(&member, data_fork, resources),
+        Err(fault) => Err(fault),
+    }
+}
+
+/// Returns the container with a number, from 0, among all places where one begins, with all bytes after it. `None` past
+/// the last one.
+#[tactic(auto, unfolding(crate::specs::Fragments::container_numbered))]
+pub fn numbered_container<'a>(bytes: &'a [u8], number: usize) -> Option<&'a [u8]>
+    ensures { option_copied result ≡ container_numbered bytes.entry.now number }
+{
+    let place = numbered_place(bytes, number)?;
+    Some(lying_part(bytes, place, 0)?.bytes)
+}
+
+/// Returns the place with a number among those where a container begins.
+fn numbered_place(bytes: &[u8], number: usize) -> Option<usize>
+    ensures { result ≡ slice_get (containers_in bytes.now 0) number }
+{
+    Containers::new(bytes).nth(number)
+}
+
+/// Returns the bytes of a fork.
+fn fork_bytes<'a>(fork: Option<Result<Part<'a>, ForkFault>>) -> Result<&'a [u8], FragmentFault>
+    ensures { result_map (λ bytes. bytes.now) result ≡ fork_bytes (option_map (result_map part_seen) fork.entry) }
+{
+    match fork {
+        Some(Ok(part)) => Ok(part.bytes),
+        Some(Err(fault)) => Err(FragmentFault::Fork(fault)),
+        None => Err(FragmentFault::NoContainer),
+    }
+}
+
+/// Returns the bytes of a resource.
+fn resource_bytes<'a>(resource: Option<Resource<'a>>) -> Result<&'a [u8], FragmentFault>
+    ensures { result_map (λ bytes. bytes.now) result ≡ resource_bytes (option_map resource_seen resource.entry) }
+{
+    match resource {
+        Some(resource) => match resource.contents {
+            Ok(part) => Ok(part.bytes),
+            Err(fault) => Err(FragmentFault::Resource(fault)),
+        },
+        None => Err(FragmentFault::NoContainer),
+    }
+}
+
+/// Returns the first member of a table with a name that isn't for CFM-68K.
+fn member_named<'a>(table: &'a [u8], name: &[u8]) -> Result<Member<'a>, FragmentFault>
+    ensures { result_map member_seen result ≡ named_in name.now (table_of table.entry.now) }
+{
+    match FragmentTable::read(table) {
+        Ok(table) => match first_named(table, name) {
+            Some(member) => Ok(member),
+            None => Err(FragmentFault::NoContainer),
+        },
+        Err(fault) => Err(FragmentFault::Member(fault)),
+    }
+}
+
+/// Returns the first member with a name that isn't for CFM-68K.
+fn first_named<'a>(table: FragmentTable<'a>, name: &[u8]) -> Option<Member<'a>>
+    ensures { option_map member_seen result ≡ first_named name.now (all_members (table_seen table.entry)) }
+{
+    for row in table.members() {
+        match named_here(row, name) {
+            Some(member) => return Some(member),
+            None => {}
+        }
+    }
+    None
+}
+
+/// Returns the member of a row if it has a name and isn't for CFM-68K.
+fn named_here<'a>(row: Result<Member<'a>, MemberFault>, name: &[u8]) -> Option<Member<'a>>
+    ensures { option_map member_seen result ≡ named_here name.now (row_seen row.entry) }
+{
+    match row {
+        Ok(member) => {
+            if is_named(&member, name) {
+                Some(member)
+            } else {
+                None
+            }
+        }
+        Err(_) => None,
+    }
+}
+
+/// Returns whether a member has a name and isn't for CFM-68K.
+fn is_named(member: &Member<'_>, name: &[u8]) -> bool
+    ensures { result ≡ is_named name.now (member_seen member.now) }
+{
+    match member.name {
+        Ok(own) => own == name && member.header.architecture != CFM_68K,
+        Err(_) => false,
+    }
+}
+
+/// Returns the container of a member.
+fn member_container<'a>(
+    member: &Member<'_>,
+    data_fork: Option<Result<Part<'a>, ForkFault>>,
+    resources: ResourceFork<'a>,
+) -> Result<&'a [u8], FragmentFault>
+    ensures { result_map (λ container. container.now) result ≡ lying_in (member_seen member.now) (option_map (result_map part_seen) data_fork.entry) (fork_seen resources.entry) (locator_of member.now.header) }
+{
+    match member.header.locator() {
+        Locator::DataFork { offset, length } => {
+            let fork = match data_bytes(member, data_fork) {
+                Ok(fork) => fork,
+                Err(fault) => return Err(fault),
+            };
+            match lying_part(fork, offset as usize, length as usize) {
+                Some(part) => Ok(part.bytes),
+                None => Err(outside(member)),
+            }
+        }
+        Locator::Resource { type_code, id } => {
+            let id = ((id % 0x1_0000) as u16).cast_signed();
+            resource_bytes(resources.find(type_code, id))
+        }
+        Locator::Memory | Locator::Other(_) => Err(FragmentFault::NoContainer),
+    }
+}
+
+/// Returns the bytes of the data fork that a member's container is in.
+fn data_bytes<'a>(
+    member: &Member<'_>,
+    data_fork: Option<Result<Part<'a>, ForkFault>>,
+) -> Result<&'a [u8], FragmentFault>
+    ensures { result_map (λ bytes. bytes.now) result ≡ data_bytes (member_seen member.now) (option_map (result_map part_seen) data_fork.entry) }
+{
+    match data_fork {
+        Some(Ok(part)) => Ok(part.bytes),
+        Some(Err(fault)) => Err(FragmentFault::Fork(fault)),
+        None => Err(outside(member)),
+    }
+}
+
+/// Returns the error of a member whose container isn't in the data fork.
+fn outside(member: &Member<'_>) -> FragmentFault
+    ensures { result ≡ MemberIs (FragmentOutside member.now.member (member.now.offset + 24)) }
+{
+    FragmentFault::Member(MemberFault::FragmentOutside {
+        member: member.member,
+        offset: member.offset + OFFSET_AT,
+    })
+}
