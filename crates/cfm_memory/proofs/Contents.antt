@@ -7,22 +7,22 @@ use Rattle.cfm_memory.specs.Placement.{end_of, IsFree, IsLaidOut}
 use Rattle.cfm_memory.proofs.Placing.{some_taken}
 
 -- no instance begins in a free range
-pub nothing_at_free : (xs : List Instance) (address end : ℕ) → address < end → IsFree address end xs → bytes_at xs address ≡ None
-nothing_at_free [] address end some free = refl
-nothing_at_free (x ∷ xs) address end some free =
-    let some_x = some_taken (length x.bytes) in
+pub nothing_at_free : (g : ℕ) (xs : List Instance) (address end : ℕ) → address < end → IsFree g address end xs → bytes_at xs address ≡ None
+nothing_at_free g [] address end some free = refl
+nothing_at_free g (x ∷ xs) address end some free =
+    let some_x = some_taken g (length x.bytes) in
     elim (eqb_tells x.address address) [
       | inl same ↦ absurd (elim (free.0) as (λ _. ⊥) [ inl h ↦ omega (arith, same.1) | inr h ↦ omega (arith, same.1) ])
-      | inr other ↦ rw other.0 (nothing_at_free xs address end some free.1)
+      | inr other ↦ rw other.0 (nothing_at_free g xs address end some free.1)
     ]
 
 -- if instances begin after an address, none begins there
-pub nothing_before : (xs : List Instance) (address from limit : ℕ) → address < from → IsLaidOut from limit xs → bytes_at xs address ≡ None
-nothing_before [] address from limit less laid = refl
-nothing_before (x ∷ xs) address from limit less laid =
+pub nothing_before : (g : ℕ) (xs : List Instance) (address from limit : ℕ) → address < from → IsLaidOut g from limit xs → bytes_at xs address ≡ None
+nothing_before g [] address from limit less laid = refl
+nothing_before g (x ∷ xs) address from limit less laid =
     elim (eqb_tells x.address address) [
       | inl same ↦ absurd (omega (arith, same.1))
-      | inr other ↦ rw other.0 (nothing_before xs address (end_of x) limit (omega arith) laid.2)
+      | inr other ↦ rw other.0 (nothing_before g xs address (end_of g x) limit (omega arith) laid.2)
     ]
 
 -- a number is equal to itself

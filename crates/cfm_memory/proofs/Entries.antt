@@ -51,8 +51,8 @@ some_found None size held = absurd (cc)
 some_found (Some v) size held = refl
 
 -- the map has an entry at the address of an instance that is held
-pub held_found : (es : List (ℕ × Vec ℕ)) (limit : ℕ) (rs : List Reserved) (place : Place) (m : Layout) → record { limit = limit; instances = instances es; reserved = rs } ≡ m → IsTrue (holds_place m place) → IsSome (found es place.address)
-held_found es limit rs place m view_is held =
+pub held_found : (g : ℕ) (es : List (ℕ × Vec ℕ)) (limit : ℕ) (rs : List Reserved) (place : Place) (m : Layout) → record { granule = g; limit = limit; instances = instances es; reserved = rs } ≡ m → IsTrue (holds_place m place) → IsSome (found es place.address)
+held_found g es limit rs place m view_is held =
     let is : has_length (bytes_at (instances es) place.address) place.size ≡ true = rw (← view_is) at held in
     some_found (found es place.address) place.size (rw (← found_is es place.address) at is)
 
@@ -61,9 +61,9 @@ some_is None some = absurd (cc)
 some_is (Some v) some = (v, refl)
 
 -- and it has bytes
-pub held_bytes : (es : List (ℕ × Vec ℕ)) (limit : ℕ) (rs : List Reserved) (place : Place) (m : Layout) → record { limit = limit; instances = instances es; reserved = rs } ≡ m → IsTrue (holds_place m place) → (bytes : List ℕ) × (bytes_at (instances es) place.address ≡ Some bytes)
-held_bytes es limit rs place m view_is held =
-    let there = some_is (found es place.address) (held_found es limit rs place m view_is held) in
+pub held_bytes : (g : ℕ) (es : List (ℕ × Vec ℕ)) (limit : ℕ) (rs : List Reserved) (place : Place) (m : Layout) → record { granule = g; limit = limit; instances = instances es; reserved = rs } ≡ m → IsTrue (holds_place m place) → (bytes : List ℕ) × (bytes_at (instances es) place.address ≡ Some bytes)
+held_bytes g es limit rs place m view_is held =
+    let there = some_is (found es place.address) (held_found g es limit rs place m view_is held) in
     (there.0.items, bytes_found es place.address there.0 there.1)
 
 -- a borrow of the map exists if the map has the entry
@@ -75,8 +75,8 @@ some_length : (bytes : List ℕ) (size : ℕ) → has_length (Some bytes) size �
 some_length bytes size held = (Decides-eqb (length bytes) size).0 held
 
 -- and it has the size of the place
-pub held_length : (es : List (ℕ × Vec ℕ)) (limit : ℕ) (rs : List Reserved) (place : Place) (m : Layout) (bytes : List ℕ) → record { limit = limit; instances = instances es; reserved = rs } ≡ m → IsTrue (holds_place m place) → bytes_at (instances es) place.address ≡ Some bytes → length bytes ≡ place.size
-held_length es limit rs place m bytes view_is held is =
+pub held_length : (g : ℕ) (es : List (ℕ × Vec ℕ)) (limit : ℕ) (rs : List Reserved) (place : Place) (m : Layout) (bytes : List ℕ) → record { granule = g; limit = limit; instances = instances es; reserved = rs } ≡ m → IsTrue (holds_place m place) → bytes_at (instances es) place.address ≡ Some bytes → length bytes ≡ place.size
+held_length g es limit rs place m bytes view_is held is =
     let there : has_length (bytes_at (instances es) place.address) place.size ≡ true = rw (← view_is) at held in
     some_length bytes place.size (rw is at there)
 
@@ -121,33 +121,33 @@ from_is : (a b : ℕ) → (is_le (nat_cmp a b) && true) ≡ leb a b
 from_is a b = grind (arith, nat_tests)
 
 -- they are laid out
-pub laid_out_among : (from limit front : ℕ) (es : List (ℕ × Vec ℕ)) → IsLaidOut from limit (instances es) → IsLaidOut from limit (instances (entries_from front es))
-laid_out_among from limit front [] laid = tt
-laid_out_among from limit front (e ∷ es) laid =
+pub laid_out_among : (g from limit front : ℕ) (es : List (ℕ × Vec ℕ)) → IsLaidOut g from limit (instances es) → IsLaidOut g from limit (instances (entries_from front es))
+laid_out_among g from limit front [] laid = tt
+laid_out_among g from limit front (e ∷ es) laid =
     elim (leb_tells front e.0) [
-      | inl behind ↦ rw (from_is front e.0, behind.0) (laid.0, laid.1, laid_out_among (end_of (instance_seen e)) limit front es laid.2)
-      | inr before ↦ rw (from_is front e.0, before.0) (laid_out_among from limit front es (laid_out_from (end_of (instance_seen e)) from limit (instances es) (omega arith) laid.2))
+      | inl behind ↦ rw (from_is front e.0, behind.0) (laid.0, laid.1, laid_out_among g (end_of g (instance_seen e)) limit front es laid.2)
+      | inr before ↦ rw (from_is front e.0, before.0) (laid_out_among g from limit front es (laid_out_from g (end_of g (instance_seen e)) from limit (instances es) (omega arith) laid.2))
     ]
 
 -- a range that is free is free among them
-pub free_among : (address end front : ℕ) (es : List (ℕ × Vec ℕ)) → IsFree address end (instances es) → IsFree address end (instances (entries_from front es))
-free_among address end front [] free = tt
-free_among address end front (e ∷ es) free =
+pub free_among : (g address end front : ℕ) (es : List (ℕ × Vec ℕ)) → IsFree g address end (instances es) → IsFree g address end (instances (entries_from front es))
+free_among g address end front [] free = tt
+free_among g address end front (e ∷ es) free =
     elim (leb_tells front e.0) [
-      | inl behind ↦ rw (from_is front e.0, behind.0) (free.0, free_among address end front es free.1)
-      | inr before ↦ rw (from_is front e.0, before.0) (free_among address end front es free.1)
+      | inl behind ↦ rw (from_is front e.0, behind.0) (free.0, free_among g address end front es free.1)
+      | inr before ↦ rw (from_is front e.0, before.0) (free_among g address end front es free.1)
     ]
 
 -- and the other way round after the address, if no instance lies across it
-pub free_of_all : (address end front : ℕ) (es : List (ℕ × Vec ℕ)) → front ≤ address → IsFree front front (instances es) → IsFree address end (instances (entries_from front es)) → IsFree address end (instances es)
-free_of_all address end front [] low between free = tt
-free_of_all address end front (e ∷ es) low between free =
+pub free_of_all : (g address end front : ℕ) (es : List (ℕ × Vec ℕ)) → front ≤ address → IsFree g front front (instances es) → IsFree g address end (instances (entries_from front es)) → IsFree g address end (instances es)
+free_of_all g address end front [] low between free = tt
+free_of_all g address end front (e ∷ es) low between free =
     elim (leb_tells front e.0) [
-      | inl behind ↦ (let there = rw (from_is front e.0, behind.0) at free in (there.0, free_of_all address end front es low between.1 there.1))
+      | inl behind ↦ (let there = rw (from_is front e.0, behind.0) at free in (there.0, free_of_all g address end front es low between.1 there.1))
       | inr before ↦
           (let there = rw (from_is front e.0, before.0) at free in
-          let ends : end_of (instance_seen e) ≤ address = elim (between.0) as (λ _. end_of (instance_seen e) ≤ address) [ inl h ↦ absurd (omega (arith, h, before.1)) | inr h ↦ omega (arith, h, low) ] in
-          (inr ends, free_of_all address end front es low between.1 there))
+          let ends : end_of g (instance_seen e) ≤ address = elim (between.0) as (λ _. end_of g (instance_seen e) ≤ address) [ inl h ↦ absurd (omega (arith, h, before.1)) | inr h ↦ omega (arith, h, low) ] in
+          (inr ends, free_of_all g address end front es low between.1 there))
     ]
 
 -- the entries up to an address
@@ -175,9 +175,9 @@ none_to (e ∷ es) address len none =
 
 -- an instance that ends before another has no more bytes of a range after that one's begin than
 -- that one
-last_has : (x y : Instance) (others : Option (List ℕ)) (address len : ℕ) → end_of x ≤ y.address → y.address ≤ address → others ≡ range_in y address len → option_or (range_in x address len) others ≡ range_in y address len
-last_has x y others address len behind begins is =
-    let inside = within_taken (length x.bytes) in
+last_has : (g : ℕ) (x y : Instance) (others : Option (List ℕ)) (address len : ℕ) → end_of g x ≤ y.address → y.address ≤ address → others ≡ range_in y address len → option_or (range_in x address len) others ≡ range_in y address len
+last_has g x y others address len behind begins is =
+    let inside = within_taken g (length x.bytes) in
     elim (leb_tells x.address address) [
       | inl from ↦ (elim (leb_tells (address + len) (x.address + length x.bytes)) [
         | inl ends ↦
@@ -223,99 +223,99 @@ last_begins (x ∷ es) (b ∷ before) e address is =
     ]
 
 -- and lies after the others' begins
-last_after : (from limit : ℕ) (es before : List (ℕ × Vec ℕ)) (e : ℕ × Vec ℕ) (address : ℕ) → IsLaidOut from limit (instances es) → entries_to address es ≡ before ++ e ∷ [] → from ≤ e.0
-last_after from limit [] [] e address laid is = absurd (cc)
-last_after from limit [] (b ∷ before) e address laid is = absurd (cc)
-last_after from limit (x ∷ es) [] e address laid is =
+last_after : (g from limit : ℕ) (es before : List (ℕ × Vec ℕ)) (e : ℕ × Vec ℕ) (address : ℕ) → IsLaidOut g from limit (instances es) → entries_to address es ≡ before ++ e ∷ [] → from ≤ e.0
+last_after g from limit [] [] e address laid is = absurd (cc)
+last_after g from limit [] (b ∷ before) e address laid is = absurd (cc)
+last_after g from limit (x ∷ es) [] e address laid is =
     elim (leb_tells x.0 address) [
       | inl begins ↦ (let there : x ∷ entries_to address es ≡ e ∷ [] = rw (to_is address x.0, begins.0) at is in let same : x ≡ e = ap (first_or e) there in rw (← same) laid.0)
-      | inr behind ↦ (let h = last_after (end_of (instance_seen x)) limit es [] e address laid.2 (rw (to_is address x.0, behind.0) at is) in omega (arith, h, laid.0))
+      | inr behind ↦ (let h = last_after g (end_of g (instance_seen x)) limit es [] e address laid.2 (rw (to_is address x.0, behind.0) at is) in omega (arith, h, laid.0))
     ]
-last_after from limit (x ∷ es) (b ∷ before) e address laid is =
+last_after g from limit (x ∷ es) (b ∷ before) e address laid is =
     elim (leb_tells x.0 address) [
-      | inl begins ↦ (let h = last_after (end_of (instance_seen x)) limit es before e address laid.2 (ap others_of (rw (to_is address x.0, begins.0) at is)) in omega (arith, h, laid.0))
-      | inr behind ↦ (let h = last_after (end_of (instance_seen x)) limit es (b ∷ before) e address laid.2 (rw (to_is address x.0, behind.0) at is) in omega (arith, h, laid.0))
+      | inl begins ↦ (let h = last_after g (end_of g (instance_seen x)) limit es before e address laid.2 (ap others_of (rw (to_is address x.0, begins.0) at is)) in omega (arith, h, laid.0))
+      | inr behind ↦ (let h = last_after g (end_of g (instance_seen x)) limit es (b ∷ before) e address laid.2 (rw (to_is address x.0, behind.0) at is) in omega (arith, h, laid.0))
     ]
 
 -- it ends below the limit
-pub last_ends : (from limit : ℕ) (es before : List (ℕ × Vec ℕ)) (e : ℕ × Vec ℕ) (address : ℕ) → IsLaidOut from limit (instances es) → entries_to address es ≡ before ++ e ∷ [] → end_of (instance_seen e) ≤ limit
-last_ends from limit [] [] e address laid is = absurd (cc)
-last_ends from limit [] (b ∷ before) e address laid is = absurd (cc)
-last_ends from limit (x ∷ es) [] e address laid is =
+pub last_ends : (g from limit : ℕ) (es before : List (ℕ × Vec ℕ)) (e : ℕ × Vec ℕ) (address : ℕ) → IsLaidOut g from limit (instances es) → entries_to address es ≡ before ++ e ∷ [] → end_of g (instance_seen e) ≤ limit
+last_ends g from limit [] [] e address laid is = absurd (cc)
+last_ends g from limit [] (b ∷ before) e address laid is = absurd (cc)
+last_ends g from limit (x ∷ es) [] e address laid is =
     elim (leb_tells x.0 address) [
       | inl begins ↦ (let there : x ∷ entries_to address es ≡ e ∷ [] = rw (to_is address x.0, begins.0) at is in let same : x ≡ e = ap (first_or e) there in rw (← same) laid.1)
-      | inr behind ↦ last_ends (end_of (instance_seen x)) limit es [] e address laid.2 (rw (to_is address x.0, behind.0) at is)
+      | inr behind ↦ last_ends g (end_of g (instance_seen x)) limit es [] e address laid.2 (rw (to_is address x.0, behind.0) at is)
     ]
-last_ends from limit (x ∷ es) (b ∷ before) e address laid is =
+last_ends g from limit (x ∷ es) (b ∷ before) e address laid is =
     elim (leb_tells x.0 address) [
-      | inl begins ↦ last_ends (end_of (instance_seen x)) limit es before e address laid.2 (ap others_of (rw (to_is address x.0, begins.0) at is))
-      | inr behind ↦ last_ends (end_of (instance_seen x)) limit es (b ∷ before) e address laid.2 (rw (to_is address x.0, behind.0) at is)
+      | inl begins ↦ last_ends g (end_of g (instance_seen x)) limit es before e address laid.2 (ap others_of (rw (to_is address x.0, begins.0) at is))
+      | inr behind ↦ last_ends g (end_of g (instance_seen x)) limit es (b ∷ before) e address laid.2 (rw (to_is address x.0, behind.0) at is)
     ]
 
 -- if no instance begins up to an address, what ends there meets none
-pub free_of_none : (es : List (ℕ × Vec ℕ)) (start address : ℕ) → entries_to address es ≡ [] → IsFree start (address + 1) (instances es)
-free_of_none [] start address none = tt
-free_of_none (e ∷ es) start address none =
+pub free_of_none : (g : ℕ) (es : List (ℕ × Vec ℕ)) (start address : ℕ) → entries_to address es ≡ [] → IsFree g start (address + 1) (instances es)
+free_of_none g [] start address none = tt
+free_of_none g (e ∷ es) start address none =
     elim (leb_tells e.0 address) [
       | inl begins ↦ (let there : e ∷ entries_to address es ≡ [] = rw (to_is address e.0, begins.0) at none in absurd (cc))
-      | inr behind ↦ (inl (omega (arith, behind.1)), free_of_none es start address (rw (to_is address e.0, behind.0) at none))
+      | inr behind ↦ (inl (omega (arith, behind.1)), free_of_none g es start address (rw (to_is address e.0, behind.0) at none))
     ]
 
 -- what begins after the end of the last one, and ends at an address, meets none
-pub free_of_last : (from limit : ℕ) (es before : List (ℕ × Vec ℕ)) (e : ℕ × Vec ℕ) (start address : ℕ) → IsLaidOut from limit (instances es) → entries_to address es ≡ before ++ e ∷ [] → end_of (instance_seen e) ≤ start → IsFree start (address + 1) (instances es)
-free_of_last from limit [] [] e start address laid is ends = absurd (cc)
-free_of_last from limit [] (b ∷ before) e start address laid is ends = absurd (cc)
-free_of_last from limit (x ∷ es) [] e start address laid is ends =
+pub free_of_last : (g from limit : ℕ) (es before : List (ℕ × Vec ℕ)) (e : ℕ × Vec ℕ) (start address : ℕ) → IsLaidOut g from limit (instances es) → entries_to address es ≡ before ++ e ∷ [] → end_of g (instance_seen e) ≤ start → IsFree g start (address + 1) (instances es)
+free_of_last g from limit [] [] e start address laid is ends = absurd (cc)
+free_of_last g from limit [] (b ∷ before) e start address laid is ends = absurd (cc)
+free_of_last g from limit (x ∷ es) [] e start address laid is ends =
     elim (leb_tells x.0 address) [
       | inl begins ↦
           (let there : x ∷ entries_to address es ≡ e ∷ [] = rw (to_is address x.0, begins.0) at is in
           let same : x ≡ e = ap (first_or e) there in
-          (inr (rw same ends), free_of_none es start address (ap others_of there)))
-      | inr behind ↦ (inl (omega (arith, behind.1)), free_of_last (end_of (instance_seen x)) limit es [] e start address laid.2 (rw (to_is address x.0, behind.0) at is) ends)
+          (inr (rw same ends), free_of_none g es start address (ap others_of there)))
+      | inr behind ↦ (inl (omega (arith, behind.1)), free_of_last g (end_of g (instance_seen x)) limit es [] e start address laid.2 (rw (to_is address x.0, behind.0) at is) ends)
     ]
-free_of_last from limit (x ∷ es) (b ∷ before) e start address laid is ends =
+free_of_last g from limit (x ∷ es) (b ∷ before) e start address laid is ends =
     elim (leb_tells x.0 address) [
       | inl begins ↦
           (let there = ap others_of (rw (to_is address x.0, begins.0) at is) in
-          let low = last_after (end_of (instance_seen x)) limit es before e address laid.2 there in
-          (inr (omega (arith, low, ends)), free_of_last (end_of (instance_seen x)) limit es before e start address laid.2 there ends))
-      | inr behind ↦ (inl (omega (arith, behind.1)), free_of_last (end_of (instance_seen x)) limit es (b ∷ before) e start address laid.2 (rw (to_is address x.0, behind.0) at is) ends)
+          let low = last_after g (end_of g (instance_seen x)) limit es before e address laid.2 there in
+          (inr (omega (arith, low, ends)), free_of_last g (end_of g (instance_seen x)) limit es before e start address laid.2 there ends))
+      | inr behind ↦ (inl (omega (arith, behind.1)), free_of_last g (end_of g (instance_seen x)) limit es (b ∷ before) e start address laid.2 (rw (to_is address x.0, behind.0) at is) ends)
     ]
 
 -- what meets none doesn't meet the last one
-pub last_free : (es before : List (ℕ × Vec ℕ)) (e : ℕ × Vec ℕ) (start end address : ℕ) → entries_to address es ≡ before ++ e ∷ [] → IsFree start end (instances es) → (end ≤ e.0) ⊎ (end_of (instance_seen e) ≤ start)
-last_free [] [] e start end address is free = absurd (cc)
-last_free [] (b ∷ before) e start end address is free = absurd (cc)
-last_free (x ∷ es) [] e start end address is free =
+pub last_free : (g : ℕ) (es before : List (ℕ × Vec ℕ)) (e : ℕ × Vec ℕ) (start end address : ℕ) → entries_to address es ≡ before ++ e ∷ [] → IsFree g start end (instances es) → (end ≤ e.0) ⊎ (end_of g (instance_seen e) ≤ start)
+last_free g [] [] e start end address is free = absurd (cc)
+last_free g [] (b ∷ before) e start end address is free = absurd (cc)
+last_free g (x ∷ es) [] e start end address is free =
     elim (leb_tells x.0 address) [
       | inl begins ↦ (let there : x ∷ entries_to address es ≡ e ∷ [] = rw (to_is address x.0, begins.0) at is in let same : x ≡ e = ap (first_or e) there in rw (← same) free.0)
-      | inr behind ↦ last_free es [] e start end address (rw (to_is address x.0, behind.0) at is) free.1
+      | inr behind ↦ last_free g es [] e start end address (rw (to_is address x.0, behind.0) at is) free.1
     ]
-last_free (x ∷ es) (b ∷ before) e start end address is free =
+last_free g (x ∷ es) (b ∷ before) e start end address is free =
     elim (leb_tells x.0 address) [
-      | inl begins ↦ last_free es before e start end address (ap others_of (rw (to_is address x.0, begins.0) at is)) free.1
-      | inr behind ↦ last_free es (b ∷ before) e start end address (rw (to_is address x.0, behind.0) at is) free.1
+      | inl begins ↦ last_free g es before e start end address (ap others_of (rw (to_is address x.0, begins.0) at is)) free.1
+      | inr behind ↦ last_free g es (b ∷ before) e start end address (rw (to_is address x.0, behind.0) at is) free.1
     ]
 
 -- a range is that of the last instance that begins up to its address
-pub range_of_last : (from limit : ℕ) (es before : List (ℕ × Vec ℕ)) (e : ℕ × Vec ℕ) (address len : ℕ) → IsLaidOut from limit (instances es) → entries_to address es ≡ before ++ e ∷ [] → range_at (instances es) address len ≡ range_in (instance_seen e) address len
-range_of_last from limit [] [] e address len laid is = absurd (cc)
-range_of_last from limit [] (b ∷ before) e address len laid is = absurd (cc)
-range_of_last from limit (x ∷ es) [] e address len laid is =
+pub range_of_last : (g from limit : ℕ) (es before : List (ℕ × Vec ℕ)) (e : ℕ × Vec ℕ) (address len : ℕ) → IsLaidOut g from limit (instances es) → entries_to address es ≡ before ++ e ∷ [] → range_at (instances es) address len ≡ range_in (instance_seen e) address len
+range_of_last g from limit [] [] e address len laid is = absurd (cc)
+range_of_last g from limit [] (b ∷ before) e address len laid is = absurd (cc)
+range_of_last g from limit (x ∷ es) [] e address len laid is =
     elim (leb_tells x.0 address) [
       | inl begins ↦
           (let there : x ∷ entries_to address es ≡ e ∷ [] = rw (to_is address x.0, begins.0) at is in
           let same : x ≡ e = ap (first_or e) there in
           let none = none_to es address len (ap others_of there) in
           ap (option_or (range_in (instance_seen x) address len)) none ∙ (or_none (range_in (instance_seen x) address len) ∙ ap (λ (y : ℕ × Vec ℕ). range_in (instance_seen y) address len) same))
-      | inr behind ↦ not_before (instance_seen x) _ address len behind.1 ∙ range_of_last (end_of (instance_seen x)) limit es [] e address len laid.2 (rw (to_is address x.0, behind.0) at is)
+      | inr behind ↦ not_before (instance_seen x) _ address len behind.1 ∙ range_of_last g (end_of g (instance_seen x)) limit es [] e address len laid.2 (rw (to_is address x.0, behind.0) at is)
     ]
-range_of_last from limit (x ∷ es) (b ∷ before) e address len laid is =
+range_of_last g from limit (x ∷ es) (b ∷ before) e address len laid is =
     elim (leb_tells x.0 address) [
       | inl begins ↦
           (let there = ap others_of (rw (to_is address x.0, begins.0) at is) in
-          last_has (instance_seen x) (instance_seen e) (range_at (instances es) address len) address len (last_after (end_of (instance_seen x)) limit es before e address laid.2 there) (last_begins es before e address there) (range_of_last (end_of (instance_seen x)) limit es before e address len laid.2 there))
-      | inr behind ↦ not_before (instance_seen x) _ address len behind.1 ∙ range_of_last (end_of (instance_seen x)) limit es (b ∷ before) e address len laid.2 (rw (to_is address x.0, behind.0) at is)
+          last_has g (instance_seen x) (instance_seen e) (range_at (instances es) address len) address len (last_after g (end_of g (instance_seen x)) limit es before e address laid.2 there) (last_begins es before e address there) (range_of_last g (end_of g (instance_seen x)) limit es before e address len laid.2 there))
+      | inr behind ↦ not_before (instance_seen x) _ address len behind.1 ∙ range_of_last g (end_of g (instance_seen x)) limit es (b ∷ before) e address len laid.2 (rw (to_is address x.0, behind.0) at is)
     ]
 
 -- a part of an instance's bytes is the range at its place

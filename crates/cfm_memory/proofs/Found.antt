@@ -29,9 +29,9 @@ le-decided a b = elim (cases_lt b a) [ inl over ↦ inr (λ le. omega (arith, ov
 zero-decided : (a : ℕ) → Decided (a ≡ 0)
 zero-decided a = elim (eqb_tells a 0) [ inl same ↦ inl same.1 | inr other ↦ inr other.1 ]
 
-free-decided : (address end : ℕ) (xs : List Instance) → Decided (IsFree address end xs)
-free-decided address end [] = inl tt
-free-decided address end (x ∷ xs) = both-decided (either-decided (le-decided end x.address) (le-decided (end_of x) address)) (free-decided address end xs)
+free-decided : (g address end : ℕ) (xs : List Instance) → Decided (IsFree g address end xs)
+free-decided g address end [] = inl tt
+free-decided g address end (x ∷ xs) = both-decided (either-decided (le-decided end x.address) (le-decided (end_of g x) address)) (free-decided g address end xs)
 
 clear-decided : (address end : ℕ) (rs : List Reserved) → Decided (IsClear address end rs)
 clear-decided address end [] = inl tt
@@ -41,11 +41,11 @@ clear-decided address end (r ∷ rs) = both-decided (either-decided (le-decided 
 room-decided : (m : Layout) (size alignment address : ℕ) → Decided (IsRoom m size alignment address)
 room-decided m size alignment address =
     go (both-decided (le-decided first_address address)
-    (both-decided (zero-decided (address % step_of alignment))
-    (both-decided (le-decided (address + taken size) m.limit)
-    (both-decided (free-decided address (address + taken size) m.instances) (clear-decided address (address + taken size) m.reserved)))))
+    (both-decided (zero-decided (address % step_of m.granule alignment))
+    (both-decided (le-decided (address + taken m.granule size) m.limit)
+    (both-decided (free-decided m.granule address (address + taken m.granule size) m.instances) (clear-decided address (address + taken m.granule size) m.reserved)))))
   where
-    go : Decided ((first_address ≤ address) × ((address % step_of alignment ≡ 0) × ((address + taken size ≤ m.limit) × (IsFree address (address + taken size) m.instances × IsClear address (address + taken size) m.reserved)))) → Decided (IsRoom m size alignment address)
+    go : Decided ((first_address ≤ address) × ((address % step_of m.granule alignment ≡ 0) × ((address + taken m.granule size ≤ m.limit) × (IsFree m.granule address (address + taken m.granule size) m.instances × IsClear address (address + taken m.granule size) m.reserved)))) → Decided (IsRoom m size alignment address)
     go (inl (from, (aligned, (inside, (free, clear))))) = inl (record { from = from; aligned = aligned; inside = inside; free = free; clear = clear })
     go (inr none) = inr (λ room. none (room.from, (room.aligned, (room.inside, (room.free, room.clear)))))
 

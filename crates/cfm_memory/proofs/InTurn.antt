@@ -40,8 +40,8 @@ length-placed m (e ∷ extents) (p ∷ places) after placed = ap suc (length-pla
 -- no instance is at a place with room
 fresh : (m : Layout) (e : Extent) (p : Place) → IsPlaceFor m e p → bytes_at m.instances p.address ≡ None
 fresh m e p placed =
-    let some = some_taken e.size in
-    nothing_at_free m.instances p.address (p.address + taken e.size) (omega (arith, some)) placed.lowest.room.free
+    let some = some_taken m.granule e.size in
+    nothing_at_free m.granule m.instances p.address (p.address + taken m.granule e.size) (omega (arith, some)) placed.lowest.room.free
 
 -- if there are bytes the result isn't `None`
 some_is_not_none : {A : Type 0} (o : Option A) (x : A) → o ≡ Some x → o ≡ None → ⊥

@@ -16,49 +16,49 @@ use Rattle.cfm_memory.proofs.Placing.{some_taken}
 use Rattle.cfm_memory.proofs.Ranges.{begins_after}
 
 -- an address that has room has it among the instances that the code keeps
-room_seen : (m : Layout) (limit size alignment address : ℕ) (xs : List Instance) (rs : List Reserved) → record { limit = limit; instances = xs; reserved = rs } ≡ m → IsLowest m size alignment address
-    → IsRoom (record { limit = limit; instances = xs; reserved = rs }) size alignment address
-room_seen m limit size alignment address xs rs view_is lowest =
+room_seen : (g : ℕ) (m : Layout) (limit size alignment address : ℕ) (xs : List Instance) (rs : List Reserved) → record { granule = g; limit = limit; instances = xs; reserved = rs } ≡ m → IsLowest m size alignment address
+    → IsRoom (record { granule = g; limit = limit; instances = xs; reserved = rs }) size alignment address
+room_seen g m limit size alignment address xs rs view_is lowest =
     let P : Layout → Type 0 = λ k. IsRoom k size alignment address in
     subst P (sym view_is) lowest.room
 
-pub placed_kept : (m : Layout) (limit front size alignment address : ℕ) (bytes : List ℕ) (xs : List Instance) (rs : List Reserved) → record { limit = limit; instances = xs; reserved = rs } ≡ m → length bytes ≡ size
-    → IsLowest m size alignment address → IsKept limit xs rs front → IsKept limit (with_instance xs (record { address = address; bytes = bytes })) rs front
-placed_kept m limit front size alignment address bytes xs rs view_is size_is lowest kept =
-    let room = room_seen m limit size alignment address xs rs view_is lowest in
-    let some = some_taken size in
-    let Q : ℕ → Type 0 = λ n. (address + taken n ≤ limit) × IsFree address (address + taken n) xs × IsClear address (address + taken n) rs in
+pub placed_kept : (g : ℕ) (m : Layout) (limit front size alignment address : ℕ) (bytes : List ℕ) (xs : List Instance) (rs : List Reserved) → record { granule = g; limit = limit; instances = xs; reserved = rs } ≡ m → length bytes ≡ size
+    → IsLowest m size alignment address → IsKept g limit xs rs front → IsKept g limit (with_instance xs (record { address = address; bytes = bytes })) rs front
+placed_kept g m limit front size alignment address bytes xs rs view_is size_is lowest kept =
+    let room = room_seen g m limit size alignment address xs rs view_is lowest in
+    let some = some_taken g size in
+    let Q : ℕ → Type 0 = λ n. (address + taken g n ≤ limit) × IsFree g address (address + taken g n) xs × IsClear address (address + taken g n) rs in
     let there = subst Q (sym size_is) (room.inside, room.free, room.clear) in
     record {
-      laid_out = laid_out_with first_address limit xs (record { address = address; bytes = bytes }) room.from there.0 there.1 kept.laid_out;
+      laid_out = laid_out_with g first_address limit xs (record { address = address; bytes = bytes }) room.from there.0 there.1 kept.laid_out;
       in_turn = kept.in_turn;
-      clear = clear_with xs rs (record { address = address; bytes = bytes }) there.2 kept.clear;
-      is_front = front_with_new xs rs (record { address = address; bytes = bytes }) front (front_below xs rs front address (address + taken size) kept.is_front room.from (omega (arith, some)) room.free room.clear) kept.is_front;
+      clear = clear_with g xs rs (record { address = address; bytes = bytes }) there.2 kept.clear;
+      is_front = front_with_new g xs rs (record { address = address; bytes = bytes }) front (front_below g xs rs front address (address + taken g size) kept.is_front room.from (omega (arith, some)) room.free room.clear) kept.is_front;
       small = kept.small;
     }
 
 -- the map with a new entry has a new instance
-pub placed_is : (m : Layout) (limit size alignment address : ℕ) (v : Vec ℕ) (es : List (ℕ × Vec ℕ)) (rs : List Reserved) → record { limit = limit; instances = instances es; reserved = rs } ≡ m → IsLowest m size alignment address
+pub placed_is : (g : ℕ) (m : Layout) (limit size alignment address : ℕ) (v : Vec ℕ) (es : List (ℕ × Vec ℕ)) (rs : List Reserved) → record { granule = g; limit = limit; instances = instances es; reserved = rs } ≡ m → IsLowest m size alignment address
     → instances (insert_entry nat_cmp es address v) ≡ with_instance (instances es) (record { address = address; bytes = v.items })
-placed_is m limit size alignment address v es rs view_is lowest =
-    let room = room_seen m limit size alignment address (instances es) rs view_is lowest in
-    let some = some_taken size in
-    inserted_is es address v (nothing_at_free (instances es) address (address + taken size) (omega (arith, some)) room.free)
+placed_is g m limit size alignment address v es rs view_is lowest =
+    let room = room_seen g m limit size alignment address (instances es) rs view_is lowest in
+    let some = some_taken g size in
+    inserted_is es address v (nothing_at_free g (instances es) address (address + taken g size) (omega (arith, some)) room.free)
 
-pub given_back_kept : (limit front address : ℕ) (bytes : List ℕ) (xs : List Instance) (rs : List Reserved) → bytes_at xs address ≡ Some bytes → IsKept limit xs rs front → IsKept limit (without xs address) rs (min front address)
-given_back_kept limit front address bytes xs rs there kept = record {
-  laid_out = laid_out_without first_address limit xs address kept.laid_out;
+pub given_back_kept : (g limit front address : ℕ) (bytes : List ℕ) (xs : List Instance) (rs : List Reserved) → bytes_at xs address ≡ Some bytes → IsKept g limit xs rs front → IsKept g limit (without xs address) rs (min front address)
+given_back_kept g limit front address bytes xs rs there kept = record {
+  laid_out = laid_out_without g first_address limit xs address kept.laid_out;
   in_turn = kept.in_turn;
-  clear = clear_without xs rs address kept.clear;
-  is_front = front_without limit xs rs front address bytes (begins_after xs address first_address limit bytes kept.laid_out there) kept.laid_out there kept.is_front;
+  clear = clear_without g xs rs address kept.clear;
+  is_front = front_without g limit xs rs front address bytes (begins_after g xs address first_address limit bytes kept.laid_out there) kept.laid_out there kept.is_front;
   small = kept.small;
 }
 
-pub written_kept : (limit front address : ℕ) (w : List ℕ) (xs : List Instance) (rs : List Reserved) → IsKept limit xs rs front → IsKept limit (with_bytes xs address w) rs front
-written_kept limit front address w xs rs kept = record {
-  laid_out = laid_out_written first_address limit xs address w kept.laid_out;
+pub written_kept : (g limit front address : ℕ) (w : List ℕ) (xs : List Instance) (rs : List Reserved) → IsKept g limit xs rs front → IsKept g limit (with_bytes xs address w) rs front
+written_kept g limit front address w xs rs kept = record {
+  laid_out = laid_out_written g first_address limit xs address w kept.laid_out;
   in_turn = kept.in_turn;
-  clear = clear_written xs rs address w kept.clear;
-  is_front = front_written xs rs front address w kept.is_front;
+  clear = clear_written g xs rs address w kept.clear;
+  is_front = front_written g xs rs front address w kept.is_front;
   small = kept.small;
 }

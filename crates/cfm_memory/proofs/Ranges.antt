@@ -6,9 +6,9 @@ use Rattle.cfm_memory.specs.Placement.{IsLaidOut}
 use Rattle.cfm_memory.proofs.Contents.{nothing_before}
 
 -- an instance among those from an address on begins there or after it
-pub begins_after : (xs : List Instance) (address from limit : ℕ) (bytes : List ℕ) → IsLaidOut from limit xs → bytes_at xs address ≡ Some bytes → from ≤ address
-begins_after xs address from limit bytes laid is =
+pub begins_after : (g : ℕ) (xs : List Instance) (address from limit : ℕ) (bytes : List ℕ) → IsLaidOut g from limit xs → bytes_at xs address ≡ Some bytes → from ≤ address
+begins_after g xs address from limit bytes laid is =
     elim (cases_lt address from) [
-      | inl less ↦ (let none = nothing_before xs address from limit less laid in absurd (cc))
+      | inl less ↦ (let none = nothing_before g xs address from limit less laid in absurd (cc))
       | inr le ↦ le
     ]

@@ -45,23 +45,23 @@ passed_next a zero (r ∷ rs) d under passed ends = (ends, tt)
 passed_next a (suc i) (r ∷ rs) d under passed ends = (passed.0, passed_next a i rs d (omega arith) passed.1 ends)
 
 -- no lower address is vacant
-pub record IsLeast (bytes step : ℕ) (xs : List Instance) (rs : List Reserved) (address : ℕ) : Type 0 where
+pub record IsLeast (g bytes step : ℕ) (xs : List Instance) (rs : List Reserved) (address : ℕ) : Type 0 where
   pub low : first_address ≤ address
   pub aligned : address % step ≡ 0
-  pub free : IsFree address (address + bytes) xs
-  pub first : (other : ℕ) → first_address ≤ other → other % step ≡ 0 → IsFree other (other + bytes) xs → IsClear other (other + bytes) rs → address ≤ other
+  pub free : IsFree g address (address + bytes) xs
+  pub first : (other : ℕ) → first_address ≤ other → other % step ≡ 0 → IsFree g other (other + bytes) xs → IsClear other (other + bytes) rs → address ≤ other
 
-pub least_first : (bytes step front address : ℕ) (xs : List Instance) (rs : List Reserved) → 0 < bytes → IsFront xs rs front → IsFirstFree bytes step front xs address → IsLeast bytes step xs rs address
-least_first bytes step front address xs rs some is first = record {
+pub least_first : (g bytes step front address : ℕ) (xs : List Instance) (rs : List Reserved) → 0 < bytes → IsFront g xs rs front → IsFirstFree g bytes step front xs address → IsLeast g bytes step xs rs address
+least_first g bytes step front address xs rs some is first = record {
   low = (let h = is.low in let k = first.low in omega arith);
   aligned = first.aligned;
   free = first.free;
-  first = λ other low aligned free clear. first.first other (front_below xs rs front other (other + bytes) is low (omega (arith, some)) free clear) aligned free;
+  first = λ other low aligned free clear. first.first other (front_below g xs rs front other (other + bytes) is low (omega (arith, some)) free clear) aligned free;
 }
 
-pub least_past : (bytes step address next k : ℕ) (xs : List Instance) (rs : List Reserved) (d : Reserved) → k < length rs → (get_or rs k d).from < address + bytes → address < (get_or rs k d).to
-    → IsLeast bytes step xs rs address → IsFirstFree bytes step (get_or rs k d).to xs next → IsLeast bytes step xs rs next
-least_past bytes step address next k xs rs d under over short least first = record {
+pub least_past : (g bytes step address next k : ℕ) (xs : List Instance) (rs : List Reserved) (d : Reserved) → k < length rs → (get_or rs k d).from < address + bytes → address < (get_or rs k d).to
+    → IsLeast g bytes step xs rs address → IsFirstFree g bytes step (get_or rs k d).to xs next → IsLeast g bytes step xs rs next
+least_past g bytes step address next k xs rs d under over short least first = record {
   low = (let h = least.low in let n = first.low in omega arith);
   aligned = first.aligned;
   free = first.free;
@@ -70,8 +70,8 @@ least_past bytes step address next k xs rs d under over short least first = reco
       first.first other (elim (clear_at other (other + bytes) k rs d under clear) as (λ _. (get_or rs k d).to ≤ other) [ inl e ↦ absurd (omega (arith, e, over, h)) | inr e ↦ e ]) aligned free;
 }
 
-pub least_vacant : (bytes step address : ℕ) (xs : List Instance) (rs : List Reserved) → IsLeast bytes step xs rs address → IsClear address (address + bytes) rs → IsFirstVacant bytes step first_address xs rs address
-least_vacant bytes step address xs rs least clear = record { low = least.low; aligned = least.aligned; free = least.free; clear = clear; first = least.first }
+pub least_vacant : (g bytes step address : ℕ) (xs : List Instance) (rs : List Reserved) → IsLeast g bytes step xs rs address → IsClear address (address + bytes) rs → IsFirstVacant g bytes step first_address xs rs address
+least_vacant g bytes step address xs rs least clear = record { low = least.low; aligned = least.aligned; free = least.free; clear = clear; first = least.first }
 
 -- a range is inserted after those that end before it
 pub insert_is : (from i : ℕ) (rs : List Reserved) (y d : Reserved) → y.from < y.to → i ≤ length rs → AreInTurn from rs → AllPassed y.from (take i rs) → (i < length rs → y.to ≤ (get_or rs i d).from) → insert rs i y ≡ with_range rs y
@@ -123,22 +123,22 @@ clear_without_range address end (r ∷ rs) y clear =
     ]
 
 -- no instance meets them, and the front stays one
-pub are_clear_with : (xs : List Instance) (rs : List Reserved) (y : Reserved) → IsFree y.from y.to xs → AreClear xs rs → AreClear xs (with_range rs y)
-are_clear_with [] rs y free clear = tt
-are_clear_with (x ∷ xs) rs y free clear = (
-  clear_with_range x.address (end_of x) rs y (elim (free.0) as (λ _. (end_of x ≤ y.from) ⊎ (y.to ≤ x.address)) [ inl h ↦ inr h | inr h ↦ inl h ]) clear.0,
-  are_clear_with xs rs y free.1 clear.1,
+pub are_clear_with : (g : ℕ) (xs : List Instance) (rs : List Reserved) (y : Reserved) → IsFree g y.from y.to xs → AreClear g xs rs → AreClear g xs (with_range rs y)
+are_clear_with g [] rs y free clear = tt
+are_clear_with g (x ∷ xs) rs y free clear = (
+  clear_with_range x.address (end_of g x) rs y (elim (free.0) as (λ _. (end_of g x ≤ y.from) ⊎ (y.to ≤ x.address)) [ inl h ↦ inr h | inr h ↦ inl h ]) clear.0,
+  are_clear_with g xs rs y free.1 clear.1,
 )
 
-pub front_reserved : (xs : List Instance) (rs : List Reserved) (y : Reserved) (front : ℕ) → IsFront xs rs front → IsFront xs (with_range rs y) front
-front_reserved xs rs y front is = record { low = is.low; between = is.between; full = λ other low free clear. is.full other low free (clear_without_range other (other + 1) rs y clear) }
+pub front_reserved : (g : ℕ) (xs : List Instance) (rs : List Reserved) (y : Reserved) (front : ℕ) → IsFront g xs rs front → IsFront g xs (with_range rs y) front
+front_reserved g xs rs y front is = record { low = is.low; between = is.between; full = λ other low free clear. is.full other low free (clear_without_range other (other + 1) rs y clear) }
 
 -- the invariant of a memory with one more range
-pub reserved_kept : (limit front : ℕ) (xs : List Instance) (rs : List Reserved) (y : Reserved) → y.from < y.to → y.to ≤ 2 ^ 32 → IsFree y.from y.to xs → IsClear y.from y.to rs → IsKept limit xs rs front → IsKept limit xs (with_range rs y) front
-reserved_kept limit front xs rs y some high free clear kept = record {
+pub reserved_kept : (g limit front : ℕ) (xs : List Instance) (rs : List Reserved) (y : Reserved) → y.from < y.to → y.to ≤ 2 ^ 32 → IsFree g y.from y.to xs → IsClear y.from y.to rs → IsKept g limit xs rs front → IsKept g limit xs (with_range rs y) front
+reserved_kept g limit front xs rs y some high free clear kept = record {
   laid_out = kept.laid_out;
   in_turn = in_turn_with 0 rs y (omega arith) some high clear kept.in_turn;
-  clear = are_clear_with xs rs y free kept.clear;
-  is_front = front_reserved xs rs y front kept.is_front;
+  clear = are_clear_with g xs rs y free kept.clear;
+  is_front = front_reserved g xs rs y front kept.is_front;
   small = kept.small;
 }

@@ -4,6 +4,7 @@
 -- places are given in turn is this project's own rule of placement.
 use Rattle.std.specs.Prelude.{◌≡◌, ◌≢◌, ◌⊎◌, ⊤, ℕ, ◌<◌, List, [], ◌∷◌, All, IsTrue, Some, length, replicate, slice_index_or}
 use Rattle.cfm_memory.specs.Instances.{Layout, bytes_at, holds_place, with_instances, without}
+use Rattle.cfm_memory.specs.Limits.{grain}
 use Rattle.cfm_memory.specs.Placement.{IsLowest, IsRoom, with_new}
 use Rattle.cfm_memory.specs.declared.place.Place.{Place}
 use Rattle.cfm_memory.specs.declared.place.MemoryFault.{MemoryFault}
@@ -41,8 +42,12 @@ MayNotPlace NoRoom m extents = LackRoom m extents
 MayNotPlace OutOfMemory m extents = ⊤
 
 -- memory without instances and reserved ranges
+abbrev pub empty_memory : ℕ → ℕ → Layout
+empty_memory granule limit = record { granule = granule; limit = limit; instances = []; reserved = [] }
+
+-- the same if no granule was asked for
 abbrev pub no_instances : ℕ → Layout
-no_instances limit = record { limit = limit; instances = []; reserved = [] }
+no_instances limit = empty_memory grain limit
 
 -- place k
 abbrev pub place_at : List Place → ℕ → Place

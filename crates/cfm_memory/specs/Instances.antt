@@ -10,9 +10,10 @@ pub record Instance : Type 0 where
   pub address : ℕ
   pub bytes : List ℕ
 
--- a memory: the address that no instance may exceed, the instances in the order of their addresses, and the reserved
--- ranges in theirs
+-- a memory: what the addresses of its instances are multiples of, the address that no instance may exceed, the instances
+-- in the order of their addresses, and the reserved ranges in theirs
 pub record Layout : Type 0 where
+  pub granule : ℕ
   pub limit : ℕ
   pub instances : List Instance
   pub reserved : List Reserved

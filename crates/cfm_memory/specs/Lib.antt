@@ -1,5 +1,6 @@
 pub mod Extents
 pub mod Faults
+pub mod Granules
 pub mod Instances
 pub mod Kept
 pub mod Lending

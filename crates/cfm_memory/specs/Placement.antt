@@ -8,24 +8,24 @@ use Rattle.cfm_memory.specs.declared.place.Place.{Place}
 use Rattle.cfm_memory.specs.declared.place.Reserved.{Reserved}
 use Rattle.cfm_memory.specs.declared.place.MemoryFault.{MemoryFault}
 use Rattle.cfm_memory.specs.declared.place.MemoryFault.TheVariants.{NoRoom, OutOfMemory}
-use Rattle.cfm_memory.specs.Limits.{first_address, grain}
+use Rattle.cfm_memory.specs.Limits.{first_address}
 
--- the bytes that an instance of some size takes: at least one, rounded up to a multiple of the grain
-unfoldable pub taken : ℕ → ℕ
-taken size = next_multiple_of (max size 1) grain
+-- the bytes that an instance of some size takes: at least one, rounded up to a multiple of the granule
+unfoldable pub taken : ℕ → ℕ → ℕ
+taken granule size = next_multiple_of (max size 1) granule
 
 -- the number of which the address of an instance is a multiple, from the exponent of its alignment
-unfoldable pub step_of : ℕ → ℕ
-step_of alignment = max grain (2 ^ alignment)
+unfoldable pub step_of : ℕ → ℕ → ℕ
+step_of granule alignment = max granule (2 ^ alignment)
 
 -- the address after the last byte that an instance takes
-abbrev pub end_of : Instance → ℕ
-end_of x = x.address + taken (length x.bytes)
+abbrev pub end_of : ℕ → Instance → ℕ
+end_of granule x = x.address + taken granule (length x.bytes)
 
 -- the bytes from an address to an end overlap no instance
-abbrev pub IsFree : ℕ → ℕ → List Instance → Type 0
-IsFree address end [] = Unit {0}
-IsFree address end (x ∷ xs) = ((end ≤ x.address) ⊎ (end_of x ≤ address)) × IsFree address end xs
+abbrev pub IsFree : ℕ → ℕ → ℕ → List Instance → Type 0
+IsFree granule address end [] = Unit {0}
+IsFree granule address end (x ∷ xs) = ((end ≤ x.address) ⊎ (end_of granule x ≤ address)) × IsFree granule address end xs
 
 -- they meet no reserved range
 abbrev pub IsClear : ℕ → ℕ → List Reserved → Type 0
@@ -35,10 +35,10 @@ IsClear address end (r ∷ rs) = ((end ≤ r.from) ⊎ (r.to ≤ address)) × Is
 -- an address at which an instance of some size and alignment has room
 pub record IsRoom (m : Layout) (size alignment address : ℕ) : Type 0 where
   pub from : first_address ≤ address
-  pub aligned : address % step_of alignment ≡ 0
-  pub inside : address + taken size ≤ m.limit
-  pub free : IsFree address (address + taken size) m.instances
-  pub clear : IsClear address (address + taken size) m.reserved
+  pub aligned : address % step_of m.granule alignment ≡ 0
+  pub inside : address + taken m.granule size ≤ m.limit
+  pub free : IsFree m.granule address (address + taken m.granule size) m.instances
+  pub clear : IsClear address (address + taken m.granule size) m.reserved
 
 -- the lowest address with room
 pub record IsLowest (m : Layout) (size alignment address : ℕ) : Type 0 where
@@ -56,9 +56,9 @@ MayRefuse m size alignment NoRoom = (address : ℕ) → IsRoom m size alignment 
 MayRefuse m size alignment OutOfMemory = (address : ℕ) × IsRoom m size alignment address
 
 -- instances from an address on up to a limit, one after the other
-abbrev pub IsLaidOut : ℕ → ℕ → List Instance → Type 0
-IsLaidOut from limit [] = Unit {0}
-IsLaidOut from limit (x ∷ xs) = (from ≤ x.address) × (end_of x ≤ limit) × IsLaidOut (end_of x) limit xs
+abbrev pub IsLaidOut : ℕ → ℕ → ℕ → List Instance → Type 0
+IsLaidOut granule from limit [] = Unit {0}
+IsLaidOut granule from limit (x ∷ xs) = (from ≤ x.address) × (end_of granule x ≤ limit) × IsLaidOut granule (end_of granule x) limit xs
 
 -- reserved ranges from an address on, one after the other, none of them empty
 abbrev pub AreInTurn : ℕ → List Reserved → Type 0
@@ -66,13 +66,13 @@ AreInTurn from [] = from ≤ 2 ^ 32
 AreInTurn from (r ∷ rs) = (from ≤ r.from) × (r.from < r.to) × AreInTurn r.to rs
 
 -- no instance meets a reserved range
-abbrev pub AreClear : List Instance → List Reserved → Type 0
-AreClear [] rs = Unit {0}
-AreClear (x ∷ xs) rs = IsClear x.address (end_of x) rs × AreClear xs rs
+abbrev pub AreClear : ℕ → List Instance → List Reserved → Type 0
+AreClear granule [] rs = Unit {0}
+AreClear granule (x ∷ xs) rs = IsClear x.address (end_of granule x) rs × AreClear granule xs rs
 
 -- the instances of a memory lie in the order of their addresses, its reserved ranges in theirs, and none of them
 -- overlaps another
 pub record IsInOrder (m : Layout) : Type 0 where
-  pub laid_out : IsLaidOut first_address m.limit m.instances
+  pub laid_out : IsLaidOut m.granule first_address m.limit m.instances
   pub in_turn : AreInTurn 0 m.reserved
-  pub clear : AreClear m.instances m.reserved
+  pub clear : AreClear m.granule m.instances m.reserved

@@ -22,7 +22,7 @@ with_range (r ∷ rs) y = if nat_lt r.from y.from then r ∷ with_range rs y els
 -- a range that can be reserved: it has addresses of 32 bits, and meets no instance and no other range
 pub record IsVacant (m : Layout) (range : Reserved) : Type 0 where
   pub inside : range.to ≤ 2 ^ 32
-  pub free : IsFree range.from range.to m.instances
+  pub free : IsFree m.granule range.from range.to m.instances
   pub clear : IsClear range.from range.to m.reserved
 
 -- a memory with one more reserved range

@@ -10,4 +10,4 @@ instance_seen e = record { address = e.0; bytes = e.1.items }
 
 -- the memory, as all clauses see it
 abbrev pub layout : Inside → Layout
-layout m = record { limit = m.limit; instances = map instance_seen m.instances.entries; reserved = m.reserved.items }
+layout m = record { granule = m.granule.bytes; limit = m.limit; instances = map instance_seen m.instances.entries; reserved = m.reserved.items }

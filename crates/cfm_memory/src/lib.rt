@@ -5,8 +5,10 @@
 //! headers), but not where it lies.
 #![tactic(auto)]
 
+mod granule;
 mod memory;
 mod place;
 
+pub use granule::{Granule, GranuleFault};
 pub use memory::Memory;
 pub use place::{MemoryFault, Place, Reserved};

@@ -2,6 +2,7 @@ ghost use Rattle.std.specs.Prelude.{◌≡◌, ℕ, ◌+◌, ◌*◌, ◌/◌, �
 ghost use Rattle.std.specs.Option.{IfNone, option_copied};
 ghost use Rattle.std.specs.Result.{IfErr, OnErr};
 ghost use Rattle.std.specs.Borrow.{sem};
+ghost use Rattle.cfm_memory.specs.Extents.{empty_memory, no_instances};
 ghost use Rattle.cfm_memory.specs.Instances.{bytes_at, holds_place, range_at, with_instances, without};
 ghost use Rattle.cfm_memory.specs.Lending.{LendsPart};
 ghost use Rattle.cfm_memory.specs.Limits.{first_address, greatest_alignment};
@@ -9,6 +10,7 @@ ghost use Rattle.cfm_memory.specs.Placement.{taken, step_of, AreInTurn, IsClear,
 ghost use Rattle.cfm_memory.specs.Reservation.{IsVacant, MayNotReserve, Reserves, reserved_range, with_range};
 ghost use Rattle.cfm_memory.specs.Kept.Searches.{IsFirstFree, IsFirstVacant, IsFront, part_of};
 
+use crate::granule::{Granule, taken_by};
 use crate::place::{MemoryFault, Place, Reserved};
 use std::alloc::{AllocError, Global};
 use std::collections::BTreeMap;
@@ -18,7 +20,7 @@ use std::marker::Model;
 /// The lowest address of an instance.
 const FIRST_ADDRESS: u32 = 0x0001_0000;
 
-/// The addresses of instances, and their sizes rounded up, are multiples of this.
+/// The ends of reserved ranges are multiples of this.
 const GRAIN: u64 = 16;
 
 /// The address after the last one.
@@ -30,6 +32,7 @@ const GREATEST_END: u64 = 1 << 32;
 #[derive(Drop)]
 pub struct Memory {
     alloc: Global,
+    granule: Granule,
     limit: u32,
     /// No address below this one has room, and no instance lies across it.
     front: u32,
@@ -50,7 +53,7 @@ impl Model for Memory {
 
     ghost view = { layout };
 
-    ghost invariant = { λ m. IsKept m.limit (map instance_seen m.instances.entries) m.reserved.items m.front };
+    ghost invariant = { λ m. IsKept m.granule.bytes m.limit (map instance_seen m.instances.entries) m.reserved.items m.front };
 }
 
 /// Prints the limit and the number of instances, without their bytes.
@@ -66,10 +69,19 @@ impl fmt::Debug for Memory {
 impl Memory {
     /// Returns memory without instances and reserved ranges, in which none may exceed the address `limit`.
     pub fn new(alloc: Global, limit: u32) -> Memory
-        ensures { result ≡ record { limit = limit; instances = []; reserved = [] } }
+        ensures { result ≡ no_instances limit }
+    {
+        Memory::with_granule(alloc, limit, Granule::least())
+    }
+
+    /// Returns memory without instances and reserved ranges. None may exceed the address `limit`. Each instance begins at
+    /// a multiple of the granule, and takes a multiple of it.
+    pub fn with_granule(alloc: Global, limit: u32, granule: Granule) -> Memory
+        ensures { result ≡ empty_memory granule.bytes limit }
     {
         Memory {
             alloc,
+            granule,
             limit,
             front: FIRST_ADDRESS,
             instances: BTreeMap::new(alloc),
@@ -77,10 +89,17 @@ impl Memory {
         }
     }
 
+    /// Returns what instances begin at multiples of, and take multiples of.
+    pub fn granule(&self) -> Granule
+        ensures { result.bytes ≡ self.now.granule }
+    {
+        self.granule
+    }
+
     /// Places a new instance of `size` zero bytes at the lowest address that has room for it.
     ///
-    /// An instance takes at least one byte, rounded up to a multiple of 16. Its address is a multiple
-    /// of 16 and of 2^`alignment`, from 00010000 (hex) on. `alignment` is an exponent of two, at most
+    /// An instance takes at least one byte, rounded up to a multiple of the granule. Its address is a multiple
+    /// of the granule and of 2^`alignment`, from 00010000 (hex) on. `alignment` is an exponent of two, at most
     /// 31, as in a section header.
     ///
     /// # Errors
@@ -113,8 +132,8 @@ impl Memory {
         ensures { MatchOption result ((address : ℕ) → IsRoom self.now size alignment address → ⊥) (λ address. IsLowest self.now size alignment address) }
     {
         let limit = self.limit;
-        let taken = taken_by(u64::from(size));
-        let address = self.first_vacant(taken, step_by(alignment));
+        let taken = taken_by(self.granule, u64::from(size));
+        let address = self.first_vacant(taken, step_by(self.granule, alignment));
         if address + taken > u64::from(limit) {
             return None;
         }
@@ -124,8 +143,8 @@ impl Memory {
     /// Returns the lowest multiple of `step` from which `taken` bytes meet no instance and no reserved range.
     fn first_vacant(&self, taken: u64, step: u64) -> u64
         requires taken { (0 < taken) × (taken ≤ 2 ^ 33) }
-        requires step { (0 < step) × (step ≤ 2 ^ 31) }
-        ensures first { IsFirstVacant taken step first_address self.now.instances self.now.reserved result }
+        requires step { (0 < step) × (step ≤ 2 ^ 32) }
+        ensures first { IsFirstVacant self.now.granule taken step first_address self.now.instances self.now.reserved result }
         ensures bound { result < 2 ^ 33 }
     {
         let mut address = self.first_free(u64::from(self.front), taken, step);
@@ -144,10 +163,10 @@ impl Memory {
     /// lie across `from`.
     fn first_free(&self, from: u64, taken: u64, step: u64) -> u64
         requires from { from ≤ 2 ^ 32 }
-        requires between { IsFree from from self.now.instances }
+        requires between { IsFree self.now.granule from from self.now.instances }
         requires taken { (0 < taken) × (taken ≤ 2 ^ 33) }
-        requires step { (0 < step) × (step ≤ 2 ^ 31) }
-        ensures first { IsFirstFree taken step from self.now.instances result }
+        requires step { (0 < step) × (step ≤ 2 ^ 32) }
+        ensures first { IsFirstFree self.now.granule taken step from self.now.instances result }
         ensures bound { result < 2 ^ 33 }
     {
         let mut address = from.next_multiple_of(step);
@@ -159,7 +178,7 @@ impl Memory {
             if address + taken <= start {
                 return address;
             }
-            let end = start + taken_by(bytes.len() as u64);
+            let end = start + taken_by(self.granule, bytes.len() as u64);
             address = address.max(end.next_multiple_of(step));
         }
         address
@@ -168,7 +187,7 @@ impl Memory {
     /// Returns the lowest address that may be free: the one after the instances and the reserved ranges that follow one
     /// another from the front on.
     fn next_front(&self) -> u32
-        ensures { IsFront self.now.instances self.now.reserved result }
+        ensures { IsFront self.now.granule self.now.instances self.now.reserved result }
     {
         let mut front = self.after_instances(self.front);
         for range in &self.reserved {
@@ -184,12 +203,12 @@ impl Memory {
 
     /// Returns the address after the instances that follow one another from a front on.
     fn after_instances(&self, from: u32) -> u32
-        requires { IsFront self.now.instances self.now.reserved from }
-        ensures { IsFront self.now.instances self.now.reserved result }
+        requires { IsFront self.now.granule self.now.instances self.now.reserved from }
+        ensures { IsFront self.now.granule self.now.instances self.now.reserved result }
     {
         let mut front = from;
         while let Some(bytes) = self.instances.get(&front) {
-            front = (u64::from(front) + taken_by(bytes.len() as u64)) as u32;
+            front = (u64::from(front) + taken_by(self.granule, bytes.len() as u64)) as u32;
         }
         front
     }
@@ -226,13 +245,13 @@ impl Memory {
     fn is_free(&self, range: Reserved) -> bool
         requires some { range.from < range.to }
         requires inside { range.to ≤ 2 ^ 32 }
-        ensures yes { result ≡ true → IsFree range.from range.to self.now.instances }
-        ensures no { result ≡ false → IsFree range.from range.to self.now.instances → ⊥ }
+        ensures yes { result ≡ true → IsFree self.now.granule range.from range.to self.now.instances }
+        ensures no { result ≡ false → IsFree self.now.granule range.from range.to self.now.instances → ⊥ }
     {
         let last = (range.to - 1) as u32;
         match self.instances.range(..=last).next_back() {
             Some((start, bytes)) => {
-                u64::from(*start) + taken_by(bytes.len() as u64) <= range.from
+                u64::from(*start) + taken_by(self.granule, bytes.len() as u64) <= range.from
             }
             None => true,
         }
@@ -242,7 +261,7 @@ impl Memory {
     #[tactic(auto, using(crate::proofs::Changes::in_order_seen))]
     pub fn holds(&self, place: Place) -> bool
         ensures held { result ≡ holds_place self.now place }
-        ensures clear { result ≡ true → IsClear place.address (place.address + taken place.size) self.now.reserved }
+        ensures clear { result ≡ true → IsClear place.address (place.address + taken self.now.granule place.size) self.now.reserved }
         ensures in_order { IsInOrder self.now }
     {
         match self.instances.get(&place.address) {
@@ -355,21 +374,12 @@ fn zeros(alloc: Global, len: usize) -> Result<Vec<u8>, AllocError>
     vec![in alloc; 0; len]
 }
 
-/// Returns how many bytes an instance of `size` bytes takes.
-#[tactic(auto, unfolding(crate::specs::Placement::taken))]
-fn taken_by(size: u64) -> u64
-    requires { size ≤ 2 ^ 32 }
-    ensures { result ≡ taken size }
-{
-    size.max(1).next_multiple_of(GRAIN)
-}
-
 /// Returns the number of which an instance's address is a multiple.
 #[tactic(auto, unfolding(crate::specs::Placement::step_of))]
-fn step_by(alignment: u8) -> u64
+fn step_by(granule: Granule, alignment: u8) -> u64
     requires { alignment ≤ greatest_alignment }
-    ensures value { result ≡ step_of alignment }
-    ensures bounds { (0 < result) × (result ≤ 2 ^ 31) }
+    ensures value { result ≡ step_of granule.bytes alignment }
+    ensures bounds { (0 < result) × (result ≤ 2 ^ 32) }
 {
-    GRAIN.max(1 << alignment)
+    u64::from(granule.bytes()).max(1 << alignment)
 }

@@ -6,34 +6,34 @@ use Rattle.cfm_memory.specs.Placement.{AreClear, AreInTurn, IsClear, IsFree, IsL
 use Rattle.cfm_memory.specs.declared.place.Reserved.{Reserved}
 
 -- an address below which nothing is free, and across which no instance lies
-pub record IsFront (xs : List Instance) (rs : List Reserved) (front : ℕ) : Type 0 where
+pub record IsFront (granule : ℕ) (xs : List Instance) (rs : List Reserved) (front : ℕ) : Type 0 where
   pub low : first_address ≤ front
-  pub between : IsFree front front xs
-  pub full : (other : ℕ) → first_address ≤ other → IsFree other (other + 1) xs → IsClear other (other + 1) rs → front ≤ other
+  pub between : IsFree granule front front xs
+  pub full : (other : ℕ) → first_address ≤ other → IsFree granule other (other + 1) xs → IsClear other (other + 1) rs → front ≤ other
 
 -- the invariant of a memory: its instances are laid out, so are its reserved ranges, its front is one, and its limit has
 -- 32 bits
-pub record IsKept (limit : ℕ) (xs : List Instance) (rs : List Reserved) (front : ℕ) : Type 0 where
-  pub laid_out : IsLaidOut first_address limit xs
+pub record IsKept (granule limit : ℕ) (xs : List Instance) (rs : List Reserved) (front : ℕ) : Type 0 where
+  pub laid_out : IsLaidOut granule first_address limit xs
   pub in_turn : AreInTurn 0 rs
-  pub clear : AreClear xs rs
-  pub is_front : IsFront xs rs front
+  pub clear : AreClear granule xs rs
+  pub is_front : IsFront granule xs rs front
   pub small : limit < 2 ^ 32
 
 -- the first multiple of a step, from an address on, at which some bytes overlap no instance
-pub record IsFirstFree (bytes step from : ℕ) (xs : List Instance) (address : ℕ) : Type 0 where
+pub record IsFirstFree (granule bytes step from : ℕ) (xs : List Instance) (address : ℕ) : Type 0 where
   pub low : from ≤ address
   pub aligned : address % step ≡ 0
-  pub free : IsFree address (address + bytes) xs
-  pub first : (other : ℕ) → from ≤ other → other % step ≡ 0 → IsFree other (other + bytes) xs → address ≤ other
+  pub free : IsFree granule address (address + bytes) xs
+  pub first : (other : ℕ) → from ≤ other → other % step ≡ 0 → IsFree granule other (other + bytes) xs → address ≤ other
 
 -- the same where they also meet no reserved range
-pub record IsFirstVacant (bytes step from : ℕ) (xs : List Instance) (rs : List Reserved) (address : ℕ) : Type 0 where
+pub record IsFirstVacant (granule bytes step from : ℕ) (xs : List Instance) (rs : List Reserved) (address : ℕ) : Type 0 where
   pub low : from ≤ address
   pub aligned : address % step ≡ 0
-  pub free : IsFree address (address + bytes) xs
+  pub free : IsFree granule address (address + bytes) xs
   pub clear : IsClear address (address + bytes) rs
-  pub first : (other : ℕ) → from ≤ other → other % step ≡ 0 → IsFree other (other + bytes) xs → IsClear other (other + bytes) rs → address ≤ other
+  pub first : (other : ℕ) → from ≤ other → other % step ≡ 0 → IsFree granule other (other + bytes) xs → IsClear other (other + bytes) rs → address ≤ other
 
 -- all ranges end up to an address
 abbrev pub AllPassed : ℕ → List Reserved → Type 0

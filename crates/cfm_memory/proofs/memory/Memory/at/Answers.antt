@@ -19,10 +19,10 @@ returns-clause-range c =
     let last : ℕ × Vec ℕ = (c.in_ok-start.start.now, c.in_ok-start.bytes.now) in
     let is : entries_to c.args.address es ≡ c.next_back.new.self ++ last ∷ [] = sym (c.range.ensures.between tt) ∙ c.in_ok-start.ensures.steps in
     let begins = last_begins es c.next_back.new.self last c.args.address is in
-    let there = range_of_last first_address c.self.inside.limit es c.next_back.new.self last c.args.address c.args.len c.self.invariant.laid_out is in
+    let there = range_of_last c.self.inside.granule.bytes first_address c.self.inside.limit es c.next_back.new.self last c.args.address c.args.len c.self.invariant.laid_out is in
     rw (c.range_of.ensures, c.deref.ensures.value, ← c.self.view_is) (part_is (instance_seen last) c.args.address c.args.len begins ∙ sym there)
 
 pub returns-clause-clear : goal.returns-clause-clear
 returns-clause-clear c =
-    let order = in_order_seen c.self.inside.limit c.self.inside.front (instances c.self.inside.instances.entries) c.self.inside.reserved.items c.args.self.now c.self.view_is c.self.invariant in
+    let order = in_order_seen c.self.inside.granule.bytes c.self.inside.limit c.self.inside.front (instances c.self.inside.instances.entries) c.self.inside.reserved.items c.args.self.now c.self.view_is c.self.invariant in
     found_clear c.args.self.now c.range_of.result c.args.address c.args.len order (returns-clause-range c)

@@ -9,6 +9,6 @@ abbrev pub invariant-loop-start : goal.invariant-loop-start
 invariant-loop-start l = record {
   aligned : l.address % l.step ≡ 0;
   bound : l.address < 2 ^ 33;
-  laid_out : (from : ℕ) × IsLaidOut from (2 ^ 32) (map instance_seen l.start-iterator);
-  rest : (r : ℕ) → IsFirstFree l.taken l.step l.address (map instance_seen l.start-iterator) r → IsFirstFree l.taken l.step l.from l.self.instances r;
+  laid_out : (from : ℕ) × IsLaidOut l.self.granule from (2 ^ 32) (map instance_seen l.start-iterator);
+  rest : (r : ℕ) → IsFirstFree l.self.granule l.taken l.step l.address (map instance_seen l.start-iterator) r → IsFirstFree l.self.granule l.taken l.step l.from l.self.instances r;
 }

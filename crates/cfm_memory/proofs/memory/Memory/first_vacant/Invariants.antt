@@ -7,6 +7,6 @@ use Rattle.cfm_memory.proofs.memory.Memory.first_vacant.Given as goal
 abbrev pub invariant-loop-range : goal.invariant-loop-range
 invariant-loop-range l = record {
   bound : l.address < 2 ^ 33;
-  least : IsLeast l.taken l.step l.self.instances l.self.reserved l.address;
+  least : IsLeast l.self.granule l.taken l.step l.self.instances l.self.reserved l.address;
   passed : AllPassed l.address (take l.range-index l.range-items);
 }

@@ -9,8 +9,8 @@ pub invariant_of-self : goal.invariant_of-self
 invariant_of-self c =
     let es = c.self.inside.instances.entries in
     let is : instances c.remove.new.self.entries ≡ without (instances es) c.args.place.address = ap instances c.remove.ensures.entries ∙ removed_is es c.args.place.address in
-    let there = held_bytes es c.self.inside.limit c.self.inside.reserved.items c.args.place c.args.self.now c.self.view_is c.requires in
-    rw (is, c.min-self-inside.ensures) (given_back_kept c.self.inside.limit c.self.inside.front c.args.place.address there.0 (instances es) c.self.inside.reserved.items there.1 c.self.invariant)
+    let there = held_bytes c.self.inside.granule.bytes es c.self.inside.limit c.self.inside.reserved.items c.args.place c.args.self.now c.self.view_is c.requires in
+    rw (is, c.min-self-inside.ensures) (given_back_kept c.self.inside.granule.bytes c.self.inside.limit c.self.inside.front c.args.place.address there.0 (instances es) c.self.inside.reserved.items there.1 c.self.invariant)
 
 pub returns-clause-given_back : goal.returns-clause-given_back
 returns-clause-given_back c =

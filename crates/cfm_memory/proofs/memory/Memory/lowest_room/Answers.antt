@@ -5,13 +5,13 @@ use Rattle.cfm_memory.proofs.memory.Memory.lowest_room.Goals as goal
 
 pub first_vacant-address-requires-clause-taken : goal.first_vacant-address-requires-clause-taken
 first_vacant-address-requires-clause-taken c =
-    let some = some_taken c.from.result in
-    let most = taken_most c.from.result in
+    let some = some_taken c.self.inside.granule.bytes c.from.result in
+    let most = taken_most c.self.inside.granule.bytes c.from.result in
     (omega arith, omega arith)
 
 pub overflow_add-address : goal.overflow_add-address
 overflow_add-address c =
-    let most = taken_most c.from.result in
+    let most = taken_most c.self.inside.granule.bytes c.from.result in
     omega arith
 
 pub overflow_cast-result : goal.overflow_cast-result

@@ -12,8 +12,8 @@ after_instances-front-requires-then-range-from-2 c =
     let rs = c.deref-range-items.result.now in
     let is = c.deref-range-items.ensures.value in
     let xs = instances c.self.inside.instances.entries in
-    let clear = subst (AreClear xs) (sym is) c.self.invariant.clear in
-    let P : List Reserved → Type 0 = λ ranges. IsFront xs ranges c.loop-range.front in
+    let clear = subst (AreClear c.self.inside.granule.bytes xs) (sym is) c.self.invariant.clear in
+    let P : List Reserved → Type 0 = λ ranges. IsFront c.self.inside.granule.bytes xs ranges c.loop-range.front in
     let front = subst P (sym is) (rw (← c.self.view_is) at c.loop-range.invariant) in
-    let past = front_past xs rs c.loop-range.range-index c.loop-range.front (record { from = 0; to = 0 }) c.loop-range-test.true (omega (arith, c.if-range-from.true, c.from.ensures)) (omega (arith, c.if-from-range.true, c.from-then-range-from.ensures)) clear front in
+    let past = front_past c.self.inside.granule.bytes xs rs c.loop-range.range-index c.loop-range.front (record { from = 0; to = 0 }) c.loop-range-test.true (omega (arith, c.if-range-from.true, c.from.ensures)) (omega (arith, c.if-from-range.true, c.from-then-range-from.ensures)) clear front in
     rw (← c.self.view_is, ← is) past

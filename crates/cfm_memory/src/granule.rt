@@ -1,0 +1,100 @@
+ghost use Rattle.std.specs.Prelude.{◌≡◌, ◌^◌, ◌≤◌};
+ghost use Rattle.cfm_memory.specs.Placement.{taken};
+ghost use Rattle.pef_words.specs.Refusals.{result_map};
+ghost use Rattle.cfm_memory.specs.Faults.{granule_fault_name, granule_fault_number};
+ghost use Rattle.cfm_memory.specs.Granules.{granule_of};
+ghost use Rattle.cfm_memory.specs.Limits.{IsGranule, grain};
+
+use std::fmt;
+use thiserror::Error;
+
+/// What sections begin at multiples of, and take multiples of: a power of two from 16 on.
+#[derive(Clone, Copy, Debug)]
+pub struct Granule {
+    bytes: u32,
+    ghost is_granule: { IsGranule bytes },
+}
+
+impl Granule {
+    /// Returns the granule of this many bytes.
+    ///
+    /// # Errors
+    ///
+    /// `BadGranule` if it isn't a power of two, or is below 16.
+    pub fn new(bytes: u32) -> Result<Granule, GranuleFault>
+        ensures { result_map (λ g. g.bytes) result ≡ granule_of bytes }
+    {
+        if !bytes.is_power_of_two() || bytes < 16 {
+            return Err(GranuleFault::BadGranule);
+        }
+        Ok(Granule { bytes })
+    }
+
+    /// Returns the granule of 16 bytes, the least one. [`Memory::new`](crate::Memory::new) has it.
+    pub fn least() -> Granule
+        ensures { result.bytes ≡ grain }
+    {
+        Granule { bytes: 16 }
+    }
+
+    /// Returns how many bytes a section of `size` bytes takes: at least one, rounded up to a multiple of the granule.
+    pub fn taken(&self, size: u32) -> u64
+        ensures { result ≡ taken self.now.bytes size }
+    {
+        taken_by(*self, u64::from(size))
+    }
+
+    /// Returns how many bytes it has.
+    pub fn bytes(&self) -> u32
+        ensures { result ≡ self.now.bytes }
+    {
+        self.bytes
+    }
+}
+
+/// Returns how many bytes an instance of `size` bytes takes.
+#[tactic(auto, unfolding(crate::specs::Placement::taken))]
+pub(crate) fn taken_by(granule: Granule, size: u64) -> u64
+    requires { size ≤ 2 ^ 32 }
+    ensures { result ≡ taken granule.bytes size }
+{
+    size.max(1).next_multiple_of(u64::from(granule.bytes))
+}
+
+/// Why a number is no granule. The text is the refusal's name.
+#[derive(Clone, Copy, Debug, PartialEq, Eq, Error)]
+pub enum GranuleFault {
+    /// It isn't a power of two, or is below 16.
+    BadGranule,
+}
+
+impl GranuleFault {
+    /// Returns the refusal's number.
+    pub fn number(&self) -> u32
+        ensures { result ≡ granule_fault_number self.now }
+    {
+        match self {
+            GranuleFault::BadGranule => 205,
+        }
+    }
+
+    /// Returns the refusal's name, which is its text.
+    pub fn name(&self) -> &'static str
+        ensures { result.now ≡ granule_fault_name self.now }
+    {
+        match self {
+            GranuleFault::BadGranule => "BadGranule",
+        }
+    }
+}
+
+impl fmt::Display for GranuleFault {
+    ghost use Rattle.std.specs.Prelude.{Some};
+    ghost use Rattle.cfm_memory.specs.Faults.{granule_fault_name};
+
+    ghost output = { λ fault. Some (granule_fault_name fault) };
+
+    fn fmt<W: fmt::Write>(&self, f: &mut fmt::Formatter<W>) -> fmt::Result {
+        f.write_str(self.name())
+    }
+}
