@@ -1,10 +1,11 @@
 -- A context that gave no connection took no steps.
 use Rattle.std.proofs.Common.{◌≡◌, ◌≤◌, ◌+◌, ℕ, List, [], ◌∷◌, Some, ap, refl, sym, subst, ◌∙◌, inl, inr, arith}
-use Rattle.cfm_memory.specs.Extents.{no_instances}
+use Rattle.cfm_memory.specs.Extents.{empty_memory}
 use Rattle.cfm_memory.specs.Instances.{Layout}
 use Rattle.cfm_memory.specs.Reservation.{Reserves, reserved_range, with_range}
 use Rattle.cfm_closure.specs.Stores.{Pair}
-use Rattle.cfm_prepare.specs.Contexts.{ContextState, Open, added, fresh_state, open_of, unused_state}
+use Rattle.cfm_prepare.specs.Options.{Choices}
+use Rattle.cfm_prepare.specs.Contexts.{ContextState, Open, added, made_state, open_of, unused_state}
 use Rattle.cfm_prepare.specs.Runs.{Runs, Step, closed, prepared, reserved, stored}
 
 -- numbers are never reused
@@ -21,30 +22,30 @@ none-open : (number : ℕ) (o : Open) → open_of [] number ≡ Some o → ⊥
 none-open number o is = cc
 
 -- but for its store and its reserved ranges it is a new one
-abbrev IsUnused : ℕ → ContextState → Type 0
-IsUnused limit s = s ≡ unused_state s.pairs limit s.memory.reserved
+abbrev IsUnused : Choices → ContextState → Type 0
+IsUnused choices s = s ≡ unused_state s.pairs choices s.memory.reserved
 
 -- a reservation changes nothing else of a memory without instances
-still-empty : (m after : Layout) (limit address size : ℕ) → m ≡ record (no_instances limit) { reserved = m.reserved } → Reserves m address size after → after ≡ record (no_instances limit) { reserved = after.reserved }
-still-empty m after limit address size empty (inl none) = subst (λ (k : Layout). k ≡ record (no_instances limit) { reserved = k.reserved }) (sym none.1) empty
-still-empty m after limit address size empty (inr some) =
+still-empty : (m after : Layout) (choices : Choices) (address size : ℕ) → m ≡ record (empty_memory choices.granule choices.limit) { reserved = m.reserved } → Reserves m address size after → after ≡ record (empty_memory choices.granule choices.limit) { reserved = after.reserved }
+still-empty m after choices address size empty (inl none) = subst (λ (k : Layout). k ≡ record (empty_memory choices.granule choices.limit) { reserved = k.reserved }) (sym none.1) empty
+still-empty m after choices address size empty (inr some) =
     let ranges = with_range m.reserved (reserved_range address size) in
-    subst (λ (k : Layout). k ≡ record (no_instances limit) { reserved = k.reserved }) (sym some.2) (ap (λ (k : Layout). record k { reserved = ranges }) empty)
+    subst (λ (k : Layout). k ≡ record (empty_memory choices.granule choices.limit) { reserved = k.reserved }) (sym some.2) (ap (λ (k : Layout). record k { reserved = ranges }) empty)
 
-unused-reserve : (s : ContextState) (memory : Layout) (limit address size : ℕ) → IsUnused limit s → Reserves s.memory address size memory → IsUnused limit (record s { memory = memory })
-unused-reserve s memory limit address size fresh reserves =
-    let empty = still-empty s.memory memory limit address size (ap (λ (u : ContextState). u.memory) fresh) reserves in
-    ap (λ (u : ContextState). record u { memory = memory }) fresh ∙ ap (λ (k : Layout). record (fresh_state s.pairs limit) { memory = k }) empty
+unused-reserve : (s : ContextState) (memory : Layout) (choices : Choices) (address size : ℕ) → IsUnused choices s → Reserves s.memory address size memory → IsUnused choices (record s { memory = memory })
+unused-reserve s memory choices address size fresh reserves =
+    let empty = still-empty s.memory memory choices address size (ap (λ (u : ContextState). u.memory) fresh) reserves in
+    ap (λ (u : ContextState). record u { memory = memory }) fresh ∙ ap (λ (k : Layout). record (made_state s.pairs choices) { memory = k }) empty
 
-unused-from : (s t : ContextState) (limit : ℕ) (steps : List Step) → IsUnused limit s → Runs s steps t → t.given ≡ 0 → IsUnused limit t
-unused-from s t limit [] fresh run none = subst (IsUnused limit) (sym run) fresh
-unused-from s t limit (prepared name number ∷ steps) fresh run none =
+unused-from : (s t : ContextState) (choices : Choices) (steps : List Step) → IsUnused choices s → Runs s steps t → t.given ≡ 0 → IsUnused choices t
+unused-from s t choices [] fresh run none = subst (IsUnused choices) (sym run) fresh
+unused-from s t choices (prepared name number ∷ steps) fresh run none =
     (let more = given-grows run.0 t steps run.2 in let one : run.0.given ≡ s.given + 1 = run.1.given in absurd (omega (arith, more, one, none)))
-unused-from s t limit (closed number ∷ steps) fresh run none = absurd (none-open number run.1.closed (sym (ap (λ (s : ContextState). open_of s.connections number) fresh) ∙ run.1.was))
-unused-from s t limit (stored name bytes ∷ steps) fresh run none =
-    unused-from run.0 t limit steps (subst (IsUnused limit) (sym run.1.is) (ap (λ (s : ContextState). added s name bytes) fresh)) run.2 none
-unused-from s t limit (reserved address size ∷ steps) fresh run none =
-    unused-from run.0 t limit steps (subst (IsUnused limit) (sym run.1.is) (unused-reserve s run.1.memory limit address size fresh run.1.reserves)) run.2 none
+unused-from s t choices (closed number ∷ steps) fresh run none = absurd (none-open number run.1.closed (sym (ap (λ (s : ContextState). open_of s.connections number) fresh) ∙ run.1.was))
+unused-from s t choices (stored name bytes ∷ steps) fresh run none =
+    unused-from run.0 t choices steps (subst (IsUnused choices) (sym run.1.is) (ap (λ (s : ContextState). added s name bytes) fresh)) run.2 none
+unused-from s t choices (reserved address size ∷ steps) fresh run none =
+    unused-from run.0 t choices steps (subst (IsUnused choices) (sym run.1.is) (unused-reserve s run.1.memory choices address size fresh run.1.reserves)) run.2 none
 
-pub run-unused : (pairs : List Pair) (limit : ℕ) (steps : List Step) (t : ContextState) → Runs (fresh_state pairs limit) steps t → t.given ≡ 0 → t ≡ unused_state t.pairs limit t.memory.reserved
-run-unused pairs limit steps t run none = unused-from (fresh_state pairs limit) t limit steps refl run none
+pub run-unused : (pairs : List Pair) (choices : Choices) (steps : List Step) (t : ContextState) → Runs (made_state pairs choices) steps t → t.given ≡ 0 → t ≡ unused_state t.pairs choices t.memory.reserved
+run-unused pairs choices steps t run none = unused-from (made_state pairs choices) t choices steps refl run none

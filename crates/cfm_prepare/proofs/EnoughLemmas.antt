@@ -12,7 +12,7 @@ use Rattle.cfm_prepare.specs.Contexts.{ContextState, opened}
 use Rattle.cfm_prepare.specs.Fragments.{Present, StandAll, all_given_back, extents_in, first_bad_image, positions, present_at}
 use Rattle.cfm_prepare.specs.Placing.{AllPlaced, AreNew, ArePrepared, LacksRoom}
 use Rattle.cfm_prepare.specs.Refusals.{HasBadImage, HasBadProgram}
-use Rattle.cfm_prepare.specs.Steps.{HasClosure, Prepares, new_of}
+use Rattle.cfm_prepare.specs.Steps.{HasClosure, IsWithin, Prepares, new_of}
 use Rattle.cfm_prepare.specs.Kept.Ready.{AllApart, OwnApart}
 use Rattle.cfm_prepare.proofs.GroupLemmas.{all-swap}
 use Rattle.cfm_prepare.proofs.PlacedLemmas.{placed-apart, placed-own}
@@ -107,12 +107,13 @@ new-prepared pairs there m new room image program = by (places-found pairs m new
     by (inr lacks) = absurd (room lacks.0 lacks.1)
 
 -- so there is a state that a preparation gives
-pub prepares-to : (s : ContextState) (name : List ℕ) (closure : HasClosure s name) → ((other : List ℕ) → LacksRoom s.pairs s.memory (new_of s closure.closed) other → ⊥)
+pub prepares-to : (s : ContextState) (name : List ℕ) (closure : HasClosure s name) → IsWithin s (new_of s closure.closed) → ((other : List ℕ) → LacksRoom s.pairs s.memory (new_of s closure.closed) other → ⊥)
     → ((other : List ℕ) (k : ImageFault) → HasBadImage s.pairs s.memory (new_of s closure.closed) other k → ⊥)
     → ((other : List ℕ) (k : ProgramFault) → HasBadProgram s.pairs s.present s.memory (new_of s closure.closed) other k → ⊥) → (t : ContextState) × Prepares s name s.given t
-prepares-to s name closure room image program =
+prepares-to s name closure within room image program =
     let done = new-prepared s.pairs s.present s.memory (new_of s closure.closed) room image program in (
       record {
+        bounds = s.bounds;
         pairs = s.pairs;
         memory = done.1;
         given = s.given + 1;
@@ -121,9 +122,11 @@ prepares-to s name closure room image program =
       },
       record {
         closure = closure;
+        within = within;
         fresh = done.0;
         prepared = done.2;
         number = refl;
+        bounds = refl;
         pairs = refl;
         given = refl;
         connections = refl;

@@ -11,7 +11,8 @@ use Rattle.cfm_prepare.specs.Addresses.{section_of}
 use Rattle.cfm_prepare.specs.Fragments.{Present, all_given_back, is_present, places_of, present_at}
 use Rattle.cfm_prepare.proofs.PlacedLemmas.{placed-pairs, placed-new}
 use Rattle.cfm_prepare.proofs.GroupLemmas.{ArePairApart, turned}
-use Rattle.cfm_prepare.specs.Contexts.{ContextState, Open, fresh_state, is_needed, needed_of, unneeded_of}
+use Rattle.cfm_prepare.specs.Options.{Choices}
+use Rattle.cfm_prepare.specs.Contexts.{ContextState, Open, made_state, is_needed, needed_of, unneeded_of}
 use Rattle.cfm_prepare.specs.Runs.{Keeps, Runs, Step, Takes, closed, prepared, reserved, stored}
 use Rattle.cfm_prepare.specs.Steps.{Adds, Closes, Prepares, TakesOut}
 use Rattle.cfm_prepare.proofs.RunLemmas.{present-needed}
@@ -221,6 +222,6 @@ step-keeps pairs s t (stored name bytes) p laid step was is = (
   subst (λ (t : ContextState). Keeps s.memory t.memory (places_of s.present p)) (sym step.is) (λ k under. refl),
 )
 
-pub run-keeps : (pairs : List Pair) (limit : ℕ) (steps : List Step) (s t : ContextState) (x : Step) (p : ℕ) → Runs (fresh_state pairs limit) steps s → Takes s x t → is_present s.present p ≡ true → is_present t.present p ≡ true
+pub run-keeps : (pairs : List Pair) (choices : Choices) (steps : List Step) (s t : ContextState) (x : Step) (p : ℕ) → Runs (made_state pairs choices) steps s → Takes s x t → is_present s.present p ≡ true → is_present t.present p ≡ true
     → (places_of t.present p ≡ places_of s.present p) × Keeps s.memory t.memory (places_of s.present p)
-run-keeps pairs limit steps s t x p run step was is = step-keeps pairs s t x p (laid-all pairs (fresh_state pairs limit) s steps (record { there = tt; apart = tt }) run) step was is
+run-keeps pairs choices steps s t x p run step was is = step-keeps pairs s t x p (laid-all pairs (made_state pairs choices) s steps (record { there = tt; apart = tt }) run) step was is

@@ -10,6 +10,8 @@ pub use Rattle.cfm_prepare.proofs.KeepLemmas.{run-keeps}
 -- a fragment that is present is in the store, and needs the same memory if another one is added
 pub use Rattle.cfm_prepare.proofs.RunLemmas.{run-inside}
 pub use Rattle.cfm_prepare.proofs.FragmentLemmas.{extents-stored}
+-- fragments that take no more than is allowed don't take more
+pub use Rattle.cfm_prepare.proofs.BoundLemmas.{not-past}
 -- there is a state that a preparation gives, if no new fragment lacks room or is refused
 pub use Rattle.cfm_prepare.proofs.EnoughLemmas.{prepares-to}
 -- if no relocation header is refused, the first refusal is none

@@ -1,5 +1,6 @@
 mod AddLemmas
 mod BegunLemmas
+mod BoundLemmas
 mod ConnectionLemmas
 mod EnoughLemmas
 mod FoundLemmas

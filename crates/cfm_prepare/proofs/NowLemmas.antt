@@ -28,7 +28,8 @@ use Rattle.cfm_prepare.specs.Placing.{Fits}
 use Rattle.cfm_prepare.proofs.ListLemmas.{has-at, has-contains}
 use Rattle.cfm_prepare.proofs.PlacedLemmas.{placed-fit}
 use Rattle.pef_words.proofs.Laws.Tests.{cond-later}
-use Rattle.cfm_prepare.specs.Contexts.{ContextState, Open, added, fresh_state, is_needed, needed_of, opened}
+use Rattle.cfm_prepare.specs.Options.{Choices}
+use Rattle.cfm_prepare.specs.Contexts.{ContextState, Open, added, made_state, is_needed, needed_of, opened}
 use Rattle.cfm_prepare.specs.Now.{IsPreparedNow}
 use Rattle.cfm_prepare.specs.Runs.{AreClosed, Keeps, Runs, Step, closed, prepared, reserved, stored}
 use Rattle.cfm_prepare.specs.Steps.{Adds, Closes, Prepares, TakesOut}
@@ -244,8 +245,8 @@ now-all s t (closed number ∷ steps) now run = now-all run.0 t steps (subst (λ
 now-all s t (reserved address size ∷ steps) now run = now-all run.0 t steps (now-reserve s run.0 address size now run.1) run.2
 now-all s t (stored name bytes ∷ steps) now run = now-all run.0 t steps (now-store s run.0 name bytes now run.1) run.2
 
-fresh-now : (pairs : List Pair) (limit : ℕ) → IsNow pairs (fresh_state pairs limit)
-fresh-now pairs limit = record { sound = fresh-sound pairs limit; laid = record { there = tt; apart = tt }; fits = tt; stand = tt }
+fresh-now : (pairs : List Pair) (choices : Choices) → IsNow pairs (made_state pairs choices)
+fresh-now pairs choices = record { sound = fresh-sound pairs choices; laid = record { there = tt; apart = tt }; fits = tt; stand = tt }
 
 -- a fact of each is one of the fragment with a position
 at-position : (P : ℕ → List Place → Type 0) (fs : List Present) (p : ℕ) → AllBy (λ f. P f.position f.places) fs → is_present fs p ≡ true → P p (places_of fs p)
@@ -265,14 +266,14 @@ now-at pairs s p now is =
       stand = at-position (λ q places. StandsNow pairs s.memory s.present (record { position = q; places = places })) s.present p now.stand is;
     }
 
-pub run-now : (pairs : List Pair) (limit : ℕ) (steps : List Step) (s : ContextState) (p : ℕ) → Runs (fresh_state pairs limit) steps s → is_present s.present p ≡ true → IsPreparedNow s.pairs s p
-run-now pairs limit steps s p run is = now-at s.pairs s p (now-all (fresh_state pairs limit) s steps (fresh-now pairs limit) run) is
+pub run-now : (pairs : List Pair) (choices : Choices) (steps : List Step) (s : ContextState) (p : ℕ) → Runs (made_state pairs choices) steps s → is_present s.present p ≡ true → IsPreparedNow s.pairs s p
+run-now pairs choices steps s p run is = now-at s.pairs s p (now-all (made_state pairs choices) s steps (fresh-now pairs choices) run) is
 
 -- and a step that prepares leaves each fragment of its closure so
-pub run-prepares : (pairs : List Pair) (limit : ℕ) (steps : List Step) (s t : ContextState) (name : List ℕ) (number p : ℕ) → Runs (fresh_state pairs limit) steps s → (step : Prepares s name number t) → Contains step.closure.closed.order p
+pub run-prepares : (pairs : List Pair) (choices : Choices) (steps : List Step) (s t : ContextState) (name : List ℕ) (number p : ℕ) → Runs (made_state pairs choices) steps s → (step : Prepares s name number t) → Contains step.closure.closed.order p
     → (is_present t.present p ≡ true) × IsPreparedNow t.pairs t p
-run-prepares pairs limit steps s t name number p run step there =
-    let now = subst (λ ps. IsNow ps t) (sym step.pairs) (now-prepare s.pairs s t name number (now-all (fresh_state pairs limit) s steps (fresh-now pairs limit) run) step) in
+run-prepares pairs choices steps s t name number p run step there =
+    let now = subst (λ ps. IsNow ps t) (sym step.pairs) (now-prepare s.pairs s t name number (now-all (made_state pairs choices) s steps (fresh-now pairs choices) run) step) in
     let o : Open = opened s step.closure.has.root step.closure.closed in
     let is : is_present t.present p ≡ true =
     now.sound.same p ∙ ap (λ os. is_needed os p) step.connections ∙ needed-either s.connections o p ∙ cond-later (is_needed s.connections p) (has o.closed.order p) (has-at o.closed.order p there) in (is, now-at t.pairs t p now is)

@@ -16,7 +16,8 @@ use Rattle.cfm_prepare.specs.Fragments.{Present, is_present, new_among}
 use Rattle.pef_words.proofs.Laws.Tests.{cond-later}
 use Rattle.cfm_prepare.proofs.SlotLemmas.{present-append}
 use Rattle.cfm_prepare.proofs.FoundLemmas.{present-has}
-use Rattle.cfm_prepare.specs.Contexts.{ContextState, Open, fresh_state, is_needed, needed_of, open_without, opened}
+use Rattle.cfm_prepare.specs.Options.{Choices}
+use Rattle.cfm_prepare.specs.Contexts.{ContextState, Open, made_state, is_needed, needed_of, open_without, opened}
 use Rattle.cfm_prepare.specs.Runs.{AreClosed, IsStill, Runs, Step, closed, prepared, reserved, stored}
 use Rattle.cfm_prepare.specs.Steps.{Adds, AnyNames, Closes, Prepares, TakesOut}
 
@@ -212,14 +213,14 @@ after-all s t (closed number ∷ steps) sound run = after-all run.0 t steps (sub
 after-all s t (reserved address size ∷ steps) sound run = after-all run.0 t steps (after-reserve s run.0 address size sound run.1) run.2
 after-all s t (stored name bytes ∷ steps) sound run = after-all run.0 t steps (after-store s run.0 name bytes sound run.1) run.2
 
-pub fresh-sound : (pairs : List Pair) (limit : ℕ) → IsSound pairs (fresh_state pairs limit)
-fresh-sound pairs limit = record { store = refl; closures = tt; same = λ p. refl }
+pub fresh-sound : (pairs : List Pair) (choices : Choices) → IsSound pairs (made_state pairs choices)
+fresh-sound pairs choices = record { store = refl; closures = tt; same = λ p. refl }
 
-pub run-present : (pairs : List Pair) (limit : ℕ) (steps : List Step) (t : ContextState) (p : ℕ) → Runs (fresh_state pairs limit) steps t → is_present t.present p ≡ is_needed t.connections p
-run-present pairs limit steps t p run = (after-all (fresh_state pairs limit) t steps (fresh-sound pairs limit) run).same p
+pub run-present : (pairs : List Pair) (choices : Choices) (steps : List Step) (t : ContextState) (p : ℕ) → Runs (made_state pairs choices) steps t → is_present t.present p ≡ is_needed t.connections p
+run-present pairs choices steps t p run = (after-all (made_state pairs choices) t steps (fresh-sound pairs choices) run).same p
 
-pub run-closed : (pairs : List Pair) (limit : ℕ) (steps : List Step) (t : ContextState) → Runs (fresh_state pairs limit) steps t → AreClosed t.pairs t.connections
-run-closed pairs limit steps t run = (after-all (fresh_state pairs limit) t steps (fresh-sound pairs limit) run).closures
+pub run-closed : (pairs : List Pair) (choices : Choices) (steps : List Step) (t : ContextState) → Runs (made_state pairs choices) steps t → AreClosed t.pairs t.connections
+run-closed pairs choices steps t run = (after-all (made_state pairs choices) t steps (fresh-sound pairs choices) run).closures
 
 -- a fragment that an open connection's closure has is in the store
 needed-inside : (pairs : List Pair) (os : List Open) (p : ℕ) → AreClosed pairs os → is_needed os p ≡ true → p < length pairs
@@ -231,6 +232,6 @@ needed-inside pairs (o ∷ os) p are is = by (has o.closed.order p) refl is (λ 
     by false was is later = later is
 
 -- so is one that is present
-pub run-inside : (pairs : List Pair) (limit : ℕ) (steps : List Step) (s : ContextState) (p : ℕ) → Runs (fresh_state pairs limit) steps s → is_present s.present p ≡ true → p < length s.pairs
-run-inside pairs limit steps s p run is =
-    needed-inside s.pairs s.connections p (run-closed pairs limit steps s run) (sym (run-present pairs limit steps s p run) ∙ is)
+pub run-inside : (pairs : List Pair) (choices : Choices) (steps : List Step) (s : ContextState) (p : ℕ) → Runs (made_state pairs choices) steps s → is_present s.present p ≡ true → p < length s.pairs
+run-inside pairs choices steps s p run is =
+    needed-inside s.pairs s.connections p (run-closed pairs choices steps s run) (sym (run-present pairs choices steps s p run) ∙ is)

@@ -3,17 +3,15 @@
 -- context, whose fragments are shared by all its connections, and how connections are numbered, is this
 -- project's own rule.
 use Rattle.std.specs.Prelude.{◌==◌, ℕ, Bool, false, true, List, [], ◌∷◌, ◌++◌, Option, None, Some, if◌then◌else◌}
-use Rattle.cfm_memory.specs.Extents.{no_instances}
+use Rattle.cfm_memory.specs.Extents.{empty_memory}
 use Rattle.cfm_memory.specs.Instances.{Layout}
 use Rattle.cfm_memory.specs.declared.place.Reserved.{Reserved}
 use Rattle.cfm_closure.specs.Stores.{Pair}
 use Rattle.cfm_closure.specs.Closures.{Closed}
 use Rattle.cfm_prepare.specs.Fragments.{Present, new_among}
 use Rattle.cfm_prepare.specs.Lists.{has}
-
--- how many connections a context gives in all
-abbrev pub most_connections : ℕ
-most_connections = 65536
+use Rattle.cfm_prepare.specs.Options.{Bounds, Choices, usual_choices}
+pub use Rattle.cfm_prepare.specs.Options.{most_connections}
 
 -- an open connection: its number, the requested fragment by its place in the store, that fragment's closure, and the
 -- fragments that its preparation placed, in the order of their initialization
@@ -23,22 +21,27 @@ pub record Open : Type 0 where
   pub closed : Closed
   pub placed : List ℕ
 
--- a context: its store and its memory, how many numbers were given, the open connections, and the fragments
--- that are present
+-- a context: what its preparations may take, its store and its memory, how many numbers were given, the open connections,
+-- and the fragments that are present
 pub record ContextState : Type 0 where
+  pub bounds : Bounds
   pub pairs : List Pair
   pub memory : Layout
   pub given : ℕ
   pub connections : List Open
   pub present : List Present
 
--- nothing was prepared
+-- nothing was prepared in a context that was made with some choices
+abbrev pub made_state : List Pair → Choices → ContextState
+made_state pairs choices = record { bounds = choices.bounds; pairs = pairs; memory = empty_memory choices.granule choices.limit; given = 0; connections = []; present = [] }
+
+-- the same if only a limit was asked for
 abbrev pub fresh_state : List Pair → ℕ → ContextState
-fresh_state pairs limit = record { pairs = pairs; memory = no_instances limit; given = 0; connections = []; present = [] }
+fresh_state pairs limit = made_state pairs (usual_choices limit)
 
 -- nothing was prepared, and some ranges of addresses are out of use
-abbrev pub unused_state : List Pair → ℕ → List Reserved → ContextState
-unused_state pairs limit ranges = record (fresh_state pairs limit) { memory = record (no_instances limit) { reserved = ranges } }
+abbrev pub unused_state : List Pair → Choices → List Reserved → ContextState
+unused_state pairs choices ranges = record (made_state pairs choices) { memory = record (empty_memory choices.granule choices.limit) { reserved = ranges } }
 
 -- a context with one fragment more in its store, after the others
 abbrev pub added : ContextState → List ℕ → List ℕ → ContextState

@@ -16,6 +16,8 @@ abbrev pub fault_number : PrepareFault → ℕ
 fault_number fault.TooManyConnections = 69
 fault_number fault.RootMissing = 60
 fault_number (fault.Bind f) = bind.fault_number f
+fault_number (fault.TooManyBytes f) = 75
+fault_number (fault.TooManyStepsInAll f) = 70
 fault_number (fault.Fragment f) = fragment.fault_number f
 fault_number fault.OutOfMemory = 99
 
@@ -24,6 +26,8 @@ abbrev pub fault_name : PrepareFault → List ℕ
 fault_name fault.TooManyConnections = codes "TooManyConnections"
 fault_name fault.RootMissing = codes "RootMissing"
 fault_name (fault.Bind f) = bind.fault_name f
+fault_name (fault.TooManyBytes f) = codes "TooManyBytes"
+fault_name (fault.TooManyStepsInAll f) = codes "TooManyStepsInAll"
 fault_name (fault.Fragment f) = fragment.fault_name f
 fault_name fault.OutOfMemory = codes "OutOfMemory"
 
@@ -32,6 +36,8 @@ abbrev pub fault_place : PrepareFault → Option Place
 fault_place fault.TooManyConnections = None
 fault_place fault.RootMissing = None
 fault_place (fault.Bind f) = bind.fault_place f
+fault_place (fault.TooManyBytes f) = None
+fault_place (fault.TooManyStepsInAll f) = None
 fault_place (fault.Fragment f) = fragment.fault_place f
 fault_place fault.OutOfMemory = None
 

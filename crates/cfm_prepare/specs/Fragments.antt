@@ -3,7 +3,7 @@
 -- that can't be read has no sections.
 use Rattle.std.specs.Prelude.{◌≡◌, ◌⊎◌, ℕ, ◌<◌, ◌==◌, Bool, false, true, List, [], ◌∷◌, ◌++◌, Option, None, if◌then◌else◌, length, map, option_map, slice_index_or}
 use Rattle.std.specs.Option.{option_and_then, option_map_or, option_or}
-use Rattle.cfm_memory.specs.Extents.{Extent, Stand, given_back, no_instances}
+use Rattle.cfm_memory.specs.Extents.{Extent, Stand, empty_memory, given_back}
 use Rattle.cfm_memory.specs.Instances.{Layout}
 use Rattle.cfm_memory.specs.declared.place.Place.{Place}
 use Rattle.cfm_prepare.specs.declared.image_fault.ImageFault.{ImageFault}
@@ -25,8 +25,8 @@ pub record Presence : Type 0 where
   pub present : List Present
 
 -- no fragment is present
-abbrev pub none_present : ℕ → Presence
-none_present limit = record { memory = no_instances limit; present = [] }
+abbrev pub none_present : ℕ → ℕ → Presence
+none_present granule limit = record { memory = empty_memory granule limit; present = [] }
 
 -- fragment j of some; past the last one, one without sections
 abbrev pub present_at : List Present → ℕ → Present

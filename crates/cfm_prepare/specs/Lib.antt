@@ -1,4 +1,5 @@
 pub mod Addresses
+pub mod Bounds
 pub mod Contexts
 pub mod Faults
 pub mod FragmentFaults
@@ -6,7 +7,9 @@ pub mod Fragments
 pub mod Images
 pub mod Kept
 pub mod Lists
+pub mod Made
 pub mod Now
+pub mod Options
 pub mod Placing
 pub mod Prepared
 pub mod Readers

@@ -5,14 +5,15 @@ use Rattle.cfm_closure.specs.Limits.{most_pairs}
 use Rattle.cfm_memory.specs.Instances.{Layout}
 use Rattle.cfm_memory.specs.Reservation.{Reserves}
 use Rattle.cfm_closure.specs.Additions.{NamesLibrary}
-use Rattle.cfm_closure.specs.Stores.{place_of}
+use Rattle.cfm_closure.specs.Stores.{pair_of, place_of}
 use Rattle.cfm_closure.specs.Faults.{FailsAs}
 use Rattle.cfm_closure.specs.Closures.{Closed, closed_of}
+use Rattle.cfm_prepare.specs.Bounds.{AreWithin, PassesAt, bytes_in, steps_in}
 use Rattle.cfm_prepare.specs.Fragments.{Present, all_given_back, new_among}
 use Rattle.cfm_prepare.specs.Placing.{ArePrepared}
 use Rattle.cfm_prepare.specs.Refusals.{MayNotPrepareNew}
 use Rattle.cfm_prepare.specs.declared.fragment_fault.FragmentFault.{FragmentFault}
-use Rattle.cfm_prepare.specs.Contexts.{ContextState, Open, added, most_connections, needed_of, open_of, open_without, opened, unneeded_of}
+use Rattle.cfm_prepare.specs.Contexts.{ContextState, Open, added, needed_of, open_of, open_without, opened, unneeded_of}
 use Rattle.cfm_prepare.specs.declared.add_fault.AddFault.{AddFault}
 use Rattle.cfm_prepare.specs.declared.add_fault.AddFault.TheVariants as add
 use Rattle.cfm_prepare.specs.declared.fault.PrepareFault.{PrepareFault}
@@ -46,7 +47,7 @@ pub record TakesOut (s : ContextState) (address size : ℕ) (t : ContextState) :
 
 -- a number is left, and the fragment with a name is in this place
 pub record HasRoot (s : ContextState) (name : List ℕ) : Type 0 where
-  pub left : s.given < most_connections
+  pub left : s.given < s.bounds.connections
   pub root : ℕ
   pub is : place_of s.pairs name ≡ Some root
 
@@ -60,28 +61,54 @@ pub record HasClosure (s : ContextState) (name : List ℕ) : Type 0 where
 abbrev pub new_of : ContextState → Closed → List ℕ
 new_of s c = new_among s.present c.order
 
+-- new fragments take no more bytes and steps than the context allows
+pub record IsWithin (s : ContextState) (new : List ℕ) : Type 0 where
+  pub bytes : AreWithin s.bounds.bytes (bytes_in s.pairs s.memory.granule) new
+  pub steps : AreWithin s.bounds.steps (steps_in s.pairs) new
+
 -- a connection with the next number is opened: the fragments of its closure that weren't present are prepared
 pub record Prepares (s : ContextState) (name : List ℕ) (n : ℕ) (t : ContextState) : Type 0 where
   pub closure : HasClosure s name
+  pub within : IsWithin s (new_of s closure.closed)
   pub fresh : List Present
   pub prepared : ArePrepared s.pairs s.present s.memory (new_of s closure.closed) fresh t.memory
   pub number : n ≡ s.given
+  pub bounds : t.bounds ≡ s.bounds
   pub pairs : t.pairs ≡ s.pairs
   pub given : t.given ≡ s.given + 1
   pub connections : t.connections ≡ s.connections ++ opened s closure.has.root closure.closed ∷ []
   pub present : t.present ≡ s.present ++ fresh
 
--- the fragment has a closure, whose new fragments aren't prepared
+-- the fragment has a closure, and with the fragment of this name its new fragments take more bytes than the context allows
+pub record TakesBytes (s : ContextState) (name fragment : List ℕ) : Type 0 where
+  pub closure : HasClosure s name
+  pub position : ℕ
+  pub passes : PassesAt s.bounds.bytes (bytes_in s.pairs s.memory.granule) (new_of s closure.closed) position
+  pub is : fragment ≡ (pair_of s.pairs position).name
+
+-- they don't, and with this one they take more steps
+pub record TakesSteps (s : ContextState) (name fragment : List ℕ) : Type 0 where
+  pub closure : HasClosure s name
+  pub bytes : AreWithin s.bounds.bytes (bytes_in s.pairs s.memory.granule) (new_of s closure.closed)
+  pub position : ℕ
+  pub passes : PassesAt s.bounds.steps (steps_in s.pairs) (new_of s closure.closed) position
+  pub is : fragment ≡ (pair_of s.pairs position).name
+
+-- the fragment has a closure, whose new fragments take no more than the context allows, and aren't prepared
 pub record IsRefusedLate (s : ContextState) (name : List ℕ) (f : FragmentFault) : Type 0 where
   pub closure : HasClosure s name
+  pub within : IsWithin s (new_of s closure.closed)
   pub why : MayNotPrepareNew s.pairs s.present s.memory (new_of s closure.closed) f
 
 -- why a fragment isn't prepared: all numbers were given, or else the name isn't in the store, or else it has
--- no closure, or else its new fragments can't be prepared. An allocation may fail after the first two
+-- no closure, or else its new fragments take too many bytes, or else too many steps, or else they can't be prepared. An
+-- allocation may fail after the first two
 abbrev pub MayNotPrepare : ContextState → List ℕ → PrepareFault → Type 0
-MayNotPrepare s name fault.TooManyConnections = most_connections ≤ s.given
-MayNotPrepare s name fault.RootMissing = (s.given < most_connections) × (place_of s.pairs name ≡ None)
+MayNotPrepare s name fault.TooManyConnections = s.bounds.connections ≤ s.given
+MayNotPrepare s name fault.RootMissing = (s.given < s.bounds.connections) × (place_of s.pairs name ≡ None)
 MayNotPrepare s name (fault.Bind f) = (has : HasRoot s name) × FailsAs f (closed_of s.pairs has.root)
+MayNotPrepare s name (fault.TooManyBytes f) = TakesBytes s name f.now
+MayNotPrepare s name (fault.TooManyStepsInAll f) = TakesSteps s name f.now
 MayNotPrepare s name (fault.Fragment f) = IsRefusedLate s name f
 MayNotPrepare s name fault.OutOfMemory = HasRoot s name
 
@@ -89,6 +116,7 @@ MayNotPrepare s name fault.OutOfMemory = HasRoot s name
 pub record Closes (s : ContextState) (number : ℕ) (t : ContextState) : Type 0 where
   pub closed : Open
   pub was : open_of s.connections number ≡ Some closed
+  pub bounds : t.bounds ≡ s.bounds
   pub pairs : t.pairs ≡ s.pairs
   pub given : t.given ≡ s.given
   pub connections : t.connections ≡ open_without s.connections number

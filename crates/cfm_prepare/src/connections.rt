@@ -1,29 +1,38 @@
-ghost use Rattle.std.specs.Prelude.{◌≡◌, ◌+◌, ◌++◌, ◌<◌, [], ◌∷◌, OnOk, false, true};
+ghost use Rattle.std.specs.Prelude.{◌≡◌, ◌+◌, ◌++◌, ◌<◌, [], ◌∷◌, ℕ, IfSome, None, OnOk, false, nat_lt, true};
 ghost use Rattle.cfm_prepare.specs.Steps.{AnyNames};
-ghost use Rattle.std.specs.Option.{IfNone, option_copied};
+ghost use Rattle.std.specs.Option.{IfNone, is_some, option_copied};
 ghost use Rattle.cfm_prepare.specs.Contexts.{open_of, open_without};
+ghost use Rattle.cfm_prepare.specs.Kept.Connections.{AreNumbered, IsSlotOf, open_in};
 
 use crate::connected::Connected;
-use crate::slots::slot;
 use std::alloc::{AllocError, Global};
 use std::marker::Model;
 
-/// The open connections of a context, each in the slot of its number.
+/// The slot of a connection, empty if it was closed.
+#[derive(Drop)]
+struct Slot<'a> {
+    number: u32,
+    connected: Option<Connected<'a>>,
+}
+
+/// The open connections of a context.
 #[derive(Drop)]
 pub(crate) struct Connections<'a> {
-    /// A slot for each number that was given, empty if the connection was closed.
-    slots: Vec<Option<Connected<'a>>>,
+    /// A slot for each open connection, in the order of their numbers. Slots of closed ones stay until room is
+    /// needed, so there are at most about twice as many as connections were ever open at once.
+    slots: Vec<Slot<'a>>,
+    given: usize,
 }
 
 impl<'a> Model for Connections<'a> {
-    ghost use Rattle.std.specs.Prelude.{◌-◌, length, vec_capacity, vec_len};
-    ghost use Rattle.cfm_prepare.specs.Kept.Connections.{AreAtNumbers, Numbered, open_in};
+    ghost use Rattle.std.specs.Prelude.{◌-◌, vec_capacity, vec_len};
+    ghost use Rattle.cfm_prepare.specs.Kept.Connections.{AreNumbered, Numbered, open_in};
 
     ghost Value = { Numbered };
 
-    ghost view = { λ c. record { items = open_in c.slots.items; given = length c.slots.items; left = vec_capacity c.slots - vec_len c.slots } };
+    ghost view = { λ c. record { items = open_in c.slots.items; given = c.given; left = vec_capacity c.slots - vec_len c.slots } };
 
-    ghost invariant = { λ c. AreAtNumbers 0 c.slots.items };
+    ghost invariant = { λ c. AreNumbered 0 c.given c.slots.items };
 }
 
 impl<'a> Connections<'a> {
@@ -34,6 +43,7 @@ impl<'a> Connections<'a> {
     {
         Connections {
             slots: Vec::new(alloc),
+            given: 0,
         }
     }
 
@@ -41,14 +51,15 @@ impl<'a> Connections<'a> {
     pub fn given(&self) -> usize
         ensures { result ≡ self.now.given }
     {
-        self.slots.len()
+        self.given
     }
 
     /// Returns the connection with a number.
     pub fn get(&self, number: u32) -> Option<&Connected<'a>>
         ensures { option_copied result ≡ open_of self.now.items number }
     {
-        slot(&self.slots, number as usize)
+        let rank = rank_of(&self.slots, number)?;
+        self.slots[rank].connected.as_ref()
     }
 
     /// Returns whether an open connection's closure has a fragment with a library entry of this name.
@@ -57,7 +68,7 @@ impl<'a> Connections<'a> {
         ensures no { result ≡ false → AnyNames self.now.items name.now → ⊥ }
     {
         for slot in &self.slots {
-            if let Some(connected) = slot {
+            if let Some(connected) = &slot.connected {
                 if connected.closure().names_library(name) {
                     return true;
                 }
@@ -72,20 +83,43 @@ impl<'a> Connections<'a> {
         ensures items { self.new.items ≡ self.old.items }
         ensures given { self.new.given ≡ self.old.given }
     {
-        self.slots.reserve(1)?;
+        if self.slots.len() < self.slots.capacity() {
+            return Ok(());
+        }
+        self.drop_closed();
+        let room = self.slots.len() + 1;
+        self.slots.reserve(room)?;
         Ok(())
     }
 
-    /// Puts a connection after the others, in the slot of its number.
+    /// Drops the slots of closed connections.
+    fn drop_closed(&mut self)
+        ensures items { self.new.items ≡ self.old.items }
+        ensures given { self.new.given ≡ self.old.given }
+    {
+        self.slots.retain(
+            |slot: &Slot| -> bool
+                ensures { result ≡ is_some slot.now.connected }
+            { slot.connected.is_some() },
+        );
+    }
+
+    /// Puts a connection after the others.
     pub fn push(&mut self, connected: Connected<'a>)
         requires room { 0 < self.old.left }
         requires number { connected.number ≡ self.old.given }
         ensures items { self.new.items ≡ self.old.items ++ connected.entry ∷ [] }
         ensures given { self.new.given ≡ self.old.given + 1 }
     {
-        if self.slots.push(Some(connected)).is_err() {
+        let number = connected.number();
+        let slot = Slot {
+            number,
+            connected: Some(connected),
+        };
+        if self.slots.push(slot).is_err() {
             unreachable!();
         }
+        self.given = number as usize + 1;
     }
 
     /// Removes the connection with a number, and returns it.
@@ -95,10 +129,26 @@ impl<'a> Connections<'a> {
         ensures given { self.new.given ≡ self.old.given }
         ensures unchanged { IfNone result (self.new.items ≡ self.old.items) }
     {
-        let number = number as usize;
-        if number >= self.slots.len() {
-            return None;
-        }
-        self.slots[number].take()
+        let rank = rank_of(&self.slots, number)?;
+        self.slots[rank].connected.take()
     }
+}
+
+/// Returns where the slot of a number is.
+fn rank_of(slots: &[Slot<'_>], number: u32) -> Option<usize>
+    requires { (given : ℕ) × AreNumbered 0 given slots.now }
+    ensures found { IfSome result (λ rank. IsSlotOf slots.now number rank) }
+    ensures none { IfNone result (open_of (open_in slots.now) number ≡ None) }
+    ensures left { IfNone result (open_without (open_in slots.now) number ≡ open_in slots.now) }
+{
+    let rank = slots.partition_point(
+        |slot: &Slot| -> bool
+            ensures { result ≡ nat_lt slot.now.number number }
+        { slot.number < number },
+    );
+    let slot = slots.get(rank)?;
+    if slot.number != number {
+        return None;
+    }
+    Some(rank)
 }

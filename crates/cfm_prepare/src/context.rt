@@ -4,8 +4,9 @@ ghost use Rattle.cfm_closure.specs.Stores.{place_of};
 ghost use Rattle.cfm_memory.specs.Placement.{IsClear};
 ghost use Rattle.cfm_memory.specs.Reservation.{MayNotReserve};
 ghost use Rattle.cfm_prepare.specs.Fragments.{places_of};
+ghost use Rattle.cfm_prepare.specs.Made.{choices_of};
 ghost use Rattle.cfm_prepare.specs.Sections.{section_present, section_seen, sections_at, sections_left};
-ghost use Rattle.cfm_prepare.specs.Contexts.{fresh_state, most_connections, open_of};
+ghost use Rattle.cfm_prepare.specs.Contexts.{fresh_state, made_state, open_of};
 ghost use Rattle.cfm_prepare.specs.Readers.{entries_of, import_target_of, main_address, numbered_export, released_by, root_section, section_header_of, symbol_address, symbol_of};
 ghost use Rattle.cfm_prepare.specs.Steps.{Adds, Closes, MayNotAdd, MayNotPrepare, Prepares, TakesOut};
 
@@ -16,6 +17,7 @@ use crate::entries::Entries;
 use crate::fault::{CloseFault, PrepareFault};
 use crate::fragments::Fragments;
 use crate::imports::ImportTarget;
+use crate::options::Options;
 use crate::releasing::release;
 use crate::sections::Sections;
 use crate::users::{enter, leave, make_room, unshared_among};
@@ -25,9 +27,6 @@ use pef_views::SectionHeader;
 use std::alloc::{AllocError, Global};
 use std::fmt;
 use std::marker::Model;
-
-/// How many connections a context gives in all.
-const MOST_CONNECTIONS: usize = 65_536;
 
 /// A connection to a fragment that was prepared, by its number. A context gives each number once.
 #[derive(Clone, Copy, Debug, PartialEq, Eq)]
@@ -40,6 +39,7 @@ pub struct Connection(pub u32);
 #[derive(Drop)]
 pub struct Context<'a> {
     alloc: Global,
+    options: Options,
     store: Store<'a>,
     connections: Connections<'a>,
     /// How many of them have a fragment in their closures, by its place in the store.
@@ -53,10 +53,11 @@ impl<'a> Model for Context<'a> {
     ghost Value = { ContextState };
 
     ghost use Rattle.cfm_prepare.specs.Kept.Contexts.{IsKept};
+    ghost use Rattle.cfm_prepare.specs.Made.{choices_of};
 
-    ghost view = { λ c. record { pairs = c.store; memory = c.fragments.memory; given = c.connections.given; connections = c.connections.items; present = c.fragments.present } };
+    ghost view = { λ c. record { bounds = (choices_of c.options).bounds; pairs = c.store; memory = c.fragments.memory; given = c.connections.given; connections = c.connections.items; present = c.fragments.present } };
 
-    ghost invariant = { λ c. IsKept c.connections.given c.users.items c.connections.items c.fragments.present };
+    ghost invariant = { λ c. IsKept c.options.connections c.connections.given c.users.items c.connections.items c.fragments.present };
 }
 
 /// Prints how many fragments the store has, and how many connections were given.
@@ -75,12 +76,20 @@ impl<'a> Context<'a> {
     pub fn new(alloc: Global, store: Store<'a>, limit: u32) -> Context<'a>
         ensures { result ≡ fresh_state store.entry limit }
     {
+        Context::with_options(alloc, store, Options::with_limit(limit))
+    }
+
+    /// Returns a context over the fragments of a store, in which nothing is prepared. Nothing is allocated yet.
+    pub fn with_options(alloc: Global, store: Store<'a>, options: Options) -> Context<'a>
+        ensures { result ≡ made_state store.entry (choices_of options) }
+    {
         Context {
             alloc,
+            options,
             store,
             connections: Connections::new(alloc),
             users: Vec::new(alloc),
-            fragments: Fragments::new(alloc, limit),
+            fragments: Fragments::new(alloc, options.limit, options.granule),
         }
     }
 
@@ -132,15 +141,16 @@ impl<'a> Context<'a> {
     /// # Errors
     ///
     /// `TooManyConnections` if all numbers were given. Otherwise `RootMissing` if the store has no fragment
-    /// with this name. Otherwise the first refusal of the closure, of placement, of the images, or of the
-    /// relocation headers, in this order. `OutOfMemory` if an allocation fails. After an error the context is
-    /// unchanged.
+    /// with this name. Otherwise the first refusal of the closure. Otherwise `TooManyBytes` or
+    /// `TooManyStepsInAll` if its new fragments take more than the options allow. Otherwise the first refusal of
+    /// placement, of the images, or of the relocation headers, in this order. `OutOfMemory` if an allocation
+    /// fails. After an error the context is unchanged.
     pub fn prepare(&mut self, name: &[u8]) -> Result<Connection, PrepareFault<'a>>
         ensures prepared { IfOk result (λ connection. Prepares self.old name.now connection.0 self.new) }
         ensures refused { IfErr result (λ fault. MayNotPrepare self.old name.now fault) }
         ensures unchanged { OnErr result (self.new ≡ self.old) }
     {
-        if self.connections.given() >= MOST_CONNECTIONS {
+        if self.connections.given() >= self.options.connections as usize {
             return Err(PrepareFault::TooManyConnections);
         }
         let Some(root) = self.store.find(name) else {
@@ -153,7 +163,7 @@ impl<'a> Context<'a> {
     #[tactic(auto, using(crate::proofs::UsersLemmas::same_users))]
     fn open_root(&mut self, root: usize) -> Result<Connection, PrepareFault<'a>>
         requires root { root < length self.old.pairs }
-        requires left { self.old.given < most_connections }
+        requires left { self.old.given < self.old.bounds.connections }
         ensures prepared { (name : List ℕ) → place_of self.old.pairs name ≡ Some root → IfOk result (λ connection. Prepares self.old name connection.0 self.new) }
         ensures refused { (name : List ℕ) → place_of self.old.pairs name ≡ Some root → IfErr result (λ fault. MayNotPrepare self.old name fault) }
         ensures unchanged { OnErr result (self.new ≡ self.old) }
@@ -162,6 +172,7 @@ impl<'a> Context<'a> {
         self.connections.reserve()?;
         let closure = closure(self.alloc, &self.store, root)?;
         let placed = self.fragments.new_among(closure.init_order())?;
+        self.fragments.test_bounds(&closure, &self.options)?;
         self.fragments.prepare(&closure)?;
         enter(&mut self.users, closure.order());
         let number = self.connections.given() as u32;

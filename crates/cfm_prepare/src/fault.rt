@@ -20,6 +20,12 @@ pub enum PrepareFault<'a> {
     /// The fragment has no closure.
     Bind(BindFault<'a>),
 
+    /// With this fragment the new fragments of the closure take more bytes than the context allows.
+    TooManyBytes { fragment: &'a [u8] },
+
+    /// With this fragment their relocation programs take more steps than the context allows.
+    TooManyStepsInAll { fragment: &'a [u8] },
+
     /// The new fragments of the closure can't be prepared.
     Fragment(FragmentFault<'a>),
 
@@ -28,8 +34,8 @@ pub enum PrepareFault<'a> {
 }
 
 impl<'a> PrepareFault<'a> {
-    /// Returns the refusal's number: 69, 60, that of the closure's or of a fragment's refusal, or
-    /// 99.
+    /// Returns the refusal's number: 69, 60, 75, 70, that of the closure's or of a fragment's refusal,
+    /// or 99.
     pub fn number(&self) -> u32
         ensures { result ≡ fault_number self.now }
     {
@@ -37,6 +43,8 @@ impl<'a> PrepareFault<'a> {
             PrepareFault::TooManyConnections => 69,
             PrepareFault::RootMissing => 60,
             PrepareFault::Bind(fault) => fault.number(),
+            PrepareFault::TooManyBytes { .. } => 75,
+            PrepareFault::TooManyStepsInAll { .. } => 70,
             PrepareFault::Fragment(fault) => fault.number(),
             PrepareFault::OutOfMemory => 99,
         }
@@ -50,6 +58,8 @@ impl<'a> PrepareFault<'a> {
             PrepareFault::TooManyConnections => "TooManyConnections",
             PrepareFault::RootMissing => "RootMissing",
             PrepareFault::Bind(fault) => fault.name(),
+            PrepareFault::TooManyBytes { .. } => "TooManyBytes",
+            PrepareFault::TooManyStepsInAll { .. } => "TooManyStepsInAll",
             PrepareFault::Fragment(fault) => fault.name(),
             PrepareFault::OutOfMemory => "OutOfMemory",
         }
@@ -64,6 +74,8 @@ impl<'a> PrepareFault<'a> {
             PrepareFault::Fragment(fault) => fault.place(),
             PrepareFault::TooManyConnections
             | PrepareFault::RootMissing
+            | PrepareFault::TooManyBytes { .. }
+            | PrepareFault::TooManyStepsInAll { .. }
             | PrepareFault::OutOfMemory => None,
         }
     }

@@ -3,19 +3,25 @@ ghost use Rattle.cfm_memory.specs.Placement.{IsClear};
 ghost use Rattle.cfm_memory.specs.Reservation.{MayNotReserve, Reserves};
 ghost use Rattle.cfm_prepare.specs.Addresses.{target_address};
 ghost use Rattle.cfm_prepare.specs.Fragments.{IsGivenBack, Present, new_among, none_present, places_of};
+ghost use Rattle.cfm_prepare.specs.Bounds.{AreWithin, bytes_in, steps_in};
+ghost use Rattle.cfm_prepare.specs.Kept.Bounds.{IsPastBounds};
 ghost use Rattle.cfm_prepare.specs.Lists.{IsOnce};
+ghost use Rattle.cfm_prepare.specs.Made.{choices_of};
 ghost use Rattle.cfm_prepare.specs.Placing.{ArePrepared};
 ghost use Rattle.cfm_prepare.specs.Refusals.{MayNotPrepareNew};
 ghost use Rattle.cfm_prepare.specs.Sections.{section_present, section_seen, sections_at, sections_left};
 
+use crate::bounds::test_bounds;
+use crate::fault::PrepareFault;
 use crate::fragment_fault::FragmentFault;
 use crate::giving_back::give_back_fragment;
+use crate::options::Options;
 use crate::preparing::prepare_new;
 use crate::relocating::target_address;
 use crate::sections::Sections;
 use crate::slots::{Slots, new_among};
 use cfm_closure::{Closure, Target};
-use cfm_memory::{Memory, MemoryFault, Place};
+use cfm_memory::{Granule, Memory, MemoryFault, Place};
 use std::alloc::{AllocError, Global};
 use std::marker::Model;
 
@@ -40,15 +46,33 @@ impl Model for Fragments {
 }
 
 impl Fragments {
-    /// Returns no fragments. No section of one may exceed the address `limit`. Nothing is allocated yet.
-    pub fn new(alloc: Global, limit: u32) -> Fragments
-        ensures { result ≡ none_present limit }
+    /// Returns no fragments. No section of one may exceed the address `limit`, and each takes a multiple of the granule,
+    /// at a multiple of it. Nothing is allocated yet.
+    pub fn new(alloc: Global, limit: u32, granule: Granule) -> Fragments
+        ensures { result ≡ none_present granule.bytes limit }
     {
         Fragments {
             alloc,
-            memory: Memory::new(alloc, limit),
+            memory: Memory::with_granule(alloc, limit, granule),
             present: Slots::new(alloc),
         }
+    }
+
+    /// Tests that the fragments of a closure that aren't present take no more than the options of a context allow.
+    ///
+    /// # Errors
+    ///
+    /// `TooManyBytes` or else `TooManyStepsInAll`, with the first fragment with which they take more.
+    pub fn test_bounds<'a>(
+        &self,
+        closure: &Closure<'a>,
+        options: &Options,
+    ) -> Result<(), PrepareFault<'a>>
+        ensures bytes { OnOk result (AreWithin options.now.bytes (bytes_in closure.now.pairs self.now.memory.granule) (new_among self.now.present closure.now.order)) }
+        ensures steps { OnOk result (AreWithin options.now.steps (steps_in closure.now.pairs) (new_among self.now.present closure.now.order)) }
+        ensures refused { IfErr result (λ fault. IsPastBounds closure.now.pairs self.now.memory.granule (choices_of options.now).bounds (new_among self.now.present closure.now.order) fault) }
+    {
+        test_bounds(closure, &self.present, self.memory.granule(), options)
     }
 
     /// Prepares the fragments of a closure that aren't present: all are placed, then filled, then relocated,

@@ -11,6 +11,7 @@
 #![tactic(auto)]
 
 mod add_fault;
+mod bounds;
 mod connected;
 mod connections;
 mod context;
@@ -23,6 +24,7 @@ mod giving_back;
 mod image_fault;
 mod images;
 mod imports;
+mod options;
 mod places;
 mod placing;
 mod preparing;
@@ -36,13 +38,14 @@ mod users;
 
 pub use add_fault::AddFault;
 pub use cfm_closure::{BindFault, Closure, Store, StoreFault, Target};
-pub use cfm_memory::MemoryFault;
+pub use cfm_memory::{Granule, GranuleFault, MemoryFault};
 pub use context::{Connection, Context};
 pub use entries::Entries;
 pub use fault::{CloseFault, PrepareFault};
 pub use fragment_fault::FragmentFault;
 pub use image_fault::ImageFault;
 pub use imports::ImportTarget;
+pub use options::Options;
 pub use pef_loader::LoaderFault;
 pub use pef_pidata::PackFault;
 pub use pef_reloc::RelocFault;

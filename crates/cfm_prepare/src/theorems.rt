@@ -2,48 +2,49 @@
 ghost use Rattle.std.specs.Prelude.{◌≡◌, ◌++◌, ℕ, List, [], ◌∷◌, Contains, true};
 ghost use Rattle.cfm_closure.specs.Stores.{Pair};
 ghost use Rattle.cfm_prepare.specs.Fragments.{is_present, places_of};
-ghost use Rattle.cfm_prepare.specs.Contexts.{ContextState, added, fresh_state, is_needed, unused_state};
+ghost use Rattle.cfm_prepare.specs.Contexts.{ContextState, added, made_state, is_needed, unused_state};
 ghost use Rattle.cfm_prepare.specs.Now.{IsPreparedNow};
+ghost use Rattle.cfm_prepare.specs.Options.{Choices};
 ghost use Rattle.cfm_prepare.specs.Placing.{LacksRoom};
 ghost use Rattle.cfm_prepare.specs.Refusals.{HasBadImage, HasBadProgram};
 ghost use Rattle.cfm_prepare.specs.Runs.{AreClosed, Keeps, Runs, Step, Takes};
-ghost use Rattle.cfm_prepare.specs.Steps.{Closes, HasClosure, Prepares, new_of};
+ghost use Rattle.cfm_prepare.specs.Steps.{Closes, HasClosure, IsWithin, Prepares, new_of};
 ghost use Rattle.cfm_prepare.specs.declared.image_fault.ImageFault.{ImageFault};
 ghost use Rattle.pef_loader.specs.declared.program_fault.ProgramFault.{ProgramFault};
 
 /// After any list of additions, reservations, preparations and closings, a fragment is present exactly if the closure of
 /// an open connection has it. These closures are those of the connections' roots.
 pub fn present_fragments()
-    ensures present { (pairs : List Pair) (limit : ℕ) (steps : List Step) (t : ContextState) (p : ℕ) → Runs (fresh_state pairs limit) steps t → is_present t.present p ≡ is_needed t.connections p }
-    ensures closed { (pairs : List Pair) (limit : ℕ) (steps : List Step) (t : ContextState) → Runs (fresh_state pairs limit) steps t → AreClosed t.pairs t.connections }
+    ensures present { (pairs : List Pair) (choices : Choices) (steps : List Step) (t : ContextState) (p : ℕ) → Runs (made_state pairs choices) steps t → is_present t.present p ≡ is_needed t.connections p }
+    ensures closed { (pairs : List Pair) (choices : Choices) (steps : List Step) (t : ContextState) → Runs (made_state pairs choices) steps t → AreClosed t.pairs t.connections }
 {}
 
 /// A fragment that is present before and after a step, after any list of steps, keeps the places of its sections and
 /// their bytes.
 pub fn kept_fragments()
-    ensures { (pairs : List Pair) (limit : ℕ) (steps : List Step) (s t : ContextState) (step : Step) (p : ℕ) → Runs (fresh_state pairs limit) steps s → Takes s step t → is_present s.present p ≡ true → is_present t.present p ≡ true
+    ensures { (pairs : List Pair) (choices : Choices) (steps : List Step) (s t : ContextState) (step : Step) (p : ℕ) → Runs (made_state pairs choices) steps s → Takes s step t → is_present s.present p ≡ true → is_present t.present p ≡ true
         → (places_of t.present p ≡ places_of s.present p) × Keeps s.memory t.memory (places_of s.present p) }
 {}
 
 /// After any list of steps a fragment that is present is prepared as its container says, with the present addresses.
 /// A preparation leaves each fragment of its closure present and prepared in this way.
 pub fn prepared_fragments()
-    ensures now { (pairs : List Pair) (limit : ℕ) (steps : List Step) (s : ContextState) (p : ℕ) → Runs (fresh_state pairs limit) steps s → is_present s.present p ≡ true → IsPreparedNow s.pairs s p }
-    ensures closure { (pairs : List Pair) (limit : ℕ) (steps : List Step) (s t : ContextState) (name : List ℕ) (number p : ℕ) → Runs (fresh_state pairs limit) steps s → (step : Prepares s name number t) → Contains step.closure.closed.order p
+    ensures now { (pairs : List Pair) (choices : Choices) (steps : List Step) (s : ContextState) (p : ℕ) → Runs (made_state pairs choices) steps s → is_present s.present p ≡ true → IsPreparedNow s.pairs s p }
+    ensures closure { (pairs : List Pair) (choices : Choices) (steps : List Step) (s t : ContextState) (name : List ℕ) (number p : ℕ) → Runs (made_state pairs choices) steps s → (step : Prepares s name number t) → Contains step.closure.closed.order p
         → (is_present t.present p ≡ true) × IsPreparedNow t.pairs t p }
 {}
 
 /// A context that never gave a connection is equal to a new one over its store, but for its reserved ranges. If a
 /// fragment is added to a new one, it is equal to a new one over the longer store.
 pub fn added_fragments()
-    ensures unused { (pairs : List Pair) (limit : ℕ) (steps : List Step) (t : ContextState) → Runs (fresh_state pairs limit) steps t → t.given ≡ 0 → t ≡ unused_state t.pairs limit t.memory.reserved }
-    ensures added { (pairs : List Pair) (limit : ℕ) (name bytes : List ℕ) → added (fresh_state pairs limit) name bytes ≡ fresh_state (pairs ++ (record { name = name; bytes = bytes }) ∷ []) limit }
+    ensures unused { (pairs : List Pair) (choices : Choices) (steps : List Step) (t : ContextState) → Runs (made_state pairs choices) steps t → t.given ≡ 0 → t ≡ unused_state t.pairs choices t.memory.reserved }
+    ensures added { (pairs : List Pair) (choices : Choices) (name bytes : List ℕ) → added (made_state pairs choices) name bytes ≡ made_state (pairs ++ (record { name = name; bytes = bytes }) ∷ []) choices }
 {}
 
-/// If a name has a closure, none of its fragments that aren't present lacks room, and none is refused for an image or
-/// a relocation header, there is a state that the preparation gives.
+/// If a name has a closure, its fragments that aren't present take no more than the context allows, none of them lacks
+/// room, and none is refused for an image or a relocation header, there is a state that the preparation gives.
 pub fn possible_preparations()
-    ensures { (s : ContextState) (name : List ℕ) (closure : HasClosure s name) → ((other : List ℕ) → LacksRoom s.pairs s.memory (new_of s closure.closed) other → ⊥)
+    ensures { (s : ContextState) (name : List ℕ) (closure : HasClosure s name) → IsWithin s (new_of s closure.closed) → ((other : List ℕ) → LacksRoom s.pairs s.memory (new_of s closure.closed) other → ⊥)
         → ((other : List ℕ) (k : ImageFault) → HasBadImage s.pairs s.memory (new_of s closure.closed) other k → ⊥)
         → ((other : List ℕ) (k : ProgramFault) → HasBadProgram s.pairs s.present s.memory (new_of s closure.closed) other k → ⊥) → (t : ContextState) × Prepares s name s.given t }
 {}

@@ -90,6 +90,7 @@ conditions-met s t name number step =
       record { root = step.closure.has.root; is = step.closure.has.is; closed = closed; closure = step.closure.is },
       record {
         left = step.closure.has.left;
+        within = step.within;
         room = λ other lacks. all-room s.pairs s.memory step.fresh are.empty other are.placed (subst (λ ps. LacksRoom s.pairs s.memory ps other) (sym are.are) lacks);
       },
       record {

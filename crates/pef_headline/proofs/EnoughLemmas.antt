@@ -9,4 +9,4 @@ use Rattle.pef_headline.proofs.RefusedLemmas.{no-header, no-image}
 pub enough-met : (s : ContextState) (name : List ℕ) (resolve : LibrariesResolve s name) → SectionsFindRoom s resolve.closed → OthersAreSound s resolve.closed → (t : ContextState) × Prepares s name s.given t
 enough-met s name resolve find sound =
     let closure : HasClosure s name = record { has = record { left = find.left; root = resolve.root; is = resolve.is }; closed = resolve.closed; is = resolve.closure } in
-    prepares-to s name closure find.room (λ other k bad. no-image s resolve.closed other k sound bad) (λ other k bad. no-header s resolve.closed other k sound bad)
+    prepares-to s name closure find.within find.room (λ other k bad. no-image s resolve.closed other k sound bad) (λ other k bad. no-header s resolve.closed other k sound bad)

@@ -20,7 +20,7 @@ use Rattle.pef_headline.proofs.RefusedLemmas.{refused-bound, same-closed}
 -- a present fragment has the described memory
 pub headline-present : (script : DescribedScript) (s : ContextState) (p : ℕ) (reached : IsReached s) → HasLinked s.pairs p script → is_present s.present p ≡ true → StaysAsDescribed s reached p script
 headline-present script s p reached linked is =
-    let now = present-described script linked.container reached.pairs reached.limit reached.steps s p linked.linked linked.bytes reached.run is in
+    let now = present-described script linked.container reached.pairs reached.choices reached.steps s p linked.linked linked.bytes reached.run is in
     record {
       described = record { present = is; imports = imports-described script linked.container linked.linked s.pairs p linked.bytes; memory = now.0 };
       placed = now.1;
@@ -31,7 +31,7 @@ pub prepared-present : (script : DescribedScript) (s t : ContextState) (name : L
     → (has : HasDescribedMemory t p script) × IsPlacedOrKept s t p has.memory.before
 prepared-present script s t name number p reached linked step there =
     let here : HasLinked t.pairs p script = subst (λ pairs. HasLinked pairs p script) (sym step.pairs) linked in
-    let now = closure-described script here.container reached.pairs reached.limit reached.steps s t name number p here.linked here.bytes reached.run step there in
+    let now = closure-described script here.container reached.pairs reached.choices reached.steps s t name number p here.linked here.bytes reached.run step there in
     (record { present = now.0; imports = imports-described script here.container here.linked t.pairs p here.bytes; memory = now.1 }, now.2)
 
 pub headline-prepares : (script : DescribedScript) (s t : ContextState) (name : List ℕ) (p : ℕ) (answer : Result ℕ PrepareFault) → IsReached s → HasLinked s.pairs p script → (resolve : LibrariesResolve s name) → Contains resolve.closed.order p
@@ -45,7 +45,7 @@ headline-prepares script s t name p answer reached linked resolve there rooms so
     by (Ok number) step =
         let same : resolve.closed ≡ step.closure.closed = same-closed s name closure step.closure in
         let has = prepared-present script s t name number p reached linked step (subst (λ (c : Closed). Contains c.order p) same there) in (step.number, has.0, has.1)
-    by (Err fault) why = (refused-bound s name closure fault rooms.room sound why.0, why.1)
+    by (Err fault) why = (refused-bound s name closure fault rooms.within rooms.room sound why.0, why.1)
 
 pub headline-least : (script : DescribedScript) (pairs : List Pair) (p : ℕ) (linked : HasLinked pairs p script) → HasLeastPrograms pairs p script linked
 headline-least script pairs p linked =

@@ -12,7 +12,8 @@ use Rattle.cfm_memory.specs.declared.place.Place.{Place}
 use Rattle.cfm_memory.proofs.Laws.{length-placed}
 use Rattle.cfm_prepare.specs.Addresses.{addresses_from, addresses_of}
 use Rattle.cfm_prepare.specs.Fragments.{Present, extents_in, image_refusal_in, is_present, places_of, prepared_in, reloc_refusal_in}
-use Rattle.cfm_prepare.specs.Contexts.{ContextState, fresh_state}
+use Rattle.cfm_prepare.specs.Options.{Choices}
+use Rattle.cfm_prepare.specs.Contexts.{ContextState, made_state}
 use Rattle.cfm_prepare.specs.Now.{IsPreparedNow}
 use Rattle.cfm_prepare.specs.Runs.{Runs, Step}
 use Rattle.cfm_prepare.specs.Steps.{Prepares}
@@ -91,19 +92,19 @@ module _ (script : DescribedScript) (k : LinkedContainer) (linked : IsLinked scr
   described-in s before now found = described-from s (record { before = before; empty = found.0; placed = found.1; stand = now.stand })
 
 -- after any list of steps, in the memory of the last preparation before which it wasn't present
-pub present-described : (script : DescribedScript) (k : LinkedContainer) (pairs : List Pair) (limit : ℕ) (steps : List Step) (s : ContextState) (p : ℕ) → IsLinked script k → (pair_of s.pairs p).bytes ≡ k.bytes → (run : Runs (fresh_state pairs limit) steps s)
-    → is_present s.present p ≡ true → (d : IsDescribedNow s.pairs s script p) × WasPlaced steps (fresh_state pairs limit) s run p d.before
-present-described script k pairs limit steps s p linked holds run is =
-    let was = was-found pairs limit p steps s run is in
-    let d = described-in script k linked s.pairs p holds s was.before (run-now pairs limit steps s p run is) was.found in (d.0, subst (WasPlaced steps (fresh_state pairs limit) s run p) (sym d.1) was.was)
+pub present-described : (script : DescribedScript) (k : LinkedContainer) (pairs : List Pair) (choices : Choices) (steps : List Step) (s : ContextState) (p : ℕ) → IsLinked script k → (pair_of s.pairs p).bytes ≡ k.bytes → (run : Runs (made_state pairs choices) steps s)
+    → is_present s.present p ≡ true → (d : IsDescribedNow s.pairs s script p) × WasPlaced steps (made_state pairs choices) s run p d.before
+present-described script k pairs choices steps s p linked holds run is =
+    let was = was-found pairs choices p steps s run is in
+    let d = described-in script k linked s.pairs p holds s was.before (run-now pairs choices steps s p run is) was.found in (d.0, subst (WasPlaced steps (made_state pairs choices) s run p) (sym d.1) was.was)
 
 -- after a preparation of a closure that has it, in that of this preparation, if it wasn't present
-pub closure-described : (script : DescribedScript) (k : LinkedContainer) (pairs : List Pair) (limit : ℕ) (steps : List Step) (s t : ContextState) (name : List ℕ) (number p : ℕ) → IsLinked script k → (pair_of t.pairs p).bytes ≡ k.bytes → Runs (fresh_state pairs limit) steps s
+pub closure-described : (script : DescribedScript) (k : LinkedContainer) (pairs : List Pair) (choices : Choices) (steps : List Step) (s t : ContextState) (name : List ℕ) (number p : ℕ) → IsLinked script k → (pair_of t.pairs p).bytes ≡ k.bytes → Runs (made_state pairs choices) steps s
     → (step : Prepares s name number t) → Contains step.closure.closed.order p → (is_present t.present p ≡ true) × (d : IsDescribedNow t.pairs t script p) × IsPlacedOrKept s t p d.before
-closure-described script k pairs limit steps s t name number p linked holds run step there = by (is_present s.present p) refl
+closure-described script k pairs choices steps s t name number p linked holds run step there = by (is_present s.present p) refl
   where
     now : (is_present t.present p ≡ true) × IsPreparedNow t.pairs t p
-    now = run-prepares pairs limit steps s t name number p run step there
+    now = run-prepares pairs choices steps s t name number p run step there
 
     by : (b : Bool) → is_present s.present p ≡ b → (is_present t.present p ≡ true) × (d : IsDescribedNow t.pairs t script p) × IsPlacedOrKept s t p d.before
     by true was = (now.0, (described-from script k linked t.pairs p holds t now.1).0, inr (still s t name number p step was))

@@ -7,7 +7,8 @@ use Rattle.cfm_memory.specs.Extents.{ArePlaced, Extent}
 use Rattle.cfm_memory.specs.Instances.{Layout}
 use Rattle.cfm_memory.specs.Placement.{with_new}
 use Rattle.cfm_memory.specs.declared.place.Place.{Place}
-use Rattle.cfm_prepare.specs.Contexts.{ContextState, fresh_state, is_needed}
+use Rattle.cfm_prepare.specs.Options.{Choices}
+use Rattle.cfm_prepare.specs.Contexts.{ContextState, made_state, is_needed}
 use Rattle.cfm_prepare.specs.Fragments.{Present, extents_in, is_present, places_of}
 use Rattle.cfm_prepare.specs.Placing.{AllPlaced}
 use Rattle.cfm_prepare.specs.Runs.{Runs, Step, Takes, closed, prepared, reserved, stored}
@@ -116,25 +117,25 @@ pub record WasFound (steps : List Step) (s t : ContextState) (run : Runs s steps
   pub was : WasPlaced steps s t run p before
   pub found : FoundPlaces t.pairs before p (places_of t.present p)
 
-module _ (pairs : List Pair) (limit : ℕ) (p : ℕ) where
+module _ (pairs : List Pair) (choices : Choices) (p : ℕ) where
   stays-first : (steps : List Step) (s t : ContextState) (run : Runs s steps t) (places : List Place) → StaysAt steps s t run p places → IsPresentAt s p places
   stays-first [] s t run places stays = stays
   stays-first (step ∷ steps) s t run places stays = stays.0
 
   -- the rest of a run placed it, or it is present all along
-  rest-placed : (steps done : List Step) (s t : ContextState) → Runs (fresh_state pairs limit) done s → (run : Runs s steps t) → is_present t.present p ≡ true → WasFound steps s t run p ⊎ StaysAt steps s t run p (places_of t.present p)
+  rest-placed : (steps done : List Step) (s t : ContextState) → Runs (made_state pairs choices) done s → (run : Runs s steps t) → is_present t.present p ≡ true → WasFound steps s t run p ⊎ StaysAt steps s t run p (places_of t.present p)
   rest-placed [] done s t earlier run is = inr (record { present = subst (λ (u : ContextState). is_present u.present p ≡ true) run is; are = ap (λ (u : ContextState). places_of u.present p) (sym run) })
-  rest-placed (step ∷ steps) done s t earlier run is = by (rest-placed steps (done ++ step ∷ []) run.0 t (run-push done (fresh_state pairs limit) s run.0 step earlier run.1) run.2 is)
+  rest-placed (step ∷ steps) done s t earlier run is = by (rest-placed steps (done ++ step ∷ []) run.0 t (run-push done (made_state pairs choices) s run.0 step earlier run.1) run.2 is)
     where
       onward : (b : Bool) → is_present s.present p ≡ b → StaysAt steps run.0 t run.2 p (places_of t.present p) → WasFound (step ∷ steps) s t run p ⊎ StaysAt (step ∷ steps) s t run p (places_of t.present p)
       onward true was stays =
           let next = stays-first steps run.0 t run.2 (places_of t.present p) stays in
-          let kept = run-keeps pairs limit done s run.0 step p earlier run.1 was next.present in
+          let kept = run-keeps pairs choices done s run.0 step p earlier run.1 was next.present in
           inr (record { present = was; are = sym kept.0 ∙ next.are }, stays)
       onward false absent stays =
           let next = stays-first steps run.0 t run.2 (places_of t.present p) stays in
           let new = step-begun step s run.0 p run.1 absent next.present in
-          let inside = run-inside pairs limit (done ++ step ∷ []) run.0 p (run-push done (fresh_state pairs limit) s run.0 step earlier run.1) next.present in
+          let inside = run-inside pairs choices (done ++ step ∷ []) run.0 p (run-push done (made_state pairs choices) s run.0 step earlier run.1) next.present in
           let found : FoundPlaces t.pairs new.before p (places_of run.0.present p) =
           subst (λ es. (after : Layout) × ArePlaced new.before es (places_of run.0.present p) after) (sym (run-extents steps run.0 t p run.2 inside)) new.found in
           inl (record { before = new.before; was = inl (new.anew, stays); found = subst (FoundPlaces t.pairs new.before p) next.are found })
@@ -144,9 +145,9 @@ module _ (pairs : List Pair) (limit : ℕ) (p : ℕ) where
       by (inr stays) = onward (is_present s.present p) refl stays
 
   -- a run from a new context placed each fragment that is present after it
-  pub was-found : (steps : List Step) (t : ContextState) (run : Runs (fresh_state pairs limit) steps t) → is_present t.present p ≡ true → WasFound steps (fresh_state pairs limit) t run p
-  was-found steps t run is = by (rest-placed steps [] (fresh_state pairs limit) t refl run is)
+  pub was-found : (steps : List Step) (t : ContextState) (run : Runs (made_state pairs choices) steps t) → is_present t.present p ≡ true → WasFound steps (made_state pairs choices) t run p
+  was-found steps t run is = by (rest-placed steps [] (made_state pairs choices) t refl run is)
     where
-      by : WasFound steps (fresh_state pairs limit) t run p ⊎ StaysAt steps (fresh_state pairs limit) t run p (places_of t.present p) → WasFound steps (fresh_state pairs limit) t run p
+      by : WasFound steps (made_state pairs choices) t run p ⊎ StaysAt steps (made_state pairs choices) t run p (places_of t.present p) → WasFound steps (made_state pairs choices) t run p
       by (inl was) = was
-      by (inr stays) = let first = (stays-first steps (fresh_state pairs limit) t run (places_of t.present p) stays).present in absurd (cc)
+      by (inr stays) = let first = (stays-first steps (made_state pairs choices) t run (places_of t.present p) stays).present in absurd (cc)

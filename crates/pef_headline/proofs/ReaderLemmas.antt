@@ -20,7 +20,7 @@ use Rattle.cfm_memory.specs.Instances.{Layout}
 use Rattle.cfm_memory.specs.declared.place.Place.{Place}
 use Rattle.cfm_memory.proofs.Laws.{length-placed}
 use Rattle.cfm_prepare.specs.Addresses.{addresses_from, import_address, section_of, target_address}
-use Rattle.cfm_prepare.specs.Contexts.{ContextState, Open, fresh_state, open_of, open_without, opened}
+use Rattle.cfm_prepare.specs.Contexts.{ContextState, Open, made_state, open_of, open_without, opened}
 use Rattle.cfm_prepare.specs.Fragments.{Present, places_of, present_of}
 use Rattle.cfm_prepare.specs.Now.{IsPreparedNow}
 use Rattle.cfm_prepare.specs.Prepared.{addresses_at}
@@ -61,7 +61,7 @@ module _ (s t : ContextState) (name : List ℕ) (number : ℕ) (reached : IsReac
 
   -- each is prepared
   now-of : (q : ℕ) → Contains order q → IsPreparedNow s.pairs t q
-  now-of q there = subst (λ pairs. IsPreparedNow pairs t q) step.pairs (run-prepares reached.pairs reached.limit reached.steps s t name number q reached.run step there).1
+  now-of q there = subst (λ pairs. IsPreparedNow pairs t q) step.pairs (run-prepares reached.pairs reached.choices reached.steps s t name number q reached.run step there).1
 
   -- the section of a target is read
   target-read : (o : Option Target) → LiesInside s.pairs order o → IsTargetAddress t o (target_address t.present o)
@@ -182,7 +182,7 @@ reads-root text s t name number p reached has step place =
     let ends = closed-root s.pairs root step.closure.closed (place_of-below s.pairs name root found) step.closure.is in
     let there : Contains step.closure.closed.order p = subst (Contains step.closure.closed.order) same (subst (λ order. Contains order root) (sym ends.1) (Contains-push ends.0 root)) in
     let o : Open = opened s root step.closure.closed in
-    let given : AreGiven s = given-all reached.steps (fresh_state reached.pairs reached.limit) s tt reached.run in
+    let given : AreGiven s = given-all reached.steps (made_state reached.pairs reached.choices) s tt reached.run in
     let open_is : open_of t.connections number ≡ Some o = ap₂ open_of step.connections step.number ∙ open-last s.connections o s.given given refl in
     let at : (k : ℕ) → root_reader t number k ≡ fragment_reader t p k =
     λ k. (ap (option_and_then (λ (o : Open). section_present t.memory t.present o.root k)) open_is ∙ ap (λ q. section_present t.memory t.present q k) same) in

@@ -16,10 +16,11 @@ use Rattle.cfm_prepare.specs.Fragments.{Present, extents_in, first_bad_image, im
 use Rattle.cfm_prepare.specs.Placing.{AllPlaced, LacksRoom}
 use Rattle.cfm_prepare.specs.Refusals.{HasBadImage, HasBadProgram}
 use Rattle.cfm_prepare.specs.declared.fragment_fault.FragmentFault.TheVariants as fragment
-use Rattle.cfm_prepare.proofs.Laws.{lacks-room}
+use Rattle.cfm_prepare.proofs.Laws.{lacks-room, not-past}
 use Rattle.cfm_prepare.specs.Contexts.{ContextState}
 use Rattle.cfm_prepare.specs.Faults.{fault_number}
-use Rattle.cfm_prepare.specs.Steps.{HasClosure, HasRoot, MayNotPrepare, new_of}
+use Rattle.cfm_prepare.specs.Bounds.{PassesAt, bytes_in, steps_in}
+use Rattle.cfm_prepare.specs.Steps.{HasClosure, HasRoot, IsWithin, MayNotPrepare, new_of}
 use Rattle.cfm_prepare.specs.declared.fault.PrepareFault.{PrepareFault}
 use Rattle.cfm_prepare.specs.declared.fault.PrepareFault.TheVariants as fault
 use Rattle.pef_format.specs.declared.place.Place.{Place}
@@ -177,21 +178,29 @@ bound s name closure f has fails = by f (subst (FailsAs f) (ap (closed_of s.pair
 
 -- if its libraries resolve, its sections find room and the others are sound, a root is refused only for a failed
 -- allocation
-pub refused-bound : (s : ContextState) (name : List ℕ) (closure : HasClosure s name) (f : PrepareFault) → ((other : List ℕ) → LacksRoom s.pairs s.memory (new_of s closure.closed) other → ⊥) → OthersAreSound s closure.closed → MayNotPrepare s name f → fault_number f ≡ 99
-refused-bound s name closure fault.TooManyConnections rooms sound why = absurd (omega (arith, why, closure.has.left))
-refused-bound s name closure fault.RootMissing rooms sound why = let there : place_of s.pairs name ≡ Some closure.has.root = closure.has.is in let none : place_of s.pairs name ≡ None = why.1 in absurd (cc)
-refused-bound s name closure (fault.Bind f) rooms sound why = bound s name closure f why.0 why.1
-refused-bound s name closure (fault.Fragment (fragment.NoRoom f place)) rooms sound why =
+pub refused-bound : (s : ContextState) (name : List ℕ) (closure : HasClosure s name) (f : PrepareFault) → IsWithin s (new_of s closure.closed) → ((other : List ℕ) → LacksRoom s.pairs s.memory (new_of s closure.closed) other → ⊥) → OthersAreSound s closure.closed → MayNotPrepare s name f → fault_number f ≡ 99
+refused-bound s name closure fault.TooManyConnections within rooms sound why = absurd (omega (arith, why, closure.has.left))
+refused-bound s name closure fault.RootMissing within rooms sound why = let there : place_of s.pairs name ≡ Some closure.has.root = closure.has.is in let none : place_of s.pairs name ≡ None = why.1 in absurd (cc)
+refused-bound s name closure (fault.Bind f) within rooms sound why = bound s name closure f why.0 why.1
+refused-bound s name closure (fault.TooManyBytes f) within rooms sound why =
+    let same = same-closed s name why.closure closure in
+    let past = subst (λ (c : Closed). PassesAt s.bounds.bytes (bytes_in s.pairs s.memory.granule) (new_of s c) why.position) same why.passes in
+    absurd (not-past s.bounds.bytes (bytes_in s.pairs s.memory.granule) (new_of s closure.closed) why.position within.bytes past)
+refused-bound s name closure (fault.TooManyStepsInAll f) within rooms sound why =
+    let same = same-closed s name why.closure closure in
+    let past = subst (λ (c : Closed). PassesAt s.bounds.steps (steps_in s.pairs) (new_of s c) why.position) same why.passes in
+    absurd (not-past s.bounds.steps (steps_in s.pairs) (new_of s closure.closed) why.position within.steps past)
+refused-bound s name closure (fault.Fragment (fragment.NoRoom f place)) within rooms sound why =
     let lacks = lacks-room s.pairs s.memory (new_of s why.closure.closed) f.now place why.why in
     absurd (rooms f.now (subst (λ (c : Closed). LacksRoom s.pairs s.memory (new_of s c) f.now) (same-closed s name why.closure closure) lacks))
-refused-bound s name closure (fault.Fragment (fragment.Pack f k place)) rooms sound why =
+refused-bound s name closure (fault.Fragment (fragment.Pack f k place)) within rooms sound why =
     let image : ImageFault = record { fault = k; place = place } in
     absurd (no-image s closure.closed f.now image sound (subst (λ (c : Closed). HasBadImage s.pairs s.memory (new_of s c) f.now image) (same-closed s name why.closure closure) why.why))
-refused-bound s name closure (fault.Fragment (fragment.Reloc f k section place)) rooms sound why =
+refused-bound s name closure (fault.Fragment (fragment.Reloc f k section place)) within rooms sound why =
     let program : ProgramFault = record { fault = k; section = section; place = place } in
     absurd (no-header s closure.closed f.now program sound (subst (λ (c : Closed). HasBadProgram s.pairs s.present s.memory (new_of s c) f.now program) (same-closed s name why.closure closure) why.why))
-refused-bound s name closure (fault.Fragment fragment.OutOfMemory) rooms sound why = refl
-refused-bound s name closure fault.OutOfMemory rooms sound why = refl
+refused-bound s name closure (fault.Fragment fragment.OutOfMemory) within rooms sound why = refl
+refused-bound s name closure fault.OutOfMemory within rooms sound why = refl
 
 -- a fragment that isn't read isn't linked, and it is the one that its name means
 unread : (pairs : List Pair) (root : ℕ) (asked name : List ℕ) (r : BindRefusal) → place_of pairs asked ≡ Some root → IsOfUnread pairs root name r → NamesForeign pairs name

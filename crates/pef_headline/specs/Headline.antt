@@ -8,10 +8,11 @@ use Rattle.cfm_closure.specs.Closures.{Closed, closed_of}
 use Rattle.cfm_prepare.specs.Addresses.{addresses_of}
 use Rattle.cfm_prepare.specs.Fragments.{Present, image_refusal_in, is_present, reloc_refusal_in}
 use Rattle.cfm_prepare.specs.Placing.{AreNew, LacksRoom}
-use Rattle.cfm_prepare.specs.Contexts.{ContextState, fresh_state, most_connections}
+use Rattle.cfm_prepare.specs.Contexts.{ContextState, made_state}
 use Rattle.cfm_prepare.specs.Faults.{fault_number}
+use Rattle.cfm_prepare.specs.Options.{Choices}
 use Rattle.cfm_prepare.specs.Runs.{Runs, Step}
-use Rattle.cfm_prepare.specs.Steps.{MayNotPrepare, Prepares, new_of}
+use Rattle.cfm_prepare.specs.Steps.{IsWithin, MayNotPrepare, Prepares, new_of}
 use Rattle.cfm_prepare.specs.declared.fault.PrepareFault.{PrepareFault}
 use Rattle.pef_script.specs.Script.{DescribedScript, DescribedSection}
 use Rattle.pef_headline.specs.Imports.{HasImports}
@@ -30,13 +31,13 @@ pub record HasLinked (pairs : List Pair) (p : ℕ) (script : DescribedScript) : 
 abbrev pub IsForeign : List Pair → ℕ → Type 0
 IsForeign pairs p = (script : DescribedScript) → HasLinked pairs p script → ⊥
 
--- the context was made for a store and a memory limit, and any list of additions, reservations, preparations and closings
+-- the context was made for a store with some choices, and any list of additions, reservations, preparations and closings
 -- followed
 pub record IsReached (s : ContextState) : Type 0 where
   pub pairs : List Pair
-  pub limit : ℕ
+  pub choices : Choices
   pub steps : List Step
-  pub run : Runs (fresh_state pairs limit) steps s
+  pub run : Runs (made_state pairs choices) steps s
 
 -- "libraries resolve": the store has a root of this name, and the root has a closure
 pub record LibrariesResolve (s : ContextState) (name : List ℕ) : Type 0 where
@@ -45,9 +46,11 @@ pub record LibrariesResolve (s : ContextState) (name : List ℕ) : Type 0 where
   pub closed : Closed
   pub closure : closed_of s.pairs root ≡ Ok closed
 
--- "sections find room": a connection is left, and no fragment of the closure that isn't present yet lacks room
+-- "sections find room": a connection is left, the fragments of the closure that aren't present yet take no more bytes and
+-- steps than the context allows, and none of them lacks room
 pub record SectionsFindRoom (s : ContextState) (closed : Closed) : Type 0 where
-  pub left : s.given < most_connections
+  pub left : s.given < s.bounds.connections
+  pub within : IsWithin s (new_of s closed)
   pub room : (name : List ℕ) → LacksRoom s.pairs s.memory (new_of s closed) name → ⊥
 
 -- the others can be prepared: of the fragments of the closure that aren't present yet, none that is foreign has an
@@ -80,7 +83,7 @@ PreparesAsDescribed s (Err fault) t p script = (fault_number fault ≡ 99) × (t
 -- before which it wasn't present
 pub record StaysAsDescribed (s : ContextState) (reached : IsReached s) (p : ℕ) (script : DescribedScript) : Type 0 where
   pub described : HasDescribedMemory s p script
-  pub placed : WasPlaced reached.steps (fresh_state reached.pairs reached.limit) s reached.run p described.memory.before
+  pub placed : WasPlaced reached.steps (made_state reached.pairs reached.choices) s reached.run p described.memory.before
 
 -- "for each section its relocation program ..": the bytes in place p are read as a container with a loader section, and
 -- that has a least program for each section of the script

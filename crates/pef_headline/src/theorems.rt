@@ -32,8 +32,9 @@ ghost use Rattle.pef_views.specs.declared.fault.ViewFault.{ViewFault};
 /// imports are those of the script, by their names and those of their libraries. If it wasn't present, its sections
 /// were placed after those of the new fragments that come before it in the closure. If it was, they keep their places.
 /// The only refusal is 99, for a failed allocation, and then the context is unchanged. The conditions: the root is in
-/// the store, and its closure isn't refused. Fewer than 65,536 connections were given. The fragments of the closure
-/// that aren't present yet find room. None of these that wasn't linked has an image or a relocation header that is
+/// the store, and its closure isn't refused. The context has a connection left: usually fewer than 65,536 were given. The
+/// fragments of the closure that aren't present yet find room, and take no more bytes and steps than the context allows:
+/// usually it bounds neither. None of these that wasn't linked has an image or a relocation header that is
 /// refused.
 ///
 /// `present`: whenever the fragment in `p` is present, it has the described memory, under the addresses that its

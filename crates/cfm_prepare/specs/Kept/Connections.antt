@@ -1,8 +1,9 @@
--- How open connections are kept: in slots, each in the slot of its number.
-use Rattle.std.specs.Prelude.{◌≡◌, ℕ, suc, true, List, [], ◌∷◌, Option, None, Some}
+-- How open connections are kept: in slots, in the order of their numbers. A closed one may have a slot for a while.
+use Rattle.std.specs.Prelude.{◌≡◌, ℕ, ◌+◌, ◌≤◌, ◌<◌, true, List, [], ◌∷◌, Option, None, Some, length, slice_index_or}
 use Rattle.cfm_closure.specs.Closures.{Closed}
 use Rattle.cfm_prepare.specs.Contexts.{Open}
 use Rattle.cfm_prepare.specs.Lists.{has}
+use Rattle.cfm_prepare.specs.declared.connections.Slot.{Slot}
 
 -- the value of the slots: the open connections, how many numbers were given, and for how many more there is
 -- room
@@ -11,17 +12,33 @@ pub record Numbered : Type 0 where
   pub given : ℕ
   pub left : ℕ
 
--- the connections of slots
-abbrev pub open_in : List (Option Open) → List Open
-open_in [] = []
-open_in (None ∷ slots) = open_in slots
-open_in (Some o ∷ slots) = o ∷ open_in slots
+-- the connection of a slot, if it is open, and those after it
+abbrev pub open_and : Option Open → List Open → List Open
+open_and None others = others
+open_and (Some o) others = o ∷ others
 
--- each is at its number, if that of the first slot is n
-abbrev pub AreAtNumbers : ℕ → List (Option Open) → Type 0
-AreAtNumbers n [] = Unit {0}
-AreAtNumbers n (None ∷ slots) = AreAtNumbers (suc n) slots
-AreAtNumbers n (Some o ∷ slots) = (o.number ≡ n) × AreAtNumbers (suc n) slots
+-- the connections of slots
+abbrev pub open_in : List Slot → List Open
+open_in [] = []
+open_in (s ∷ slots) = open_and s.connected (open_in slots)
+
+-- a connection has the number of its slot
+abbrev pub HasNumber : Option Open → ℕ → Type 0
+HasNumber None number = Unit {0}
+HasNumber (Some o) number = o.number ≡ number
+
+-- the numbers rise, from one on and up to the next that is given
+abbrev pub AreNumbered : ℕ → ℕ → List Slot → Type 0
+AreNumbered from given [] = from ≤ given
+AreNumbered from given (s ∷ slots) = (from ≤ s.number) × HasNumber s.connected s.number × AreNumbered (s.number + 1) given slots
+
+-- slot k; past the last one, one without a connection
+abbrev pub slot_of : List Slot → ℕ → Slot
+slot_of slots k = slice_index_or slots k (record { number = 0; connected = None })
+
+-- slot k is that of a number
+abbrev pub IsSlotOf : List Slot → ℕ → ℕ → Type 0
+IsSlotOf slots number k = (k < length slots) × ((slot_of slots k).number ≡ number)
 
 -- the fragments of a closure's initialization order are its own
 abbrev pub AreOfClosure : Closed → Type 0

@@ -36,6 +36,7 @@ returns-clause-closed c =
     rw (← c.self.view_is) (record {
       closed = c.in-Some.closed;
       was = sym c.in-Some.ensures.taken;
+      bounds = refl;
       pairs = refl;
       given = c.in-Some.ensures.given;
       connections = c.in-Some.ensures.items;
@@ -55,6 +56,7 @@ invariant_of-self-2 c =
     let many : length (open_without os number) ≤ given = omega (arith, fewer, c.self.invariant.many) in
     record {
       few = omega (arith, c.in-Some.ensures.given, c.self.invariant.few);
+      small = c.self.invariant.small;
       many = omega (arith, many, ap length c.in-Some.ensures.items, c.in-Some.ensures.given);
       counted = counts-left os c.remove.new.self.items number c.in-Some.closed c.order-order.result.now c.self.inside.users.items c.leave.new.users.items c.in-Some.ensures.taken order c.in-Some.ensures.items c.self.invariant.counted c.leave.ensures;
       used = λ p there. still-used c.leave.new.users.items c.self.inside.fragments.present p (stays p there);

@@ -7,14 +7,20 @@ use Rattle.cfm_closure.specs.Stores.{Pair, place_of}
 use Rattle.cfm_closure.specs.Faults.{FailsAs}
 use Rattle.cfm_closure.proofs.Laws.{closed-complete, closed-root, closed-store}
 use Rattle.cfm_prepare.specs.Lists.{IsOnce, has}
-use Rattle.cfm_prepare.specs.Fragments.{new_among}
+use Rattle.cfm_prepare.specs.Fragments.{Present, new_among}
 use Rattle.cfm_prepare.specs.Placing.{ArePrepared}
 use Rattle.cfm_prepare.specs.Refusals.{MayNotPrepareNew}
 use Rattle.cfm_prepare.proofs.ListLemmas.{has-contains, once-from-pairs}
 use Rattle.cfm_prepare.proofs.FoundLemmas.{new-has, present-has}
-use Rattle.cfm_prepare.specs.Contexts.{ContextState, Open, most_connections}
+use Rattle.cfm_prepare.specs.Contexts.{ContextState, Open}
 use Rattle.cfm_prepare.specs.Kept.Users.{CountsMore, CountUsers}
-use Rattle.cfm_prepare.specs.Steps.{HasRoot, IsRefusedLate}
+use Rattle.cfm_prepare.specs.Bounds.{AreWithin, bytes_in, steps_in}
+use Rattle.cfm_prepare.specs.Kept.Bounds.{IsPastBounds}
+use Rattle.cfm_prepare.specs.declared.fault.PrepareFault.{PrepareFault}
+use Rattle.cfm_prepare.specs.declared.fault.PrepareFault.TheVariants as fault
+use Rattle.cfm_prepare.specs.declared.options.Options.{Options}
+use Rattle.cfm_memory.specs.Instances.{Layout}
+use Rattle.cfm_prepare.specs.Steps.{HasClosure, HasRoot, IsRefusedLate, MayNotPrepare, new_of}
 use Rattle.cfm_prepare.proofs.OpenLemmas.{ends-contains, of-closure}
 use Rattle.cfm_prepare.proofs.UsersLemmas.{entered-count, entered-used, same_users, users-few}
 use Rattle.cfm_prepare.proofs.context.Context.open_root.Goals as goal
@@ -25,6 +31,40 @@ returns-in_err-closure-clause-refused c = λ name is.
     let has : HasRoot c.args.self.now name = record { left = c.requires.left; root = c.args.root; is = is } in
     let fails : FailsAs c.in_err-closure.field-0.0 (closed_of c.args.self.now.pairs c.args.root) = rw (← c.self.view_is) c.in_err-closure.ensures in
     rw (p.1, p.2) (has, fails)
+
+-- what was tested of a closure holds of the store
+within-of : (pairs store : List Pair) (there : List Present) (m : Layout) (options : Options) (order : List ℕ) → store ≡ pairs → AreWithin options.bytes (bytes_in store m.granule) (new_among there order) → AreWithin options.steps (steps_in store) (new_among there order)
+    → AreWithin options.bytes (bytes_in pairs m.granule) (new_among there order) × AreWithin options.steps (steps_in pairs) (new_among there order)
+within-of pairs store there m options order same bytes steps = (
+  subst (λ (ps : List Pair). AreWithin options.bytes (bytes_in ps m.granule) (new_among there order)) same bytes,
+  subst (λ (ps : List Pair). AreWithin options.steps (steps_in ps) (new_among there order)) same steps,
+)
+
+-- so does why they take too much
+past-of : (s : ContextState) (name : List ℕ) (closure : HasClosure s name) (store : List Pair) (f : PrepareFault) → store ≡ s.pairs → IsPastBounds store s.memory.granule s.bounds (new_of s closure.closed) f → MayNotPrepare s name f
+past-of s name closure store fault.TooManyConnections same past = absurd past
+past-of s name closure store fault.RootMissing same past = absurd past
+past-of s name closure store (fault.Bind f) same past = absurd past
+past-of s name closure store (fault.TooManyBytes f) same past =
+    let Q : List Pair → Type 0 = λ ps. IsPastBounds ps s.memory.granule s.bounds (new_of s closure.closed) (fault.TooManyBytes f) in
+    let here = subst Q same past in
+    record { closure = closure; position = here.0; passes = here.1; is = here.2 }
+past-of s name closure store (fault.TooManyStepsInAll f) same past =
+    let Q : List Pair → Type 0 = λ ps. IsPastBounds ps s.memory.granule s.bounds (new_of s closure.closed) (fault.TooManyStepsInAll f) in
+    let here = subst Q same past in
+    record { closure = closure; bytes = here.0; position = here.1; passes = here.2; is = here.3 }
+past-of s name closure store (fault.Fragment f) same past = absurd past
+past-of s name closure store fault.OutOfMemory same past = absurd past
+
+pub returns-in_err-test_bounds-clause-refused : goal.returns-in_err-test_bounds-clause-refused
+returns-in_err-test_bounds-clause-refused c = λ name is.
+    let p = err_from_is_err_and c.from_residual-in_err-test_bounds.result c.from_residual-in_err-test_bounds.ensures.1 in
+    let closed = c.in_ok-closure.closure in
+    let of_store = closed-store c.self.inside.store c.args.root closed c.in_ok-closure.ensures in
+    let Q : ContextState → Type 0 = λ s. place_of s.pairs name ≡ Some c.args.root in
+    let R : ContextState → Type 0 = λ s. s.given < s.bounds.connections in
+    let why : MayNotPrepare c.args.self.now name c.in_err-test_bounds.field-0.0 = rw (← c.self.view_is) (past-of _ name (record { has = record { left = subst R (sym c.self.view_is) c.requires.left; root = c.args.root; is = subst Q (sym c.self.view_is) is }; closed = closed; is = c.in_ok-closure.ensures }) closed.pairs c.in_err-test_bounds.field-0.0 of_store c.in_err-test_bounds.ensures.refused) in
+    rw (p.1, p.2) why
 
 pub prepare-requires : goal.prepare-requires
 prepare-requires c =
@@ -37,11 +77,13 @@ returns-in_err-prepare-clause-refused c = λ name is.
     let closed = c.in_ok-closure.closure in
     let of_store = closed-store c.self.inside.store c.args.root closed c.in_ok-closure.ensures in
     let there = c.self.inside.fragments.present in
+    let within = within-of c.self.inside.store closed.pairs there c.self.inside.fragments.memory c.self.inside.options closed.order of_store c.in_ok-test_bounds.ensures.bytes c.in_ok-test_bounds.ensures.steps in
     let P : List Pair → Type 0 = λ ps. MayNotPrepareNew ps there c.self.inside.fragments.memory (new_among there closed.order) c.in_err-prepare.field-0.0 in
     let Q : ContextState → Type 0 = λ s. place_of s.pairs name ≡ Some c.args.root in
-    let R : ContextState → Type 0 = λ s. s.given < most_connections in
+    let R : ContextState → Type 0 = λ s. s.given < s.bounds.connections in
     let late : IsRefusedLate c.args.self.now name c.in_err-prepare.field-0.0 = rw (← c.self.view_is) (record {
       closure = record { has = record { left = subst R (sym c.self.view_is) c.requires.left; root = c.args.root; is = subst Q (sym c.self.view_is) is }; closed = closed; is = c.in_ok-closure.ensures };
+      within = record { bytes = within.0; steps = within.1 };
       why = subst P of_store c.in_err-prepare.ensures.refused;
     }) in
     rw (p.1, p.2) late
@@ -62,7 +104,7 @@ enter-requires-clause-inside c = λ p there.
 pub enter-requires-clause-few : goal.enter-requires-clause-few
 enter-requires-clause-few c = λ p.
     let os = c.self.inside.connections.items in
-    omega (arith, c.in_ok-make_room.ensures.same p, c.self.invariant.counted p, users-few os p, c.self.invariant.many, c.self.invariant.few)
+    omega (arith, c.in_ok-make_room.ensures.same p, c.self.invariant.counted p, users-few os p, c.self.invariant.many, c.self.invariant.few, c.self.invariant.small)
 
 pub new-requires-clause-root : goal.new-requires-clause-root
 new-requires-clause-root c =
@@ -91,14 +133,17 @@ returns-clause-prepared c = λ name is.
     c.new.ensures ∙ ap (λ n. record { number = n; root = c.args.root; closed = closed; placed = c.in_ok-placed.placed.items }) number ∙ ap (λ (ps : List ℕ). record { number = before.given; root = c.args.root; closed = closed; placed = ps }) placed in
     let done = c.in_ok-prepare.ensures.prepared in
     let there = c.self.inside.fragments.present in
+    let within = within-of c.self.inside.store closed.pairs there c.self.inside.fragments.memory c.self.inside.options closed.order of_store c.in_ok-test_bounds.ensures.bytes c.in_ok-test_bounds.ensures.steps in
     let P : List Pair → Type 0 = λ ps. ArePrepared ps there c.self.inside.fragments.memory (new_among there closed.order) done.0 c.prepare.new.self.memory in
     let Q : ContextState → Type 0 = λ s. place_of s.pairs name ≡ Some c.args.root in
-    let R : ContextState → Type 0 = λ s. s.given < most_connections in
+    let R : ContextState → Type 0 = λ s. s.given < s.bounds.connections in
     rw (← c.self.view_is) (record {
       closure = record { has = record { left = subst R (sym c.self.view_is) c.requires.left; root = c.args.root; is = subst Q (sym c.self.view_is) is }; closed = closed; is = c.in_ok-closure.ensures };
+      within = record { bytes = within.0; steps = within.1 };
       fresh = done.0;
       prepared = subst P of_store done.2;
       number = number;
+      bounds = refl;
       pairs = refl;
       given = c.push.ensures.given ∙ ap (λ n. n + 1) c.in_ok-reserve.ensures.given;
       connections = c.push.ensures.items ∙ ap (λ (xs : List Open). xs ++ c.new.result ∷ []) c.in_ok-reserve.ensures.items ∙ ap (λ (x : Open). before.items ++ x ∷ []) made;
@@ -119,12 +164,13 @@ invariant_of-self-2 c =
     let given : c.push.new.self.given ≡ before.given + 1 = c.push.ensures.given ∙ ap (λ n. n + 1) c.in_ok-reserve.ensures.given in
     let done = c.in_ok-prepare.ensures.prepared in
     let there = c.self.inside.fragments.present in
-    let R : ContextState → Type 0 = λ s. s.given < most_connections in
-    let left : before.given < most_connections = subst R (sym c.self.view_is) c.requires.left in
+    let R : ContextState → Type 0 = λ s. s.given < s.bounds.connections in
+    let left : before.given < c.self.inside.options.connections = subst R (sym c.self.view_is) c.requires.left in
     let P : List ℕ → Type 0 = λ ps. CountsMore ps c.make_room.new.users.items c.enter.new.users.items in
     let Q : List Open → Type 0 = λ xs. CountUsers c.enter.new.users.items xs in
     record {
       few = omega (arith, left, given);
+      small = c.self.invariant.small;
       many = omega (arith, ap length pushed, length-append os (o ∷ []), c.self.invariant.many, given);
       counted = subst Q (sym pushed) (entered-count os o c.make_room.new.users.items c.enter.new.users.items (same_users c.self.inside.users.items c.make_room.new.users.items os c.in_ok-make_room.ensures.same c.self.invariant.counted) (subst P c.order.ensures.order c.enter.ensures));
       used = entered-used c.make_room.new.users.items c.enter.new.users.items there c.prepare.new.self.present done.0 closed.order (subst P c.order.ensures.order c.enter.ensures)

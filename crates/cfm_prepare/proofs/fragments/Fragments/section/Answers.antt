@@ -36,7 +36,7 @@ returns-clause-section c =
 pub returns-clause-within : goal.returns-clause-within
 returns-clause-within c =
     let m = c.self.inside.memory in
-    rw (← c.self.view_is) (laid-below first_address m.limit m.instances c.in_ok-place.field-0.now.address c.part.result.now c.part.ensures.in_order.laid_out c.part.ensures.bytes)
+    rw (← c.self.view_is) (laid-below m.granule first_address m.limit m.instances c.in_ok-place.field-0.now.address c.part.result.now c.part.ensures.in_order.laid_out c.part.ensures.bytes)
 
 pub returns-clause-clear : goal.returns-clause-clear
 returns-clause-clear c =
