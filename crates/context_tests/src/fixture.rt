@@ -120,7 +120,11 @@ fn tell_fault(rt: &impl Abort, text: &mut String, fault: PrepareFault<'_>) {
             FragmentFault::NoRoom { fragment, .. }
             | FragmentFault::Pack { fragment, .. }
             | FragmentFault::Reloc { fragment, .. },
-        ) => tell_name(text, fragment).expect(rt, "memory"),
+        )
+        | PrepareFault::TooManyBytes { fragment }
+        | PrepareFault::TooManyStepsInAll { fragment } => {
+            tell_name(text, fragment).expect(rt, "memory")
+        }
         PrepareFault::Bind(fault) => tell_names(text, fault).expect(rt, "memory"),
         _ => {}
     }

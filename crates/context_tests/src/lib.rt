@@ -16,6 +16,8 @@ mod loading;
 #[cfg(test)]
 mod many;
 #[cfg(test)]
+mod options;
+#[cfg(test)]
 mod readers;
 #[cfg(test)]
 mod refused;

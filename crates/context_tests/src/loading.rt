@@ -1,6 +1,6 @@
-//! The examples of `docs/EMBEDDING.md`: `store_of`, `load` and `prepare_app` have its lines word for word.
+//! The examples of `docs/EMBEDDING.md`: `store_of`, `load`, `load_in_pages` and `prepare_app` have its lines word for word.
 
-use cfm_prepare::{Context, Store};
+use cfm_prepare::{Context, Granule, Options, Store};
 use std::alloc::Global;
 use std::process::Abort;
 use std::test::Fail;
@@ -60,6 +60,24 @@ fn load(
     prepare_app(&mut context, machine)
 }
 
+/// The same with options: each section has pages of its own, and what a preparation takes is bounded.
+fn load_in_pages(
+    alloc: Global,
+    tools_bytes: &[u8],
+    app_bytes: &[u8],
+    machine: &mut Machine,
+) -> Result<(), Fail> {
+    let store = store_of(alloc, tools_bytes, app_bytes)?;
+    let options = Options {
+        granule: Granule::new(4_096)?,
+        steps: Some(50_000_000),
+        bytes: Some(0x0400_0000),
+        ..Options::new()
+    };
+    let mut context = Context::with_options(alloc, store, options);
+    prepare_app(&mut context, machine)
+}
+
 const TOOLS: &[u8] =
     b"versions 1 0 0\nsection data data process 4 4\nbytes data 0000002A\nexport answer data data 0\n";
 
@@ -81,5 +99,18 @@ fn loading(rt: HostRuntime) -> Result<(), Fail> {
     let mut machine = Machine { memory: [0xEE; 24] };
     load(rt.alloc(), tools.bytes(), app.bytes(), &mut machine)?;
     test_loaded(&rt, &machine);
+    Ok(())
+}
+
+/// The machine has memory for the library alone, which is in the first page.
+#[test]
+fn loading_in_pages(rt: HostRuntime) -> Result<(), Fail> {
+    let tools = link_text(rt.alloc(), TOOLS).expect(&rt, "a container");
+    let app = link_text(rt.alloc(), APP).expect(&rt, "a container");
+    let mut machine = Machine { memory: [0xEE; 24] };
+    load_in_pages(rt.alloc(), tools.bytes(), app.bytes(), &mut machine)?;
+    let mut wanted = [0xEE; 24];
+    wanted[..4].copy_from_slice(&[0, 0, 0, 0x2A]);
+    assert!(&rt; machine.memory == wanted);
     Ok(())
 }

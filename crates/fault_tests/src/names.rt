@@ -1,5 +1,5 @@
 use cfm_closure::{BindFault, Definition, Implementation, StoreFault};
-use cfm_memory::MemoryFault;
+use cfm_memory::{GranuleFault, MemoryFault};
 use cfm_prepare::{AddFault, CloseFault, FragmentFault, PrepareFault};
 use pef_cert::CertFault;
 use pef_format::{Part, Place};
@@ -163,6 +163,9 @@ const MEMORY: &[(MemoryFault, &str)] = &[
     (MemoryFault::OutOfMemory, "OutOfMemory"),
 ];
 
+/// Refusals of a granule.
+const GRANULES: &[(GranuleFault, &str)] = &[(GranuleFault::BadGranule, "BadGranule")];
+
 /// A place. No text has it.
 const PLACE: Place = Place {
     part: Part::Header,
@@ -317,6 +320,14 @@ const PREPARATIONS: &[(PrepareFault<'static>, &str)] = &[
     (PrepareFault::TooManyConnections, "TooManyConnections"),
     (PrepareFault::RootMissing, "RootMissing"),
     (PrepareFault::Bind(INIT_LOOP), "InitLoop"),
+    (
+        PrepareFault::TooManyBytes { fragment: b"f" },
+        "TooManyBytes",
+    ),
+    (
+        PrepareFault::TooManyStepsInAll { fragment: b"f" },
+        "TooManyStepsInAll",
+    ),
     (PrepareFault::Fragment(NO_ROOM), "NoRoom"),
     (PrepareFault::OutOfMemory, "OutOfMemory"),
 ];
@@ -363,6 +374,7 @@ fn names_of_fragments(rt: HostRuntime) {
     let alloc = rt.alloc();
     test_texts(&rt, alloc, CLOSURES);
     test_texts(&rt, alloc, MEMORY);
+    test_texts(&rt, alloc, GRANULES);
     test_texts(&rt, alloc, FRAGMENTS);
     test_texts(&rt, alloc, PREPARATIONS);
     test_texts(&rt, alloc, &[(StoreFault::OutOfMemory, "OutOfMemory")]);

@@ -4,7 +4,11 @@
 #![tactic(auto)]
 
 #[cfg(test)]
+mod fixups;
+#[cfg(test)]
 mod memory;
+#[cfg(test)]
+mod options;
 #[cfg(test)]
 mod prepare;
 #[cfg(test)]

@@ -1,4 +1,4 @@
-use cfm_memory::{Memory, MemoryFault, Place};
+use cfm_memory::{Granule, Memory, MemoryFault, Place};
 use std::alloc::Global;
 use std::process::Abort;
 
@@ -95,6 +95,96 @@ fn place_below_a_limit(rt: HostRuntime) {
     for (limit, places) in LIMITS {
         place_all(&rt, &mut Memory::new(rt.alloc(), *limit), places);
     }
+}
+
+/// A number, and whether it is a granule.
+const GRANULES: &[(u32, bool)] = &[
+    (0, false),
+    (1, false),
+    (8, false),
+    (15, false),
+    (16, true),
+    (17, false),
+    (24, false),
+    (32, true),
+    (4_095, false),
+    (4_096, true),
+    (0x8000_0000, true),
+    (0xFFFF_FFFF, false),
+];
+
+#[test]
+fn granules(rt: HostRuntime) {
+    for (bytes, good) in GRANULES {
+        match Granule::new(*bytes) {
+            Ok(granule) => assert!(rt; *good && granule.bytes() == *bytes, "{bytes}"),
+            Err(fault) => assert!(rt; !*good && fault.number() == 205, "{bytes}"),
+        }
+    }
+    assert!(rt; Granule::least().bytes() == 16);
+}
+
+/// A granule, a limit, and what is placed below it. Each section has pages of its own, and a greater alignment decides
+/// instead.
+const PAGES: &[(u32, u32, &[Row])] = &[
+    (
+        4_096,
+        0x1_8000,
+        &[
+            (1, 0, 0x1_0000),
+            (0, 4, 0x1_1000),
+            (4_097, 12, 0x1_2000),
+            (4_096, 14, 0x1_4000),
+            (0x3000, 0, 0x1_5000),
+            (0, 0, 0),
+        ],
+    ),
+    (4_096, 0x1_0FFF, &[(1, 0, 0)]),
+    (0x2_0000, 0x4_0000, &[(1, 0, 0x2_0000), (1, 0, 0)]),
+    (
+        16,
+        0x1_0020,
+        &[(1, 0, 0x1_0000), (1, 0, 0x1_0010), (1, 0, 0)],
+    ),
+];
+
+fn with_pages(rt: &impl Abort, alloc: Global, bytes: u32, limit: u32) -> Memory {
+    match Granule::new(bytes) {
+        Ok(granule) => Memory::with_granule(alloc, limit, granule),
+        Err(fault) => panic!(rt; "{bytes}: {fault}"),
+    }
+}
+
+#[test]
+fn place_in_pages(rt: HostRuntime) {
+    for (bytes, limit, places) in PAGES {
+        let mut memory = with_pages(&rt, rt.alloc(), *bytes, *limit);
+        place_all(&rt, &mut memory, places);
+    }
+}
+
+/// Address and size of a range beside an instance of one byte at 00010000, which takes a page; and whether it can be
+/// reserved. The ends of a range are multiples of 16.
+const BESIDE_A_PAGE: &[(u32, u32, bool)] = &[
+    (0x1_0010, 16, false),
+    (0x1_0FFF, 1, false),
+    (0x1_1000, 16, true),
+    (0x1_1000, 1, false),
+    (0xFFF0, 16, true),
+];
+
+/// The page of an instance is taken whole, and a range of 16 bytes in a page keeps instances out of that page.
+#[test]
+fn reserve_beside_pages(rt: HostRuntime) {
+    let mut memory = with_pages(&rt, rt.alloc(), 4_096, 0x2_0000);
+    test_place(&rt, &mut memory, (1, 0, 0x1_0000));
+    for (address, size, free) in BESIDE_A_PAGE {
+        assert!(rt;
+            memory.reserve(*address, *size).is_ok() == *free,
+            "{address}, {size}"
+        );
+    }
+    test_place(&rt, &mut memory, (1, 0, 0x1_2000));
 }
 
 /// How many instances, the size and the alignment of each, and the distance between their addresses:

@@ -240,15 +240,15 @@ const NAMES: &[u8] = b"it\x00a\x00";
 /// A slot of one key, the key of `a`, and its export: an absolute symbol, the number 00000100 (hex).
 const EXPORTS: &[u8] = b"\x00\x04\x00\x00\x00\x01\x00\x61\x01\x00\x00\x03\x00\x00\x01\x00\xFF\xFE";
 
-fn len(bytes: &[u8]) -> u32 {
+pub(crate) fn len(bytes: &[u8]) -> u32 {
     u32::try_from(bytes.len()).unwrap_or(0)
 }
 
-fn push(rt: &impl Abort, bytes: &mut Vec<u8>, more: &[u8]) {
+pub(crate) fn push(rt: &impl Abort, bytes: &mut Vec<u8>, more: &[u8]) {
     bytes.extend_from_slice(more).expect(rt, "memory");
 }
 
-fn push_words(rt: &impl Abort, bytes: &mut Vec<u8>, words: &[u32]) {
+pub(crate) fn push_words(rt: &impl Abort, bytes: &mut Vec<u8>, words: &[u32]) {
     for word in words {
         push(rt, bytes, &word.to_be_bytes());
     }
@@ -256,11 +256,11 @@ fn push_words(rt: &impl Abort, bytes: &mut Vec<u8>, words: &[u32]) {
 
 /// A section: its kind, its total length, the length of its image, and that of its raw bytes.
 #[derive(Clone, Copy)]
-struct Section {
-    kind: u8,
-    total: u32,
-    unpacked: u32,
-    packed: u32,
+pub(crate) struct Section {
+    pub kind: u8,
+    pub total: u32,
+    pub unpacked: u32,
+    pub packed: u32,
 }
 
 /// One word.
@@ -314,7 +314,7 @@ fn loader(rt: &impl Abort, alloc: Global, row: &Row) -> Vec<u8> {
 
 /// Appends the headers of a container whose last section is its loader section. The raw bytes of the sections
 /// follow one another after the headers.
-fn push_headers(rt: &impl Abort, bytes: &mut Vec<u8>, sections: &[Section]) {
+pub(crate) fn push_headers(rt: &impl Abort, bytes: &mut Vec<u8>, sections: &[Section]) {
     let count = u16::try_from(sections.len()).expect(rt, "few sections");
     push(rt, bytes, b"Joy!peffpwpc");
     push_words(rt, bytes, &[1, 0, 0, 0, 0]);
@@ -358,7 +358,7 @@ fn container(rt: &impl Abort, alloc: Global, row: &Row) -> Vec<u8> {
 }
 
 /// Returns a store of the one fragment of a container.
-fn store_of<'a>(rt: &impl Abort, alloc: Global, container: &'a [u8]) -> Store<'a> {
+pub(crate) fn store_of<'a>(rt: &impl Abort, alloc: Global, container: &'a [u8]) -> Store<'a> {
     let mut store = Store::new(alloc);
     store.add(b"it", container).expect(rt, "memory");
     store
