@@ -1,13 +1,14 @@
 -- Any error of the product, with its number and its name (docs/ERRORS.md). They are those of the crate that finds it;
 -- 52, 71 and 72 are found by commands alone.
 use Rattle.std.specs.Prelude.{ℕ, List, Option, None, Some, codes}
+use Rattle.cfm_members.specs.FragmentFaults as members
 use Rattle.cfm_prepare.specs.Faults as prepare
 use Rattle.pef_cert.specs.Text.Faults as cert
 use Rattle.pef_listing.specs.Faults as listing
 use Rattle.pef_ports.specs.Faults as input
 use Rattle.pef_script.specs.Text.Faults as script
 use Rattle.pef_faults.specs.declared.fault.Fault.{Fault}
-use Rattle.pef_faults.specs.declared.fault.Fault.TheVariants.{Script, Listing, Certificate, SectionsDiffer, Input, Prepare, Unreadable, Unwritable, OutOfMemory}
+use Rattle.pef_faults.specs.declared.fault.Fault.TheVariants.{Script, Listing, Certificate, SectionsDiffer, Input, Prepare, Fragment, Unreadable, Unwritable, OutOfMemory}
 
 -- the numbers
 unfoldable pub fault_number : Fault → ℕ
@@ -17,6 +18,7 @@ fault_number (Certificate fault) = cert.fault_number fault
 fault_number SectionsDiffer = 52
 fault_number (Input fault) = input.fault_number fault
 fault_number (Prepare fault) = prepare.fault_number fault
+fault_number (Fragment fault) = members.fragment_fault_number fault
 fault_number (Unreadable path) = 71
 fault_number (Unwritable path) = 72
 fault_number OutOfMemory = 99
@@ -29,6 +31,7 @@ fault_name (Certificate fault) = cert.fault_name fault
 fault_name SectionsDiffer = codes "SectionsDiffer"
 fault_name (Input fault) = input.fault_name fault
 fault_name (Prepare fault) = prepare.fault_name fault
+fault_name (Fragment fault) = members.fragment_fault_name fault
 fault_name (Unreadable path) = codes "FileUnreadable"
 fault_name (Unwritable path) = codes "FileUnwritable"
 fault_name OutOfMemory = codes "OutOfMemory"

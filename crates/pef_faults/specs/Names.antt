@@ -39,6 +39,8 @@ fragment_names fragment.OutOfMemory = no_names
 -- those of a fragment that isn't prepared
 unfoldable pub prepare_names : PrepareFault → Names
 prepare_names (prepare.Bind f) = bind_names f
+prepare_names (prepare.TooManyBytes f) = record { fragment = Some f.now; library = None; symbol = None }
+prepare_names (prepare.TooManyStepsInAll f) = record { fragment = Some f.now; library = None; symbol = None }
 prepare_names (prepare.Fragment f) = fragment_names f
 prepare_names _ = no_names
 

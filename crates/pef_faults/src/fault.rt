@@ -1,6 +1,7 @@
 ghost use Rattle.std.specs.Prelude.{◌≡◌, option_map};
 ghost use Rattle.pef_faults.specs.Faults.{fault_line, fault_name, fault_number, fault_path};
 
+use cfm_members::FragmentFault;
 use cfm_prepare::PrepareFault;
 use pef_cert::CertFault;
 use pef_listing::ListFault;
@@ -23,6 +24,8 @@ pub enum Fault<'a> {
     Input(InputFault),
     /// A fragment isn't prepared.
     Prepare(PrepareFault<'a>),
+    /// The container of a fragment isn't found in a file.
+    Fragment(FragmentFault),
     /// The file at this path couldn't be read.
     Unreadable { path: &'a [u8] },
     /// The file at this path couldn't be written.
@@ -44,6 +47,7 @@ impl<'a> Fault<'a> {
             Fault::SectionsDiffer => 52,
             Fault::Input(fault) => fault.number(),
             Fault::Prepare(fault) => fault.number(),
+            Fault::Fragment(fault) => fault.number(),
             Fault::Unreadable { .. } => 71,
             Fault::Unwritable { .. } => 72,
             Fault::OutOfMemory => 99,
@@ -62,6 +66,7 @@ impl<'a> Fault<'a> {
             Fault::SectionsDiffer => "SectionsDiffer",
             Fault::Input(fault) => fault.name(),
             Fault::Prepare(fault) => fault.name(),
+            Fault::Fragment(fault) => fault.name(),
             Fault::Unreadable { .. } => "FileUnreadable",
             Fault::Unwritable { .. } => "FileUnwritable",
             Fault::OutOfMemory => "OutOfMemory",
@@ -80,6 +85,7 @@ impl<'a> Fault<'a> {
             | Fault::SectionsDiffer
             | Fault::Input(_)
             | Fault::Prepare(_)
+            | Fault::Fragment(_)
             | Fault::Unreadable { .. }
             | Fault::Unwritable { .. }
             | Fault::OutOfMemory => None,
@@ -99,6 +105,7 @@ impl<'a> Fault<'a> {
             | Fault::SectionsDiffer
             | Fault::Input(_)
             | Fault::Prepare(_)
+            | Fault::Fragment(_)
             | Fault::OutOfMemory => None,
         }
     }
@@ -145,6 +152,17 @@ impl<'a> From<PrepareFault<'a>> for Fault<'a> {
 
     fn from(fault: PrepareFault<'a>) -> Fault<'a> {
         Fault::Prepare(fault)
+    }
+}
+
+impl<'a> From<FragmentFault> for Fault<'a> {
+    ghost use Rattle.std.specs.Prelude.{◌≡◌};
+    ghost use Rattle.pef_faults.specs.declared.fault.Fault.TheVariants.{Fragment};
+
+    ghost from_gives = { λ fault e. e ≡ Fragment fault };
+
+    fn from(fault: FragmentFault) -> Fault<'a> {
+        Fault::Fragment(fault)
     }
 }
 

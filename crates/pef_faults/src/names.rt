@@ -27,6 +27,7 @@ impl<'a> Fault<'a> {
             | Fault::Certificate(_)
             | Fault::SectionsDiffer
             | Fault::Input(_)
+            | Fault::Fragment(_)
             | Fault::Unreadable { .. }
             | Fault::Unwritable { .. }
             | Fault::OutOfMemory => no_names(),
@@ -75,6 +76,9 @@ fn prepare_names<'a>(fault: &PrepareFault<'a>) -> Names<'a>
     match fault {
         PrepareFault::Bind(fault) => bind_names(fault),
         PrepareFault::Fragment(fault) => fragment_names(fault),
+        PrepareFault::TooManyBytes { fragment } | PrepareFault::TooManyStepsInAll { fragment } => {
+            fragment_alone(fragment)
+        }
         PrepareFault::TooManyConnections | PrepareFault::RootMissing | PrepareFault::OutOfMemory =>
             no_names(),
     }

@@ -19,6 +19,7 @@ impl<'a> Fault<'a> {
             Fault::Prepare(fault) => fault.place(),
             Fault::SectionsDiffer
             | Fault::Input(_)
+            | Fault::Fragment(_)
             | Fault::Unreadable { .. }
             | Fault::Unwritable { .. }
             | Fault::OutOfMemory => None,

@@ -21,7 +21,7 @@ use Rattle.pef_tool.specs.declared.check.Verdict.TheVariants.{Yes, No}
 use Rattle.pef_cert.specs.declared.text.fault.CertFault.TheVariants as cert_fault
 use Rattle.pef_faults.specs.Faults.{fault_number}
 use Rattle.pef_faults.specs.declared.fault.Fault.{Fault}
-use Rattle.pef_faults.specs.declared.fault.Fault.TheVariants.{Script, Listing, Certificate, SectionsDiffer, Input, Prepare, Unreadable, Unwritable, OutOfMemory}
+use Rattle.pef_faults.specs.declared.fault.Fault.TheVariants.{Script, Listing, Certificate, SectionsDiffer, Input, Prepare, Fragment, Unreadable, Unwritable, OutOfMemory}
 use Rattle.pef_script.specs.declared.text.fault.ScriptFault.TheVariants as script_fault
 
 -- certificates for the sections of a script can be printed
@@ -129,6 +129,7 @@ all_accepted texts script certificates judged is holds are printed judges = by j
     by (Err (Listing fault)) never = absurd never
     by (Err (Input fault)) never = absurd never
     by (Err (Prepare fault)) never = absurd never
+    by (Err (Fragment fault)) never = absurd never
     by (Err (Unreadable path)) never = absurd never
     by (Err (Unwritable path)) never = absurd never
 

@@ -32,6 +32,8 @@ module _ (before after : Stream) (read : Vec ℕ Global) (text : List ℕ) (read
   refused_with script (fault.Prepare (prepare_fault.Fragment (fragment_fault.Pack f k place))) is ends = absurd ends.said
   refused_with script (fault.Prepare (prepare_fault.Fragment (fragment_fault.Reloc f k section place))) is ends = absurd ends.said
   refused_with script (fault.Prepare prepare_fault.TooManyConnections) is ends = absurd ends.said
+  refused_with script (fault.Prepare (prepare_fault.TooManyBytes f)) is ends = absurd ends.said
+  refused_with script (fault.Prepare (prepare_fault.TooManyStepsInAll f)) is ends = absurd ends.said
   refused_with script (fault.Prepare prepare_fault.RootMissing) is ends = absurd ends.said
   refused_with script fault.OutOfMemory is ends = ((read.items, reads.1, reads.2), reads.3)
   refused_with script (fault.Script f told) is ends = absurd ends
@@ -39,6 +41,7 @@ module _ (before after : Stream) (read : Vec ℕ Global) (text : List ℕ) (read
   refused_with script (fault.Certificate f) is ends = absurd ends
   refused_with script fault.SectionsDiffer is ends = absurd ends
   refused_with script (fault.Input f) is ends = absurd ends
+  refused_with script (fault.Fragment f) is ends = absurd ends
   refused_with script (fault.Unreadable path) is ends = absurd ends
   refused_with script (fault.Unwritable path) is ends = absurd ends
 
@@ -65,6 +68,7 @@ module _ (before after : Stream) (read : Vec ℕ Global) (text : List ℕ) (read
   no_script_shown fault.SectionsDiffer fails = absurd fails
   no_script_shown (fault.Input f) fails = absurd fails
   no_script_shown (fault.Prepare f) fails = absurd fails
+  no_script_shown (fault.Fragment f) fails = absurd fails
   no_script_shown (fault.Unreadable path) fails = absurd fails
   no_script_shown (fault.Unwritable path) fails = absurd fails
 

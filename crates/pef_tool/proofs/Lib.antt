@@ -6,6 +6,8 @@ mod AnswersProofs
 mod CheckLemmas
 mod EndLemmas
 mod ExplainLemmas
+mod ExtentLemmas
+mod ExtractLemmas
 mod LoadLemmas
 mod LoadedLemmas
 mod RequestProofs

@@ -19,7 +19,7 @@ use Rattle.pef_tool.specs.Kept.Rooted as rooted
 use Rattle.pef_tool.specs.Limits.{memory_limit}
 use Rattle.pef_tool.specs.Load.{LoadEnds, LoadOutcome, StopsAt, WereRead, first_name, load_answer, loads, paired, refuses}
 use Rattle.pef_faults.specs.declared.fault.Fault.{Fault}
-use Rattle.pef_faults.specs.declared.fault.Fault.TheVariants.{Script, Listing, Certificate, SectionsDiffer, Input, Prepare, Unreadable, Unwritable, OutOfMemory}
+use Rattle.pef_faults.specs.declared.fault.Fault.TheVariants.{Script, Listing, Certificate, SectionsDiffer, Input, Prepare, Fragment, Unreadable, Unwritable, OutOfMemory}
 
 module _ {F : Type 0} (port : FilesPort F) where
   -- one file more
@@ -100,6 +100,7 @@ module _ {F : Type 0} (port : FilesPort F) where
   stops before between after xs i d contents SectionsDiffer under read stop = absurd stop
   stops before between after xs i d contents (Input f) under read stop = absurd stop
   stops before between after xs i d contents (Prepare f) under read stop = absurd stop
+  stops before between after xs i d contents (Fragment f) under read stop = absurd stop
 
   -- an allocation failed after the first files
   pub lacks-after : (before after : F) (xs : List NamedFile) (i : ℕ) (contents : List (List ℕ)) → WereRead port before after (map named_path (take i xs)) contents → StopsReading port before after (map named_path xs) OutOfMemory

@@ -6,12 +6,13 @@ use Rattle.pef_faults.specs.declared.fault.Fault.TheVariants as fault
 use Rattle.pef_script.specs.Text.Grammar.{script_of}
 use Rattle.pef_script.specs.Text.Reads.{FailsAs}
 use Rattle.pef_script.specs.declared.text.fault.ScriptFault.{ScriptFault}
-use Rattle.pef_tool.specs.Request.Requests.{Asked, check, distances, link, list, load, show}
+use Rattle.pef_tool.specs.Request.Requests.{Asked, check, distances, extract, link, list, load, show, version}
 use Rattle.pef_tool.specs.Answers.Faults.{fault_answer}
 use Rattle.pef_tool.specs.Load as load
 use Rattle.pef_tool.specs.Show as show
 use Rattle.pef_tool.specs.Check as check
 use Rattle.pef_tool.specs.Distances as distances
+use Rattle.pef_tool.specs.Extract as extract
 use Rattle.pef_tool.specs.Link as link
 use Rattle.pef_tool.specs.Kept.Linking.{RefusesText}
 use Rattle.pef_tool.specs.Kept.Loading.{StopsReading}
@@ -35,6 +36,7 @@ module _ {F : Type 0} (port : FilesPort F) (before after : F) where
   unread_linking script fault.SectionsDiffer stops = absurd stops
   unread_linking script (fault.Input f) stops = absurd stops
   unread_linking script (fault.Prepare f) stops = absurd stops
+  unread_linking script (fault.Fragment f) stops = absurd stops
 
   -- .. or its text isn't linked
   pub unlinked : (script read text : List ℕ) (why : Fault) → Reads port before after script (Ok read) → text ≡ read → RefusesText text why → link.RefusesLinking port before after script why
@@ -50,6 +52,7 @@ module _ {F : Type 0} (port : FilesPort F) (before after : F) where
   unlinked script read text fault.SectionsDiffer reads same fails = absurd fails
   unlinked script read text (fault.Input f) reads same fails = absurd fails
   unlinked script read text (fault.Prepare f) reads same fails = absurd fails
+  unlinked script read text (fault.Fragment f) reads same fails = absurd fails
 
   -- for `link`, an allocation may also fail later
   pub refuses_link : (script out : List ℕ) (why : Fault) → link.RefusesLinking port before after script why → link.LinkRefuses port before after script out why
@@ -62,6 +65,7 @@ module _ {F : Type 0} (port : FilesPort F) (before after : F) where
   refuses_link script out fault.SectionsDiffer refuses = absurd refuses
   refuses_link script out (fault.Input f) refuses = absurd refuses
   refuses_link script out (fault.Prepare f) refuses = absurd refuses
+  refuses_link script out (fault.Fragment f) refuses = absurd refuses
 
   -- a file that isn't read ends `list`
   pub list_refuses : (path : List ℕ) (why : Fault) → StopsFile port before after path why → list.ListRefuses port before after path why
@@ -74,6 +78,20 @@ module _ {F : Type 0} (port : FilesPort F) (before after : F) where
   list_refuses path fault.SectionsDiffer stops = absurd stops
   list_refuses path (fault.Input f) stops = absurd stops
   list_refuses path (fault.Prepare f) stops = absurd stops
+  list_refuses path (fault.Fragment f) stops = absurd stops
+
+  -- and `extract`
+  pub extract_refuses : (path name out : List ℕ) (why : Fault) → StopsFile port before after path why → extract.ExtractRefuses port before after path name out why
+  extract_refuses path name out (fault.Unreadable told) stops = stops
+  extract_refuses path name out fault.OutOfMemory stops = inr (inl stops)
+  extract_refuses path name out (fault.Unwritable told) stops = absurd stops
+  extract_refuses path name out (fault.Script f told) stops = absurd stops
+  extract_refuses path name out (fault.Listing f) stops = absurd stops
+  extract_refuses path name out (fault.Certificate f) stops = absurd stops
+  extract_refuses path name out fault.SectionsDiffer stops = absurd stops
+  extract_refuses path name out (fault.Input f) stops = absurd stops
+  extract_refuses path name out (fault.Prepare f) stops = absurd stops
+  extract_refuses path name out (fault.Fragment f) stops = absurd stops
 
   -- and `load`
   pub load_refuses : (named : List (List ℕ × List ℕ)) (why : Fault) → StopsReading port before after named why → load.LoadRefuses port before after named why
@@ -86,6 +104,7 @@ module _ {F : Type 0} (port : FilesPort F) (before after : F) where
   load_refuses named fault.SectionsDiffer stops = absurd stops
   load_refuses named (fault.Input f) stops = absurd stops
   load_refuses named (fault.Prepare f) stops = absurd stops
+  load_refuses named (fault.Fragment f) stops = absurd stops
 
   -- and `check`, for each of its two files
   pub check_refuses : (script cert : List ℕ) (why : Fault) → StopsFile port before after script why → check.RefusesFiles port before after script cert why
@@ -98,6 +117,7 @@ module _ {F : Type 0} (port : FilesPort F) (before after : F) where
   check_refuses script cert fault.SectionsDiffer stops = absurd stops
   check_refuses script cert (fault.Input f) stops = absurd stops
   check_refuses script cert (fault.Prepare f) stops = absurd stops
+  check_refuses script cert (fault.Fragment f) stops = absurd stops
 
   pub check_refuses_later : (between : F) (script cert text : List ℕ) (why : Fault) → Reads port before between script (Ok text) → StopsFile port between after cert why → check.RefusesFiles port before after script cert why
   check_refuses_later between script cert text (fault.Unreadable told) first stops = inr (stops.0, (text, record { between = between; first = first; second = stops.1 }))
@@ -109,6 +129,7 @@ module _ {F : Type 0} (port : FilesPort F) (before after : F) where
   check_refuses_later between script cert text fault.SectionsDiffer first stops = absurd stops
   check_refuses_later between script cert text (fault.Input f) first stops = absurd stops
   check_refuses_later between script cert text (fault.Prepare f) first stops = absurd stops
+  check_refuses_later between script cert text (fault.Fragment f) first stops = absurd stops
 
 -- nothing of an input was read
 nothing_read : (told : Option (List ℕ)) → Begins told told []
@@ -125,3 +146,5 @@ lacks_memory port stream (Some (list path)) files input = ((list.refuses fault.O
 lacks_memory port stream (Some (check script cert)) files input = ((check.refuses fault.OutOfMemory, inl refl, refl), refl)
 lacks_memory port stream (Some (load named)) files input = ((load.refuses fault.OutOfMemory, inl (0, [], refl), refl), refl)
 lacks_memory port stream (Some (distances script)) files input = ((distances.refuses fault.OutOfMemory, inl refl, refl), refl)
+lacks_memory port stream (Some version) files input = (inr refl, refl, refl)
+lacks_memory port stream (Some (extract path name out)) files input = ((extract.refuses fault.OutOfMemory, inl refl, refl), refl)

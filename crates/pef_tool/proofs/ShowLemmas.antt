@@ -132,6 +132,8 @@ module _ (script : DescribedScript) (k : LinkedContainer) (linked : IsLinked scr
     ends = record { container = k; linked = linked; fails = lacks_closure why.0.root f (root-is k.bytes why.0.root why.0.is) why.1 };
     said = refl;
   }
+  unprepared (prepare_fault.TooManyBytes f) why = absurd why.passes
+  unprepared (prepare_fault.TooManyStepsInAll f) why = absurd why.passes
   unprepared (prepare_fault.Fragment (fragment_fault.NoRoom f place)) why =
       let lacks = no_room _ f.now (new-is k.bytes memory_limit why.closure) (lacks-room _ _ _ f.now place why.why) in
       record {

@@ -1,4 +1,6 @@
 pub mod Distances
+pub mod Extents
+pub mod Extract
 pub mod Kept
 pub mod Link
 pub mod List
@@ -11,5 +13,6 @@ pub mod Load
 pub mod Loaded
 pub mod Request
 pub mod Show
+pub mod Version
 pub mod Explain
 pub mod Notes

@@ -1,14 +1,16 @@
 -- The answer of a run. Each command has a line here, and its answers in a file of their own.
 use Rattle.std.specs.Prelude.{◌≡◌, ◌⊎◌, Option, None, Some}
 use Rattle.pef_ports.specs.Ports.{FilesPort, Stream}
-use Rattle.pef_tool.specs.Request.Requests.{Asked, check, distances, link, list, load, show}
+use Rattle.pef_tool.specs.Request.Requests.{Asked, check, distances, extract, link, list, load, show, version}
 use Rattle.pef_tool.specs.Answers.Answers.{Answer, answer_usage}
 use Rattle.pef_tool.specs.Load.{LoadAnswers}
 use Rattle.pef_tool.specs.Show.{ShowAnswers}
 use Rattle.pef_tool.specs.Check.{CheckAnswers}
 use Rattle.pef_tool.specs.Distances.{DistancesAnswers}
+use Rattle.pef_tool.specs.Extract.{ExtractAnswers}
 use Rattle.pef_tool.specs.Link.{LinkAnswers}
 use Rattle.pef_tool.specs.List.{ListAnswers}
+use Rattle.pef_tool.specs.Version.{VersionAnswers}
 use Rattle.pef_tool.specs.Answers.Faults.{fault_answer}
 use Rattle.pef_faults.specs.declared.fault.Fault.TheVariants.{OutOfMemory}
 
@@ -26,3 +28,5 @@ RunAnswers port stream (Some (list path)) files files' input input' answer = Lis
 RunAnswers port stream (Some (check script cert)) files files' input input' answer = CheckAnswers port files files' script cert answer × (input' ≡ input)
 RunAnswers port stream (Some (load named)) files files' input input' answer = LoadAnswers port files files' named answer × (input' ≡ input)
 RunAnswers port stream (Some (distances script)) files files' input input' answer = DistancesAnswers port files files' script answer × (input' ≡ input)
+RunAnswers port stream (Some version) files files' input input' answer = VersionAnswers answer × (files' ≡ files) × (input' ≡ input)
+RunAnswers port stream (Some (extract path name out)) files files' input input' answer = ExtractAnswers port files files' path name out answer × (input' ≡ input)

@@ -1,5 +1,5 @@
 ghost use Rattle.std.specs.Prelude.{◌≡◌, Some, map, string_bytes};
-ghost use Rattle.pef_tool.specs.Request.CommandLine.{asked_by};
+ghost use Rattle.pef_tool.specs.Request.CommandLine.{request_by};
 ghost use Rattle.pef_tool.specs.Request.Requests.{asked_of};
 ghost use Rattle.pef_tool.specs.Answers.Answers.{Answer, IsDelivered, status_of};
 ghost use Rattle.pef_tool.specs.Answers.Faults.{fault_answer};
@@ -10,11 +10,13 @@ ghost use Rattle.pef_tool.specs.Run.{RunAnswers};
 use crate::answers::{Outcome, Usage, deliver};
 use crate::check::check_files;
 use crate::distances::print_distances;
+use crate::extract::{Extraction, extract_file};
 use crate::link::link_files;
 use crate::list::list_file;
 use crate::load::load_files;
-use crate::request::{Request, WordsFault, read_words};
+use crate::request::{Request, WordsFault, read_request};
 use crate::show::show_input;
+use crate::version::print_version;
 use pef_faults::Fault;
 use pef_ports::{Files, Sink, Source};
 use std::alloc::Global;
@@ -32,7 +34,7 @@ pub fn run<F: Files, R: Source, W: Sink>(
 ) -> u8
     ensures { (answer : Answer)
         × (outcome : Outcome)
-        × RunAnswers (record { state = F.state; was_read = F.was_read; was_written = F.was_written }) R.stream (asked_by (map string_bytes words.now)) files.old files.new input.old input.new answer
+        × RunAnswers (record { state = F.state; was_read = F.was_read; was_written = F.was_written }) R.stream (request_by (map string_bytes words.now)) files.old files.new input.old input.new answer
         × IsDelivered (W.stream out.old) (W.stream out.new) answer outcome
         × (result ≡ status_of outcome) }
 {
@@ -48,10 +50,10 @@ pub fn perform<F: Files, R: Source, W: Sink>(
     out: &mut W,
 ) -> Outcome
     ensures { (answer : Answer)
-        × RunAnswers (record { state = F.state; was_read = F.was_read; was_written = F.was_written }) R.stream (asked_by (map string_bytes words.now)) files.old files.new input.old input.new answer
+        × RunAnswers (record { state = F.state; was_read = F.was_read; was_written = F.was_written }) R.stream (request_by (map string_bytes words.now)) files.old files.new input.old input.new answer
         × IsDelivered (W.stream out.old) (W.stream out.new) answer result }
 {
-    match read_words(alloc, words) {
+    match read_request(alloc, words) {
         Ok(request) => run_request(alloc, request, files, input, out),
         Err(WordsFault::Usage) => deliver(out, &Usage),
         Err(WordsFault::OutOfMemory) => deliver(out, &Fault::OutOfMemory),
@@ -89,5 +91,20 @@ fn run_request<F: Files, R: Source, W: Sink>(
         }
         Request::Load { files: named } => load_files(alloc, files, named.as_slice(), out),
         Request::Distances { script } => print_distances(alloc, files, script.as_bytes(), out),
+        Request::Version => print_version(out),
+        Request::Extract {
+            file,
+            name,
+            out: target,
+        } => extract_file(
+            alloc,
+            files,
+            Extraction {
+                path: file.as_bytes(),
+                name: name.as_bytes(),
+                target: target.as_bytes(),
+            },
+            out,
+        ),
     }
 }

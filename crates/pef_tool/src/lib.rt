@@ -10,6 +10,8 @@ mod check;
 mod commands;
 mod distances;
 mod explanation;
+mod extent;
+mod extract;
 mod fragment;
 mod link;
 mod linking;
@@ -21,6 +23,7 @@ mod reading;
 mod request;
 mod show;
 pub mod theorems;
+mod version;
 
 pub use answers::Outcome;
 pub use commands::{out_of_memory, perform, run};

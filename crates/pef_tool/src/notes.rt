@@ -55,6 +55,7 @@ pub(crate) fn note_of(fault: &Fault<'_>) -> Note
         Fault::Certificate(_)
         | Fault::SectionsDiffer
         | Fault::Input(_)
+        | Fault::Fragment(_)
         | Fault::Unreadable { .. }
         | Fault::Unwritable { .. }
         | Fault::OutOfMemory => Note::Nothing,
@@ -97,8 +98,11 @@ fn prepare_note(fault: &PrepareFault<'_>) -> Note
     match fault {
         PrepareFault::Bind(fault) => bind_note(fault),
         PrepareFault::Fragment(fault) => fragment_note(fault),
-        PrepareFault::TooManyConnections | PrepareFault::RootMissing | PrepareFault::OutOfMemory =>
-            Note::Nothing,
+        PrepareFault::TooManyConnections
+        | PrepareFault::RootMissing
+        | PrepareFault::TooManyBytes { .. }
+        | PrepareFault::TooManyStepsInAll { .. }
+        | PrepareFault::OutOfMemory => Note::Nothing,
     }
 }
 

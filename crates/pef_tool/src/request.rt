@@ -5,7 +5,7 @@ mod files;
 mod theorems;
 mod usage;
 
-pub use command_line::{Request, WordsFault, read_words};
+pub use command_line::{Request, WordsFault, read_request};
 pub use files::NamedFile;
 pub use theorems::plain_words;
 pub use usage::words_help;

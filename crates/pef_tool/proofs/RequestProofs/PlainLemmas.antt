@@ -1,10 +1,11 @@
 -- Words that don't begin with `-` are parsed as expected.
 use Rattle.std.proofs.Common.{◌≡◌, false, List, [], ◌∷◌, None, codes, drop, refl, ◌∙◌, inl, inr}
 use Rattle.std.specs.Str.{bytes_eq}
+use Rattle.std.proofs.lemmas.Bool.{ne_eqb}
 use Rattle.clap.proofs.OnLiterals.{clap_on_literals}
 use Rattle.clap.specs.Walk.{Text}
-use Rattle.pef_tool.specs.Request.CommandLine.{asked_by, pef}
-use Rattle.pef_tool.specs.Request.Plain.{ArePlain, plain_check, plain_distances, plain_link, plain_list, plain_show, plain_words}
+use Rattle.pef_tool.specs.Request.CommandLine.{asked_by, asks_version, pef, request_by}
+use Rattle.pef_tool.specs.Request.Plain.{ArePlain, plain_check, plain_distances, plain_extract, plain_link, plain_list, plain_show, plain_words}
 use Rattle.pef_tool.proofs.RequestProofs.LoadLemmas.{load_operands}
 use Rattle.pef_tool.proofs.RequestProofs.NameLemmas.{IsNoFlag, at_end, command_named, is_or_not, named, no_flag}
 
@@ -74,6 +75,29 @@ distances_operands (script ∷ word ∷ words) plain =
     let b = no_flag word plain.1.0 in
     rw (a.dashes, a.long, a.short, b.dashes, b.long, b.short) refl
 
+-- the operands of `extract`
+extract_operands : (words : List Text) → ArePlain words → at_end (named (codes "extract") words) [] ≡ plain_extract words
+unfolding pef clap_on_literals named at_end
+extract_operands [] plain = refl
+extract_operands (file ∷ []) plain =
+    let a = no_flag file plain.0 in
+    rw (a.dashes, a.long, a.short) refl
+extract_operands (file ∷ name ∷ []) plain =
+    let a = no_flag file plain.0 in
+    let b = no_flag name plain.1.0 in
+    rw (a.dashes, a.long, a.short, b.dashes, b.long, b.short) refl
+extract_operands (file ∷ name ∷ out ∷ []) plain =
+    let a = no_flag file plain.0 in
+    let b = no_flag name plain.1.0 in
+    let c = no_flag out plain.1.1.0 in
+    rw (a.dashes, a.long, a.short, b.dashes, b.long, b.short, c.dashes, c.long, c.short) refl
+extract_operands (file ∷ name ∷ out ∷ word ∷ words) plain =
+    let a = no_flag file plain.0 in
+    let b = no_flag name plain.1.0 in
+    let c = no_flag out plain.1.1.0 in
+    let d = no_flag word plain.1.1.1.0 in
+    rw (a.dashes, a.long, a.short, b.dashes, b.long, b.short, c.dashes, c.long, c.short, d.dashes, d.long, d.short) refl
+
 none_asked : asked_by [] ≡ None
 unfolding asked_by pef clap_on_literals
 none_asked = refl
@@ -82,12 +106,12 @@ program_asked : (program : Text) → asked_by (program ∷ []) ≡ None
 unfolding asked_by pef clap_on_literals
 program_asked program = refl
 
-unknown_asked : (program name : Text) (words : List Text) → bytes_eq (codes "show") name ≡ false → bytes_eq (codes "link") name ≡ false → bytes_eq (codes "list") name ≡ false → bytes_eq (codes "check") name ≡ false → bytes_eq (codes "load") name ≡ false → bytes_eq (codes "distances") name ≡ false → IsNoFlag name → asked_by (program ∷ name ∷ words) ≡ None
+unknown_asked : (program name : Text) (words : List Text) → bytes_eq (codes "show") name ≡ false → bytes_eq (codes "link") name ≡ false → bytes_eq (codes "list") name ≡ false → bytes_eq (codes "check") name ≡ false → bytes_eq (codes "load") name ≡ false → bytes_eq (codes "distances") name ≡ false → bytes_eq (codes "extract") name ≡ false → IsNoFlag name → asked_by (program ∷ name ∷ words) ≡ None
 unfolding asked_by pef clap_on_literals
-unknown_asked program name words a b c d e f free = rw (a, b, c, d, e, f, free.dashes, free.long, free.short) refl
+unknown_asked program name words a b c d e f g free = rw (a, b, c, d, e, f, g, free.dashes, free.long, free.short) refl
 
--- words that don't begin with `-` make the request that they spell
-pub asked_plain : (words : List Text) → ArePlain (drop 1 words) → asked_by words ≡ plain_words words
+-- words of a command that don't begin with `-` make the request that they spell
+asked_plain : (words : List Text) → ArePlain (drop 1 words) → asked_by words ≡ plain_words words
 unfolding pef
 asked_plain [] plain = none_asked
 asked_plain (program ∷ []) plain = program_asked program
@@ -103,10 +127,26 @@ asked_plain (program ∷ name ∷ words) plain = elim (is_or_not (bytes_eq (code
           | inl e ↦ rw (a, b, c, d, e) (command_named program name (codes "load") words (rw (a, b, c, d, e) refl) refl ∙ load_operands words plain.1)
           | inr e ↦ elim (is_or_not (bytes_eq (codes "distances") name)) [
             | inl f ↦ rw (a, b, c, d, e, f) (command_named program name (codes "distances") words (rw (a, b, c, d, e, f) refl) refl ∙ distances_operands words plain.1)
-            | inr f ↦ rw (a, b, c, d, e, f) (unknown_asked program name words a b c d e f (no_flag name plain.0))
+            | inr f ↦ elim (is_or_not (bytes_eq (codes "extract") name)) [
+              | inl g ↦ rw (a, b, c, d, e, f, g) (command_named program name (codes "extract") words (rw (a, b, c, d, e, f, g) refl) refl ∙ extract_operands words plain.1)
+              | inr g ↦ rw (a, b, c, d, e, f, g) (unknown_asked program name words a b c d e f g (no_flag name plain.0))
+            ]
           ]
         ]
       ]
     ]
   ]
 ]
+
+-- such words don't ask for the version
+no_version : (words : List Text) → ArePlain (drop 1 words) → asks_version words ≡ false
+unfolding asks_version
+no_version [] plain = refl
+no_version (program ∷ []) plain = refl
+no_version (program ∷ [] ∷ []) plain = refl
+no_version (program ∷ (b ∷ word) ∷ []) plain = rw (ne_eqb b 45 plain.0) refl
+no_version (program ∷ word ∷ next ∷ words) plain = refl
+
+-- words that don't begin with `-` make the request that they spell
+pub request_plain : (words : List Text) → ArePlain (drop 1 words) → request_by words ≡ plain_words words
+request_plain words plain = rw (no_version words plain) (asked_plain words plain)

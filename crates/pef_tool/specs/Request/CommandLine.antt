@@ -1,10 +1,10 @@
 -- The request that a command line makes, by `clap`'s own function of the words, with this program's commands.
-use Rattle.std.specs.Prelude.{ℕ, true, List, [], ◌∷◌, Option, None, Some, codes, if◌then◌else◌, option_and_then, option_map}
+use Rattle.std.specs.Prelude.{ℕ, Bool, true, false, List, [], ◌∷◌, Option, None, Some, codes, if◌then◌else◌, option_and_then, option_map}
 use Rattle.std.specs.Str.{bytes_eq}
 use Rattle.clap.specs.Walk.{Row, Rule, Text, all_of, first_of}
 use Rattle.clap.specs.Words.{App, Kinds, new_app, new_rule, with_rule, with_subcommand, fault_of, subcommand_of}
 use Rattle.pef_tool.specs.Request.Files.{named_files}
-use Rattle.pef_tool.specs.Request.Requests.{Asked, check, distances, link, list, load, show}
+use Rattle.pef_tool.specs.Request.Requests.{Asked, check, distances, extract, link, list, load, show, version}
 
 -- a required operand
 abbrev pub operand : Text → Rule
@@ -42,6 +42,10 @@ load_command = with_rule (new_app (codes "load")) files_operand
 abbrev pub distances_command : App
 distances_command = with_rule (new_app (codes "distances")) (operand (codes "SCRIPT"))
 
+-- `extract FILE NAME OUT`
+abbrev pub extract_command : App
+extract_command = with_rule (with_rule (with_rule (new_app (codes "extract")) (operand (codes "FILE"))) (operand (codes "NAME"))) (operand (codes "OUT"))
+
 -- the program, which requires a command and has no help
 abbrev pub top_command : App
 top_command =
@@ -50,7 +54,7 @@ top_command =
 
 -- the program's commands
 unfoldable pub pef : App
-pef = with_subcommand (with_subcommand (with_subcommand (with_subcommand (with_subcommand (with_subcommand top_command show_command.top) link_command.top) list_command.top) check_command.top) load_command.top) distances_command.top
+pef = with_subcommand (with_subcommand (with_subcommand (with_subcommand (with_subcommand (with_subcommand (with_subcommand top_command show_command.top) link_command.top) list_command.top) check_command.top) load_command.top) distances_command.top) extract_command.top
 
 -- the request that the operands of `link` make
 abbrev pub link_asked : List Row → Option Asked
@@ -72,6 +76,12 @@ load_asked rows = option_and_then (λ words. option_map load (named_files words)
 abbrev pub distances_asked : List Row → Option Asked
 distances_asked rows = option_map distances (first_of (codes "SCRIPT") rows)
 
+-- the request that the operands of `extract` make
+abbrev pub extract_asked : List Row → Option Asked
+extract_asked rows =
+    option_and_then (λ file. option_and_then (λ name. option_map (extract file name) (first_of (codes "OUT") rows)) (first_of (codes "NAME") rows))
+    (first_of (codes "FILE") rows)
+
 -- the request that a command's name and operands make
 abbrev pub command_asked : Text → List Row → Option Asked
 command_asked name rows =
@@ -80,7 +90,8 @@ command_asked name rows =
     else if bytes_eq name (codes "list") then list_asked rows
     else if bytes_eq name (codes "check") then check_asked rows
     else if bytes_eq name (codes "load") then load_asked rows
-    else if bytes_eq name (codes "distances") then distances_asked rows else None
+    else if bytes_eq name (codes "distances") then distances_asked rows
+    else if bytes_eq name (codes "extract") then extract_asked rows else None
 
 -- the request of a line without a fault is the request of its command
 abbrev pub asked_at : Kinds → Option (Text × List Row) → Option Asked
@@ -90,3 +101,14 @@ asked_at (k ∷ ks) found = None
 -- the request that the words make, if they are a valid line
 unfoldable pub asked_by : List Text → Option Asked
 asked_by words = asked_at (fault_of pef words) (subcommand_of pef words)
+
+-- whether the words are `--version` alone, after the program's name
+unfoldable pub asks_version : List Text → Bool
+asks_version [] = false
+asks_version (program ∷ []) = false
+asks_version (program ∷ word ∷ []) = bytes_eq word (codes "--version")
+asks_version (program ∷ word ∷ next ∷ words) = false
+
+-- the request of a command line: the version, or that of a command
+abbrev pub request_by : List Text → Option Asked
+request_by words = if asks_version words then Some version else asked_by words

@@ -2,7 +2,7 @@
 use Rattle.std.specs.Prelude.{◌≢◌, ℕ, ⊤, List, [], ◌∷◌, length, nat_le, Option, None, Some, codes, if◌then◌else◌, option_map}
 use Rattle.std.specs.Str.{bytes_eq}
 use Rattle.pef_tool.specs.Request.Files.{named_files}
-use Rattle.pef_tool.specs.Request.Requests.{Asked, check, distances, link, list, load, show}
+use Rattle.pef_tool.specs.Request.Requests.{Asked, check, distances, extract, link, list, load, show}
 
 -- a word that doesn't begin with `-`
 abbrev pub IsPlain : List ℕ → Type 0
@@ -49,6 +49,14 @@ plain_distances [] = None
 plain_distances (script ∷ []) = Some (distances script)
 plain_distances (script ∷ word ∷ words) = None
 
+-- `extract FILE NAME OUT` alone
+abbrev pub plain_extract : List (List ℕ) → Option Asked
+plain_extract [] = None
+plain_extract (file ∷ []) = None
+plain_extract (file ∷ name ∷ []) = None
+plain_extract (file ∷ name ∷ out ∷ []) = Some (extract file name out)
+plain_extract (file ∷ name ∷ out ∷ word ∷ words) = None
+
 -- a command by its name, with its operands
 abbrev pub plain_command : List ℕ → List (List ℕ) → Option Asked
 plain_command name operands =
@@ -58,6 +66,7 @@ plain_command name operands =
     else if bytes_eq (codes "check") name then plain_check operands
     else if bytes_eq (codes "load") name then plain_load operands
     else if bytes_eq (codes "distances") name then plain_distances operands
+    else if bytes_eq (codes "extract") name then plain_extract operands
     else None
 
 -- the request that words make, whose first one is the program's name

@@ -14,6 +14,8 @@ pub data Asked : Type 0 where
   list : List ℕ → Asked
   distances : List ℕ → Asked
   check : List ℕ → List ℕ → Asked
+  version : Asked
+  extract : List ℕ → List ℕ → List ℕ → Asked
 
 -- a file's name and its path
 abbrev pub named_path : NamedFile → List ℕ × List ℕ
@@ -27,6 +29,8 @@ asked_of (request.Load files) = load (map named_path files.items)
 asked_of (request.List file) = list file.now
 asked_of (request.Distances script) = distances script.now
 asked_of (request.Check script cert) = check script.now cert.now
+asked_of request.Version = version
+asked_of (request.Extract file name out) = extract file.now name.now out.now
 
 -- the answer to a command line: its request, or that it is invalid
 abbrev pub AnswersWords : Result Request WordsFault → Option Asked → Type 0

@@ -2,7 +2,7 @@ ghost use Rattle.std.specs.Prelude.{◌≡◌, IfOk, false, map, string_bytes};
 ghost use Rattle.clap.specs.Walk.{rule_of};
 ghost use Rattle.clap.specs.Words.{app_of, found_of, new_app, rows_of};
 ghost use Rattle.clap.specs.declared.builder.command.Command.TheViews.{out-Command};
-ghost use Rattle.pef_tool.specs.Request.CommandLine.{asked_by, check_asked, check_command, command_asked, distances_asked, distances_command, link_asked, link_command, list_asked, list_command, load_asked, load_command, operand, pef};
+ghost use Rattle.pef_tool.specs.Request.CommandLine.{asked_by, asks_version, check_asked, check_command, command_asked, distances_asked, distances_command, extract_asked, extract_command, link_asked, link_command, list_asked, list_command, load_asked, load_command, operand, pef, request_by};
 ghost use Rattle.pef_tool.specs.Request.Kept.Commands.{HasOneMore};
 ghost use Rattle.pef_tool.specs.Request.Kept.Kinds.{fault_of_kind};
 ghost use Rattle.pef_tool.specs.Request.Requests.{AnswersWords};
@@ -24,16 +24,36 @@ pub enum Request<'a> {
     /// Link the script on the input, prepare it, and print its memory.
     Show,
     /// Link the script at a path, and write the container to another.
-    Link { script: &'a str, out: &'a str },
+    Link {
+        script: &'a str,
+        out: &'a str,
+    },
     /// Prepare the first of these 1 to 256 containers and print the memory. A library is found among the containers by
     /// its name.
-    Load { files: Vec<NamedFile<'a>> },
+    Load {
+        files: Vec<NamedFile<'a>>,
+    },
     /// List the container at a path.
-    List { file: &'a str },
+    List {
+        file: &'a str,
+    },
     /// Print the certificates of the sections of the script at a path.
-    Distances { script: &'a str },
+    Distances {
+        script: &'a str,
+    },
     /// Check the certificates at a path for the sections of the script at another.
-    Check { script: &'a str, cert: &'a str },
+    Check {
+        script: &'a str,
+        cert: &'a str,
+    },
+    /// Print the version of the program.
+    Version,
+    /// Find a container by its name or number in the file at a path, and write it to another.
+    Extract {
+        file: &'a str,
+        name: &'a str,
+        out: &'a str,
+    },
 }
 
 /// The reason why a command line has no request.
@@ -68,7 +88,28 @@ impl<T: Drop> From<AllocFailed<T>> for WordsFault {
 }
 
 /// Parses a command line, whose first word is the program's name.
-pub fn read_words<'a>(alloc: Global, words: &'a [String]) -> Result<Request<'a>, WordsFault>
+pub fn read_request<'a>(alloc: Global, words: &'a [String]) -> Result<Request<'a>, WordsFault>
+    ensures { AnswersWords result (request_by (map string_bytes words.entry.now)) }
+{
+    if asks_version(words) {
+        return Ok(Request::Version);
+    }
+    read_words(alloc, words)
+}
+
+/// Whether the words are `--version` alone, after the program's name.
+#[tactic(auto, unfolding(crate::specs::Request::CommandLine::asks_version))]
+fn asks_version(words: &[String]) -> bool
+    ensures { result ≡ asks_version (map string_bytes words.now) }
+{
+    match words {
+        [_, word] => word.as_str() == "--version",
+        _ => false,
+    }
+}
+
+/// Parses the words of a command.
+fn read_words<'a>(alloc: Global, words: &'a [String]) -> Result<Request<'a>, WordsFault>
     ensures { AnswersWords result (asked_by (map string_bytes words.entry.now)) }
 {
     let command = command(alloc)?;
@@ -99,7 +140,8 @@ pub(crate) fn command<'a>(alloc: Global) -> Result<Command<'a>, AllocError>
     let with_list = with_command(with_link, list_command(alloc))?;
     let with_check = with_command(with_list, check_command(alloc))?;
     let with_load = with_command(with_check, load_command(alloc))?;
-    with_command(with_load, distances_command(alloc))
+    let with_distances = with_command(with_load, distances_command(alloc))?;
+    with_command(with_distances, extract_command(alloc))
 }
 
 /// Returns a command with one more subcommand, if allocating that one succeeded.
@@ -197,6 +239,32 @@ fn distances_command<'a>(alloc: Global) -> Result<Command<'a>, AllocError>
     .arg(script)
 }
 
+/// Returns the command `extract FILE NAME OUT`.
+fn extract_command<'a>(alloc: Global) -> Result<Command<'a>, AllocError>
+    ensures app { IfOk result (λ c. app_of c ≡ extract_command) }
+    ensures local { IfOk result (λ c. (out-Command c).has_globals ≡ false) }
+{
+    let file = operand(
+        alloc,
+        "FILE",
+        "A file of the classic Mac OS, or any file that has containers in it",
+    );
+    let name = operand(
+        alloc,
+        "NAME",
+        "The name of a fragment, or `#` and the number of a container from 0",
+    );
+    let out = operand(alloc, "OUT", "The file that gets the container");
+    described(
+        alloc,
+        "extract",
+        "Writes a container of a file to a file of its own",
+    )
+    .arg(file)?
+    .arg(name)?
+    .arg(out)
+}
+
 /// Returns the request that a command's name and operands make.
 fn command_request<'a>(
     alloc: Global,
@@ -212,6 +280,7 @@ fn command_request<'a>(
         "check" => check_request(operands),
         "load" => load_request(alloc, operands),
         "distances" => distances_request(operands),
+        "extract" => extract_request(operands),
         _ => Err(WordsFault::Usage),
     }
 }
@@ -276,6 +345,23 @@ fn distances_request<'a>(operands: &ArgMatches<'a>) -> Result<Request<'a>, Words
         return Err(WordsFault::Usage);
     };
     Ok(Request::Distances { script })
+}
+
+/// Returns the request that the operands of `extract` make.
+#[tactic(auto, using(crate::proofs::RequestProofs::LineLemmas::first_in_rows))]
+fn extract_request<'a>(operands: &ArgMatches<'a>) -> Result<Request<'a>, WordsFault>
+    ensures { AnswersWords result (extract_asked (rows_of (found_of operands.now))) }
+{
+    let Some(file) = operands.get_str("FILE") else {
+        return Err(WordsFault::Usage);
+    };
+    let Some(name) = operands.get_str("NAME") else {
+        return Err(WordsFault::Usage);
+    };
+    let Some(out) = operands.get_str("OUT") else {
+        return Err(WordsFault::Usage);
+    };
+    Ok(Request::Extract { file, name, out })
 }
 
 /// Returns the reason why `clap` refused a command line.

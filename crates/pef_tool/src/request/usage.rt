@@ -1,6 +1,6 @@
 use crate::request::command_line::{command, load_command};
 use clap::error::ErrorKind;
-use clap::{Command, Error};
+use clap::{Arg, ArgAction, Command, Error};
 use std::alloc::{AllocError, Global};
 
 /// The text that is printed if the system provides no command line.
@@ -17,18 +17,23 @@ pub fn words_help(alloc: Global, words: &[String]) -> Result<String, AllocError>
         return String::from_str(alloc, NOT_UTF_8);
     }
     match helpful_command(alloc)?.try_get_matches_from(words) {
+        Ok(matches) if matches.get_flag("version") => version_error(alloc)?.to_string(alloc),
         Ok(_) => files_error(alloc)?.to_string(alloc),
         Err(error) => error_text(alloc, &error),
     }
 }
 
-/// Returns the program's commands, with help for each.
+/// Returns the program's commands, with help for each, and the option `--version`.
 fn helpful_command<'a>(alloc: Global) -> Result<Command<'a>, AllocError> {
-    let command = command(alloc)?
+    let version = Arg::new(alloc, "version")
+        .long("version")
+        .action(ArgAction::SetTrue)
+        .help("Print version");
+    command(alloc)?
         .about("Links, lists and loads PEF containers")
         .disable_help_flag(false)
-        .disable_help_subcommand(false);
-    Ok(command)
+        .disable_help_subcommand(false)
+        .arg(version)
 }
 
 /// Returns the text of an error. If the command is missing or unknown, the list of all commands follows.
@@ -42,6 +47,12 @@ fn error_text(alloc: Global, error: &Error) -> Result<String, AllocError> {
         text.push_str(helpful_command(alloc)?.render_help()?.as_str())?;
     }
     Ok(text)
+}
+
+/// Returns the error of `--version` with a command, which `clap` accepts.
+fn version_error(alloc: Global) -> Result<Error, AllocError> {
+    let mut command = command(alloc)?.bin_name("pef")?;
+    command.error(ErrorKind::ArgumentConflict, "`--version` is used alone")
 }
 
 /// Returns the error of a `load` whose words `clap` accepts, since `clap` doesn't check the form NAME=FILE.

@@ -1,0 +1,83 @@
+-- The answer of `extract FILE NAME OUT` (README). It reads FILE, finds a container in it, and writes the whole container
+-- to OUT. It makes no other call on files.
+use Rattle.std.specs.Prelude.{◌≡◌, ◌⊎◌, ◌==◌, ℕ, List, [], ◌∷◌, ◌++◌, Option, Result, Ok, Err, codes, decimal, length, if◌then◌else◌}
+use Rattle.std.specs.Option.{option_map_or}
+use Rattle.cfm_members.specs.Fragments.{container_named, container_numbered}
+use Rattle.cfm_members.specs.declared.fragment_fault.FragmentFault.{FragmentFault}
+use Rattle.cfm_members.specs.declared.fragment_fault.FragmentFault.TheVariants.{NoContainer}
+use Rattle.pef_faults.specs.declared.fault.Fault.{Fault}
+use Rattle.pef_faults.specs.declared.fault.Fault.TheVariants.{Fragment, Unreadable, Unwritable, OutOfMemory}
+use Rattle.pef_lines.specs.Numbers.{decimal_number}
+use Rattle.pef_ports.specs.Ports.{FilesPort, Reads, Writes}
+use Rattle.pef_ports.specs.declared.ports.FileFault.{FileFault}
+use Rattle.pef_ports.specs.declared.ports.FileFault.TheVariants as file_fault
+use Rattle.pef_tool.specs.Answers.Answers.{Answer, answer_done}
+use Rattle.pef_tool.specs.Answers.Faults.{fault_answer}
+use Rattle.pef_tool.specs.Extents.{own_bytes}
+
+-- the container with a number, up to where its own parts end
+abbrev pub numbered : List ℕ → ℕ → Result (List ℕ) FragmentFault
+numbered bytes number = option_map_or (λ rest. Ok (own_bytes rest)) (container_numbered bytes number) (Err NoContainer)
+
+-- the container that NAME asks for: with a number, if it is `#` (23 in hex) and a decimal number, else of the fragment with
+-- this name
+abbrev pub wanted : List ℕ → List ℕ → Option ℕ → Result (List ℕ) FragmentFault
+wanted bytes name number = option_map_or (numbered bytes) number (container_named bytes name)
+
+abbrev pub number_of : List ℕ → Option ℕ
+number_of [] = decimal_number []
+number_of (b ∷ digits) = if b == 0x23 then decimal_number digits else decimal_number []
+
+unfoldable pub found_in : List ℕ → List ℕ → Result (List ℕ) FragmentFault
+found_in bytes name = wanted bytes name (number_of name)
+
+-- FILE was read, and this is the container that was found in it, or why there is none
+pub record FindsContainer {F : Type 0} (port : FilesPort F) (before after : F) (path name : List ℕ) (found : Result (List ℕ) FragmentFault) : Type 0 where
+  pub bytes : List ℕ
+  pub read : Reads port before after path (Ok bytes)
+  pub is : found_in bytes name ≡ found
+
+-- FILE was read, this container was found in it, and the write of the whole container to OUT returned this result
+pub record WritesFound {F : Type 0} (port : FilesPort F) (before after : F) (path name out container : List ℕ) (answer : Result (Unit {0}) FileFault) : Type 0 where
+  pub between : F
+  pub finds : FindsContainer port before between path name (Ok container)
+  pub written : Writes port between after out container answer
+
+-- an allocation failed: before or while FILE was read, or during the write of the whole container
+abbrev pub ExtractLacksMemory : {F : Type 0} → FilesPort F → F → F → List ℕ → List ℕ → List ℕ → Type 0
+ExtractLacksMemory port before after path name out =
+    (after ≡ before)
+    ⊎ Reads port before after path (Err file_fault.OutOfMemory)
+    ⊎ ((container : List ℕ) × WritesFound port before after path name out container (Err file_fault.OutOfMemory))
+
+-- why `extract` is refused: FILE can't be read or has no such container, OUT can't be written, or an allocation failed
+abbrev pub ExtractRefuses : {F : Type 0} → FilesPort F → F → F → List ℕ → List ℕ → List ℕ → Fault → Type 0
+ExtractRefuses port before after path name out (Unreadable told) = (told.now ≡ path) × Reads port before after path (Err file_fault.Failed)
+ExtractRefuses port before after path name out (Fragment fault) = FindsContainer port before after path name (Err fault)
+ExtractRefuses port before after path name out (Unwritable told) = (told.now ≡ out) × ((container : List ℕ) × WritesFound port before after path name out container (Err file_fault.Failed))
+ExtractRefuses port before after path name out OutOfMemory = ExtractLacksMemory port before after path name out
+ExtractRefuses port before after path name out _ = ⊥
+
+-- how `extract` ends: it writes a container, or it is refused
+pub data ExtractOutcome : Type 0 where
+  extracts : List ℕ → ExtractOutcome
+  refuses : Fault → ExtractOutcome
+
+-- when it ends in this way, by the states of the files before and after
+abbrev pub ExtractEnds : {F : Type 0} → FilesPort F → F → F → List ℕ → List ℕ → List ℕ → ExtractOutcome → Type 0
+ExtractEnds port before after path name out (extracts container) = WritesFound port before after path name out container (Ok tt)
+ExtractEnds port before after path name out (refuses fault) = ExtractRefuses port before after path name out fault
+
+-- the line of a container's size in bytes
+unfoldable pub extracted_text : ℕ → List ℕ
+extracted_text size = codes "extracted " ++ decimal size ++ codes " bytes\n"
+
+-- the answer for each end
+abbrev pub extract_answer : ExtractOutcome → Answer
+extract_answer (extracts container) = answer_done (extracted_text (length container))
+extract_answer (refuses fault) = fault_answer fault
+
+-- the answer of `extract FILE NAME OUT`
+abbrev pub ExtractAnswers : {F : Type 0} → FilesPort F → F → F → List ℕ → List ℕ → List ℕ → Answer → Type 0
+ExtractAnswers port before after path name out answer =
+    (outcome : ExtractOutcome) × ExtractEnds port before after path name out outcome × (answer ≡ extract_answer outcome)
