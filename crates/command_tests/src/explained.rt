@@ -40,6 +40,16 @@ const USAGE: &[(&[&str], &[u8], &str)] = &[
         "\n  show ",
     ),
     (
+        &["-h"],
+        b"Links, lists and loads PEF containers\n",
+        "\n      --version ",
+    ),
+    (
+        &["--version", "show"],
+        b"error: `--version` is used alone\n",
+        "Usage: pef <COMMAND>\n",
+    ),
+    (
         &["help"],
         b"Links, lists and loads PEF containers\n",
         "\n  check ",

@@ -10,6 +10,8 @@ mod details;
 #[cfg(test)]
 mod explained;
 #[cfg(test)]
+mod extract;
+#[cfg(test)]
 mod failures;
 #[cfg(test)]
 mod libraries;

@@ -88,3 +88,21 @@ fn load(rt: HostRuntime) -> Result<(), Fail> {
     let words = ["load", "A=user", "B=user", "L=library"];
     assert_prints_or_lacks_memory(&rt, rt.alloc(), &mut papers, &words, b"", loaded)
 }
+
+/// The whole container is written, or none.
+#[test]
+fn extract(rt: HostRuntime) -> Result<(), Fail> {
+    let mut papers = papers(rt.alloc(), VECTORS_LEAST)?;
+    let words = ["extract", "a", "#0", "out"];
+    assert_prints_or_lacks_memory(
+        &rt,
+        rt.alloc(),
+        &mut papers,
+        &words,
+        b"",
+        b"extracted 250 bytes\n",
+    )?;
+    let written = papers.bytes(b"out");
+    assert!(rt; written.is_none() || written == Some(VECTORS_LEAST));
+    Ok(())
+}

@@ -23,10 +23,15 @@ const NO_COMMANDS: &[&[&str]] = &[
     &["check"],
     &["check", "a"],
     &["check", "a", "b", "c"],
+    &["extract", "a", "#0"],
+    &["extract", "a", "#0", "out", "b"],
     &["--help"],
     &["-h"],
     &["help"],
-    &["--version"],
+    &["--version", "it"],
+    &["--versions"],
+    &["-V"],
+    &["show", "--version"],
     &["link", "--help"],
 ];
 
@@ -42,4 +47,16 @@ fn usage(rt: HostRuntime) -> Result<(), Fail> {
         outcome.assert_calls((0, 0))?;
     }
     Ok(())
+}
+
+/// The version that `include/pef.h` has too. Nothing is read or written.
+#[test]
+fn version(rt: HostRuntime) -> Result<(), Fail> {
+    let handed = Handed {
+        file: EXAMPLE,
+        ..Handed::input(&["--version"], EXAMPLE)
+    };
+    let outcome = assert_prints(rt.alloc(), handed, b"pef 0.1.0\n", 0)?;
+    assert!(rt; outcome.left == EXAMPLE.len());
+    outcome.assert_calls((0, 0))
 }

@@ -17,6 +17,8 @@ const LINES: &[&str] = &[
     "pef link uses-library.pefscript user.pef",
     "pef load user=user.pef Tools=tools.pef",
     "pef load user=user.pef",
+    "pef extract user.pef #0 copy.pef",
+    "pef extract user.pef #1 copy.pef",
     "pef check transition-vectors.pefscript transition-vectors.pefcert",
     "pef check transition-vectors.pefscript shared-library.pefscript",
     "pef distances transition-vectors.pefscript",
