@@ -3,6 +3,7 @@
  *
  *     c   a container, which all calls read
  *     s   a script: it is linked, and what is linked has to be read
+ *     m   a file of the classic Mac OS, which is also read as a resource fork and as a table of fragments
  *     q   a sequence of calls on two contexts, a few bytes each
  *
  * Each call has to answer PEF_OK or a number that has a name, and has to write nothing outside of what it may. The library isn't
@@ -122,6 +123,23 @@ static void find_exports(const uint8_t *bytes, size_t length)
     }
 }
 
+/* Reads the additions of the first relocation programs, in two parts. The rows are the same in one part. */
+static void read_fixups(const uint8_t *bytes, size_t length)
+{
+    for (size_t header = 0; header < 8; header++) {
+        struct pef_fixup all[PLACES], some[PLACES];
+        size_t count = 0, first = 0, others = 0;
+        if (!is_ok("pef_fixups", pef_fixups(bytes, length, header, 0, all, PLACES, &count)))
+            continue;
+        memset(some, 0, sizeof some);
+        memset(all + count, 0, (PLACES - count) * sizeof *all);
+        if (pef_fixups(bytes, length, header, 0, some, PLACES / 3, &first) != PEF_OK || pef_fixups(bytes, length, header, first, some + first, PLACES - first, &others) != PEF_OK)
+            fails("pef_fixups, in parts", (uint32_t)header);
+        if (first + others != count || first > PLACES / 3 || memcmp(some, all, sizeof all) != 0)
+            fails("pef_fixups, other rows", (uint32_t)header);
+    }
+}
+
 /* Lists into a room that is too small by one byte, and into one that isn't. The first stays as it is. */
 static void list(const uint8_t *bytes, size_t length)
 {
@@ -142,6 +160,92 @@ static void list(const uint8_t *bytes, size_t length)
     free(part);
 }
 
+/* --- files of the classic Mac OS --- */
+
+/* An error of a part: 0, 201 or one that has a name. Returns whether the part is there. */
+static bool is_there(const char *what, uint32_t error)
+{
+    return error == PEF_OK || (error != PEF_NOT_THERE && is_ok(what, error));
+}
+
+static void read_members(const uint8_t *table, size_t table_length, const uint8_t *bytes, size_t length)
+{
+    struct pef_member places[PLACES];
+    size_t from = 0, count = 0;
+    do {
+        for (size_t i = 0; i < PLACES; i++)
+            places[i] = (struct pef_member){.name = PEF_NO_BYTES, .container = PEF_NO_BYTES};
+        if (!is_ok("pef_members", pef_members(table, table_length, bytes, length, from, places, PLACES, &count)))
+            return;
+        for (size_t i = 0; i < count; i++) {
+            is_there("a member", places[i].error);
+            is_there("a member's name", places[i].name_error);
+            is_there("a member's container", places[i].container_error);
+            check_part(places[i].name, table, table_length);
+            check_part(places[i].container, bytes, length);
+        }
+        from += count;
+    } while (count == PLACES && from < 1024);
+}
+
+static void read_fork(const uint8_t *fork, size_t length)
+{
+    struct pef_resource_map map = {0};
+    struct pef_resource places[PLACES], table = {.name = PEF_NO_BYTES, .bytes = PEF_NO_BYTES};
+    size_t from = 0, count = 0;
+    if (!is_ok("pef_resource_map", pef_resource_map(fork, length, &map)))
+        return;
+    is_there("a map", map.error);
+    do {
+        for (size_t i = 0; i < PLACES; i++)
+            places[i] = table;
+        if (!is_ok("pef_resources", pef_resources(fork, length, from, places, PLACES, &count)))
+            break;
+        for (size_t i = 0; i < count; i++) {
+            is_there("a resource", places[i].error);
+            is_there("a resource's name", places[i].name_error);
+            check_part(places[i].name, fork, length);
+            check_part(places[i].bytes, fork, length);
+        }
+        from += count;
+    } while (count == PLACES && from < 1024);
+    if (is_ok("pef_find_resource", pef_find_resource(fork, length, PEF_FRAGMENT_TABLE_TYPE, 0, &table)) && table.error == PEF_OK)
+        read_members(table.bytes.at, table.bytes.length, fork, length);
+}
+
+static void read_mac_file(const uint8_t *bytes, size_t length)
+{
+    struct pef_forks forks = PEF_NO_FORKS;
+    struct pef_bytes container = PEF_NO_BYTES;
+    size_t places[PLACES], count = 0;
+    if (pef_file_kind(bytes, length) > PEF_FILE_RESOURCE_FORK)
+        fails("pef_file_kind", pef_file_kind(bytes, length));
+    read_fork(bytes, length);
+    read_members(bytes, length, bytes, length);
+    if (is_ok("pef_find_containers", pef_find_containers(bytes, length, 0, places, PLACES, &count)))
+        for (size_t i = 0; i < count; i++)
+            if (places[i] > length || length - places[i] < 40 || memcmp(bytes + places[i], "Joy!peff", 8) != 0)
+                fails("a place of no container", (uint32_t)places[i]);
+    if (is_ok("pef_numbered_container", pef_numbered_container(bytes, length, 0, &container)) != (count != 0))
+        fails("pef_numbered_container", (uint32_t)count);
+    check_part(container, bytes, length);
+    if (!is_ok("pef_forks", pef_forks(bytes, length, &forks)))
+        return;
+    const struct pef_part each[] = {forks.data_fork, forks.resource_fork, forks.name, forks.comment};
+    for (size_t i = 0; i < 4; i++) {
+        is_there("a part", each[i].error);
+        check_part(each[i].bytes, bytes, length);
+    }
+    is_there("the Finder information", forks.finder.error);
+    is_there("a header", forks.error);
+    read_fork(forks.resource_fork.bytes.at, forks.resource_fork.bytes.length);
+    const uint8_t *name = length == 0 ? bytes : bytes + length - 1;
+    if (is_ok("pef_file_container", pef_file_container(bytes, length, name, length == 0 ? 0 : 1, &container)))
+        check_part(container, bytes, length);
+    if (forks.data_fork.error == PEF_OK && is_ok("pef_fork_container", pef_fork_container(forks.data_fork.bytes.at, forks.data_fork.bytes.length, forks.resource_fork.bytes.at, forks.resource_fork.bytes.length, (const uint8_t *)"Calc", 4, &container)))
+        check_part(container, bytes, length);
+}
+
 /* Reads a container by all calls. Returns whether its header and loader section are accepted. */
 static bool read_container(const uint8_t *bytes, size_t length)
 {
@@ -157,6 +261,7 @@ static bool read_container(const uint8_t *bytes, size_t length)
     READ_TABLE(pef_relocations, pef_relocation, instructions);
     READ_TABLE(pef_exports, pef_export, name);
     find_exports(bytes, length);
+    read_fixups(bytes, length);
     list(bytes, length);
     return is_loaded;
 }
@@ -313,6 +418,8 @@ int LLVMFuzzerTestOneInput(const uint8_t *data, size_t size)
     const uint8_t *rest = put(&inputs, data + 1, size - 1);
     if (data[0] == 's')
         link_script(rest, size - 1);
+    else if (data[0] == 'm')
+        read_mac_file(rest, size - 1);
     else if (data[0] == 'q')
         call_in_sequence(rest, size - 1);
     else

@@ -9,19 +9,20 @@
  *
  * What every call asks of its caller:
  *
- * - No pointer is null, not even one to no bytes. PEF_NO_BYTES is an empty slice whose pointer isn't null.
+ * - No pointer is null, but one with a length of 0 may be: such bytes, names, buffers and places are none.
  * - A pointer with a length points to at least that many bytes, which nobody else changes during the call.
+ * - What a call fills, it fills whatever was there: structs may come as zero bytes, or not initialized. What a call leaves
+ *   unchanged keeps the bytes that it had. Only a struct pef_context has to start as zero bytes.
  * - What a call writes overlaps nothing else that it takes.
  * - A context is used by one thread at a time. Apart from that, several threads may make calls at once: the library has no
  *   state outside of contexts.
- * - A thread that makes calls has a megabyte of stack. Reading a container whose libraries are out of order takes about half of
- *   it.
+ * - A thread that makes calls has 64 KB of stack for them. No call takes more, whatever it reads.
  * - No call is made from a signal handler.
  * - malloc, realloc and free are those of the C library, or others whose blocks are aligned to 16 bytes.
  *
  * What is borrowed is read during the call only, unless a call says that a result points into it. Then the bytes have to
- * stay, unchanged, while the result is used. What pef_add() takes has to stay until the program ends. Nothing that the
- * library gives has to be freed, except for a context.
+ * stay, unchanged, while the result is used. What pef_add() takes has to stay until pef_free() of that context returns, or until
+ * pef_open() of it, which frees it first. Nothing that the library gives has to be freed, except for a context.
  */
 #ifndef PEF_H
 #define PEF_H
@@ -40,6 +41,9 @@ extern "C" {
 #define PEF_VERSION_PATCH 0
 #define PEF_VERSION "0.1.0"
 
+/* The same as one number, to be compared with pef_version(). */
+#define PEF_VERSION_NUMBER (PEF_VERSION_MAJOR << 16 | PEF_VERSION_MINOR << 8 | PEF_VERSION_PATCH)
+
 /* Bytes that somebody else owns. They have no zero byte at their end. */
 struct pef_bytes {
     const uint8_t *at;
@@ -47,7 +51,11 @@ struct pef_bytes {
 };
 
 /* No bytes, at a place that isn't null: struct pef_bytes name = PEF_NO_BYTES; */
+#ifdef __cplusplus
+#define PEF_NO_BYTES {reinterpret_cast<const uint8_t *>(""), 0}
+#else
 #define PEF_NO_BYTES {(const uint8_t *)"", 0}
+#endif
 
 /* The call did what it says. */
 #define PEF_OK 0
@@ -116,19 +124,46 @@ struct pef_bytes {
 #define PEF_NO_ROOM 67
 #define PEF_BAD_CONNECTION 68
 #define PEF_TOO_MANY_CONNECTIONS 69
+#define PEF_TOO_MANY_STEPS_IN_ALL 70
+#define PEF_TOO_MANY_BYTES 75
+
+/* A file of the classic Mac OS has no container with this name or number, or a part of it is damaged. */
+#define PEF_NO_CONTAINER 80
+#define PEF_BAD_MAC_BINARY_CRC 81
+#define PEF_APPLE_HEADER_CUT 82
+#define PEF_BAD_APPLE_VERSION 83
+#define PEF_APPLE_ENTRY_CUT 84
+#define PEF_APPLE_ENTRY_OUTSIDE 85
+#define PEF_APPLE_ENTRY_SHORT 86
+#define PEF_RESOURCE_MAP_OUTSIDE 87
+#define PEF_BAD_TYPE_LIST 88
+#define PEF_RESOURCE_TYPE_CUT 89
+#define PEF_TOO_MANY_REFERENCES 90
+#define PEF_REFERENCE_CUT 91
+#define PEF_RESOURCE_NAME_CUT 92
+#define PEF_RESOURCE_DATA_OUTSIDE 93
+#define PEF_FRAGMENT_TABLE_CUT 94
+#define PEF_BAD_FRAGMENT_TABLE 95
+#define PEF_MEMBER_CUT 96
+#define PEF_MEMBER_NAME_CUT 97
+#define PEF_FRAGMENT_OUTSIDE 98
 
 /* An allocation failed. */
 #define PEF_OUT_OF_MEMORY 99
 
 /* Only this library returns these: the caller's buffer is too small; there is no such thing; the context isn't open; a
- * fragment is added after a connection was given; the context has as many fragments as it may. */
+ * fragment is added after a connection was given; the context has as many fragments as it may; the granule is none; the
+ * options have another size. */
 #define PEF_ROOM_TOO_SMALL 200
 #define PEF_NOT_THERE 201
 #define PEF_NOT_OPEN 202
 #define PEF_ADDED_TOO_LATE 203
 #define PEF_STORE_FULL 204
+#define PEF_BAD_GRANULE 205
+#define PEF_BAD_OPTIONS 206
 
-/* How many fragments a context has at most, and how many connections it gives at most, closed ones included. */
+/* How many fragments a context has at most, and how many connections it gives if no other number was asked for, closed ones
+ * included. */
 #define PEF_MAX_FRAGMENTS 256
 #define PEF_MAX_CONNECTIONS 65536
 
@@ -202,7 +237,7 @@ uint32_t pef_list_part(const uint8_t *container, size_t container_length, size_t
  * Gives the name of a number that a call returned, as "BadTag". PEF_OK has none.
  *
  * Returns PEF_OK, and stores the name in `*name`: it is valid until the program ends. Or returns PEF_NOT_THERE, if nothing
- * has the number, and leaves `*name` unchanged. `*name` starts as PEF_NO_BYTES, or as any slice that isn't null.
+ * has the number, and leaves `*name` unchanged.
  */
 uint32_t pef_name(uint32_t number, struct pef_bytes *name);
 
@@ -300,7 +335,7 @@ struct pef_section {
 /*
  * Reads a section by its number, counted from 0, and stores its raw bytes, which are a part of the container, in `*raw`.
  *
- * Returns PEF_NOT_THERE past the last section. `*raw` starts as PEF_NO_BYTES, or as any slice that isn't null.
+ * Returns PEF_NOT_THERE past the last section.
  */
 uint32_t pef_section(const uint8_t *container, size_t container_length, size_t number, struct pef_section *section, struct pef_bytes *raw);
 
@@ -359,6 +394,18 @@ struct pef_relocation {
     uint32_t section;
 };
 
+/* The kinds of what is added to a word. */
+#define PEF_FIXUP_SECTION 1
+#define PEF_FIXUP_IMPORT 2
+
+/* An addition of a relocation program: the offset of a word in the section that is relocated, and what is added to the word:
+ * the address of the section with this number, or of the target of the import with this number. */
+struct pef_fixup {
+    uint64_t offset;
+    uint64_t number;
+    uint32_t kind;
+};
+
 /* An exported symbol: its value is an offset in a section, a number if the section is PEF_ABSOLUTE, or the number of an
  * import if it is PEF_REEXPORT. */
 struct pef_export {
@@ -373,7 +420,6 @@ struct pef_export {
  * many they were in `*count`: as many as there are from there on, or as there are places. The other places are left unchanged.
  * Names and instructions are parts of the container.
  *
- * All names and instructions of `places` start as PEF_NO_BYTES, or as any slices that aren't null; zero bytes are not enough.
  * Each call reads the whole loader section, so read many at once: then n rows cost no more than n of these.
  */
 uint32_t pef_libraries(const uint8_t *container, size_t container_length, size_t from, struct pef_library *places, size_t place_count, size_t *count);
@@ -382,18 +428,215 @@ uint32_t pef_relocations(const uint8_t *container, size_t container_length, size
 uint32_t pef_exports(const uint8_t *container, size_t container_length, size_t from, struct pef_export *places, size_t place_count, size_t *count);
 
 /*
+ * Reads the additions of the program of relocation header `header` from number `from` on into the first of `places`, in the
+ * order in which the program makes them, and stores how many they were in `*count`: as many as there are from there on, or as
+ * there are places. The other places are left unchanged. The numbers of headers are those of pef_relocations().
+ *
+ * Nothing is asked of words, sections and imports: a program may name some that don't exist, which refuses the preparation.
+ * Refusals are 1 to 20, and 31 to 36 for the program. Returns PEF_NOT_THERE past the last header. Each call runs the program
+ * from its start up to the last of `places`, so read many at once. A program can make up to 17,179,869,184 additions.
+ */
+uint32_t pef_fixups(const uint8_t *container, size_t container_length, size_t header, size_t from, struct pef_fixup *places, size_t place_count, size_t *count);
+
+/*
  * Reads the first export with this name into `*found`, and stores its number, which is that of pef_exports(), in `*number`.
  * Names are compared byte by byte.
  *
  * Returns PEF_NOT_THERE, if no export has the name. Each call reads the whole loader section, so to look up many names, read
- * all exports once. `found->name` starts as PEF_NO_BYTES, or as any slice that isn't null.
+ * all exports once.
  */
 uint32_t pef_export_named(const uint8_t *container, size_t container_length, const uint8_t *name, size_t name_length, size_t *number, struct pef_export *found);
 
 /*
- * A context: fragments by name, and the memory in which they are prepared. Start it as zero bytes:
+ * Files of the classic Mac OS (docs/FORMATS.md, section 10). The calls below read them anew from their bytes, and allocate nothing.
+ * All bytes that they give are parts of what they are handed. Damage in one part hides no other part: each has its error, which is
+ * PEF_OK if the part is there, PEF_NOT_THERE if there is none, or its number, and the offset that the error is about, or
+ * PEF_NO_OFFSET. If a call returns another number than PEF_OK, it leaves all that it would write unchanged.
+ */
+
+/* What a file is. */
+#define PEF_FILE_OTHER 0
+#define PEF_FILE_CONTAINER 1
+#define PEF_FILE_MAC_BINARY 2
+#define PEF_FILE_APPLE_SINGLE 3
+#define PEF_FILE_APPLE_DOUBLE 4
+#define PEF_FILE_DAMAGED_APPLE 5
+#define PEF_FILE_RESOURCE_FORK 6
+
+/* Returns what a file is: one of the numbers above. */
+uint32_t pef_file_kind(const uint8_t *file, size_t file_length);
+
+/* A part of a file: its bytes, where they begin in the file, and its error. */
+struct pef_part {
+    struct pef_bytes bytes;
+    size_t offset;
+    size_t error_offset;
+    uint32_t error;
+};
+
+/* No part. */
+#define PEF_NO_PART {PEF_NO_BYTES, 0, 0, 0}
+
+/* What the Finder knows of a file. The type and the creator are four characters, the first in the highest byte. */
+struct pef_finder {
+    size_t error_offset;
+    uint32_t error;
+    uint32_t file_type;
+    uint32_t creator;
+    uint16_t flags;
+    int16_t vertical;
+    int16_t horizontal;
+    uint16_t window;
+};
+
+/*
+ * The forks of a file, its name, its comment and what the Finder knows of it; the error of its header, which is PEF_OK or
+ * PEF_BAD_MAC_BINARY_CRC; and what it is. A file in no format is a resource fork if it can be one, else a data fork.
+ */
+struct pef_forks {
+    struct pef_part data_fork;
+    struct pef_part resource_fork;
+    struct pef_part name;
+    struct pef_part comment;
+    struct pef_finder finder;
+    size_t error_offset;
+    uint32_t error;
+    uint32_t kind;
+};
+
+/* No forks: struct pef_forks forks = PEF_NO_FORKS; */
+#define PEF_NO_FORKS {PEF_NO_PART, PEF_NO_PART, PEF_NO_PART, PEF_NO_PART, {0, 0, 0, 0, 0, 0, 0, 0}, 0, 0, 0}
+
+/* Reads the forks of a file. Returns PEF_OK, or the error of its header: PEF_APPLE_HEADER_CUT or PEF_BAD_APPLE_VERSION. */
+uint32_t pef_forks(const uint8_t *file, size_t file_length, struct pef_forks *forks);
+
+/* The header and the map of a resource fork. The error is PEF_OK, or PEF_RESOURCE_MAP_OUTSIDE if the map passes the end. */
+struct pef_resource_map {
+    size_t error_offset;
+    uint32_t error;
+    uint32_t data_offset;
+    uint32_t map_offset;
+    uint32_t data_length;
+    uint32_t map_length;
+    uint16_t attributes;
+    uint16_t type_count;
+};
+
+/* Reads the header and the map of a resource fork. Errors are 87 and 88, in this call and in the two below. */
+uint32_t pef_resource_map(const uint8_t *fork, size_t fork_length, struct pef_resource_map *map);
+
+/*
+ * A resource: its name, its bytes, where they begin in the fork, and the errors of both. The type is four characters, the first in the
+ * highest byte. `type_row` is the row of its type, and `row` its row in the list of that type. If bit 0 of the attributes is set, the
+ * bytes are compressed.
  *
- *     struct pef_context context = {0};
+ * A row with an error from 89 to 91 is no resource: a row that can't be read. Then all but the errors and the rows is 0.
+ */
+struct pef_resource {
+    struct pef_bytes name;
+    struct pef_bytes bytes;
+    size_t offset;
+    size_t error_offset;
+    size_t name_error_offset;
+    uint32_t error;
+    uint32_t name_error;
+    uint32_t type;
+    int16_t id;
+    uint16_t type_row;
+    uint16_t row;
+    uint8_t attributes;
+};
+
+/*
+ * Reads the resources from number `from` on into the first of `places`, and stores how many they were in `*count`: as many as there
+ * are from there on, or as there are places. The other places are left unchanged. Each call passes over the rows before `from`.
+ */
+uint32_t pef_resources(const uint8_t *fork, size_t fork_length, size_t from, struct pef_resource *places, size_t place_count, size_t *count);
+
+/* Reads the resource with a type and an id. Returns PEF_NOT_THERE if there is none. */
+uint32_t pef_find_resource(const uint8_t *fork, size_t fork_length, uint32_t type, int16_t id, struct pef_resource *resource);
+
+/* The type of a table of fragments, `cfrg`. Its id is 0. */
+#define PEF_FRAGMENT_TABLE_TYPE 0x63667267
+
+/* What a member is for, and where its container is. */
+#define PEF_USAGE_IMPORT_LIBRARY 0
+#define PEF_USAGE_APPLICATION 1
+#define PEF_USAGE_DROP_IN_ADDITION 2
+#define PEF_USAGE_STUB_LIBRARY 3
+#define PEF_USAGE_WEAK_STUB_LIBRARY 4
+#define PEF_LOCATOR_MEMORY 0
+#define PEF_LOCATOR_DATA_FORK 1
+#define PEF_LOCATOR_RESOURCE 2
+
+/*
+ * A member of a table of fragments: its name, its container in the data fork, where it begins in the table, and what the table says of
+ * it. `error` is PEF_OK, or PEF_MEMBER_CUT. `container_error` is PEF_NOT_THERE if the container isn't in the data fork. If it is in a
+ * resource, `offset` is the resource's type and `length` its id.
+ *
+ * The last row may be no member: one with PEF_MEMBER_CUT and no name, whose fields aren't all there. Then all but `place` and the errors
+ * is 0.
+ */
+struct pef_member {
+    struct pef_bytes name;
+    struct pef_bytes container;
+    size_t place;
+    size_t error_offset;
+    size_t name_error_offset;
+    size_t container_error_offset;
+    uint32_t error;
+    uint32_t name_error;
+    uint32_t container_error;
+    uint32_t architecture;
+    uint32_t current_version;
+    uint32_t old_def_version;
+    uint32_t stack_size;
+    uint32_t offset;
+    uint32_t length;
+    uint32_t space_id;
+    uint16_t directory_or_flags;
+    uint16_t fork_instance;
+    uint16_t extension_count;
+    uint16_t size;
+    uint8_t update_level;
+    uint8_t usage;
+    uint8_t locator;
+};
+
+/*
+ * Reads the members of a table of fragments as pef_resources() reads resources, with their containers in a data fork. The table is the
+ * bytes of the resource `cfrg` 0. Errors are PEF_FRAGMENT_TABLE_CUT and PEF_BAD_FRAGMENT_TABLE.
+ */
+uint32_t pef_members(const uint8_t *table, size_t table_length, const uint8_t *data_fork, size_t data_fork_length, size_t from, struct pef_member *places, size_t place_count, size_t *count);
+
+/*
+ * Finds the places of some bytes where a container begins: it stores their offsets from number `from` on in the first of `places`, and
+ * how many they were in `*count`. Returns PEF_OK.
+ */
+uint32_t pef_find_containers(const uint8_t *bytes, size_t length, size_t from, size_t *places, size_t place_count, size_t *count);
+
+/*
+ * Gives the container of the fragment with this name in a file: of the first member of the table that has the name and isn't for
+ * CFM-68K. The names are compared byte by byte.
+ *
+ * Returns PEF_OK; or the first error of what it reads, 82 to 98; or PEF_NO_CONTAINER if there is no such fragment, or its container is
+ * neither in the data fork nor in a resource. A container isn't tested.
+ */
+uint32_t pef_file_container(const uint8_t *file, size_t file_length, const uint8_t *name, size_t name_length, struct pef_bytes *container);
+
+/* Does the same by the bytes of both forks. */
+uint32_t pef_fork_container(const uint8_t *data_fork, size_t data_fork_length, const uint8_t *resource_fork, size_t resource_fork_length, const uint8_t *name, size_t name_length, struct pef_bytes *container);
+
+/*
+ * Gives the container with a number, from 0, among those of pef_find_containers(), with all bytes after it. Returns PEF_OK, or
+ * PEF_NO_CONTAINER past the last one.
+ */
+uint32_t pef_numbered_container(const uint8_t *bytes, size_t length, size_t number, struct pef_bytes *container);
+
+/*
+ * A context: fragments by name, and the memory in which they are prepared. It starts as zero bytes:
+ *
+ *     struct pef_context context = PEF_NO_CONTEXT;
  *
  * Only the calls below change it, and it isn't copied. Each of these calls returns PEF_NOT_OPEN, and changes nothing, if
  * the context isn't open: pef_open() wasn't called, failed, or was followed by pef_free(). Several contexts may be open at
@@ -409,6 +652,9 @@ struct pef_context {
     bool is_open;
 };
 
+/* No context, which are zero bytes: struct pef_context context = PEF_NO_CONTEXT; */
+#define PEF_NO_CONTEXT {NULL, false}
+
 /*
  * Opens a context without fragments. Sections are placed from address 00010000 on, and none passes `limit`; `pef load`
  * has the limit 10000000 (hexadecimal). A context that is open already is freed first.
@@ -417,14 +663,62 @@ struct pef_context {
  */
 uint32_t pef_open(struct pef_context *context, uint32_t limit);
 
-/* Frees a context and everything that it owns. It may be opened again. A context that isn't open stays as it is. */
+/*
+ * What a context is opened with. A field of 0 has its usual value, so a program sets what it wants to be otherwise:
+ *
+ *     struct pef_options options = PEF_USUAL_OPTIONS;
+ *     options.granule = 4096;
+ */
+struct pef_options {
+    /* The size of this struct, by which a later library knows an older program's. */
+    uint32_t size;
+    /* No section passes this address; usually 10000000 (hexadecimal). */
+    uint32_t limit;
+    /* Each section begins at a multiple of this, and takes a multiple of it: a power of two from 16 on; usually 16. */
+    uint32_t granule;
+    /* How many connections the context gives in all, closed ones included; usually PEF_MAX_CONNECTIONS. */
+    uint32_t connections;
+    /* How many steps the relocation programs of one preparation may take together; usually there is no bound. */
+    uint64_t steps;
+    /* How many bytes the new sections of one preparation may take together; usually there is no bound. */
+    uint64_t bytes;
+};
+
+/* Options that have their usual values. */
+#define PEF_USUAL_OPTIONS {sizeof(struct pef_options), 0, 0, 0, 0, 0}
+
+/*
+ * Opens a context without fragments, with options. A context that is open already is freed first.
+ *
+ * Returns PEF_OK; or PEF_BAD_OPTIONS, if `size` isn't that of the struct in this library; or PEF_BAD_GRANULE; or
+ * PEF_OUT_OF_MEMORY, and then the context isn't open. After the other two nothing is changed.
+ */
+uint32_t pef_open_with(struct pef_context *context, const struct pef_options *options);
+
+/* Returns the version of the library that runs. It is PEF_VERSION_NUMBER of the header that belongs to it. */
+uint32_t pef_version(void);
+
+/*
+ * Frees a context and everything that it owns. It may be opened again. A context that isn't open stays as it is, so one may be
+ * freed twice. When pef_free() returns, the library has nothing any more of what pef_add() took.
+ *
+ * A program that includes this header may also free NULL, which does nothing.
+ */
 void pef_free(struct pef_context *context);
+
+static inline void pef_free_unless_null(struct pef_context *context)
+{
+    if (context != NULL)
+        pef_free(context);
+}
+#define pef_free pef_free_unless_null
 
 /*
  * Adds a fragment: its name, and the bytes of its container. They are read by each preparation, and refused then. If two
  * fragments have the same name, the first is used.
  *
- * `name` and `bytes` are kept, not copied: both have to stay, unchanged, until the program ends.
+ * `name` and `bytes` are kept, not copied: both have to stay, unchanged, until pef_free() of this context returns. From then on
+ * they are the caller's again. Names that the library gave are parts of them.
  *
  * Fragments may be added at any time, also while connections are open. Those stay as they are.
  *
@@ -444,7 +738,7 @@ uint32_t pef_add(struct pef_context *context, const uint8_t *name, size_t name_l
  */
 uint32_t pef_reserve(struct pef_context *context, uint32_t address, uint32_t size);
 
-/* The names that are reported with a refusal. A name that isn't reported is empty. Start all three as PEF_NO_BYTES. */
+/* The names that are reported with a refusal. A name that isn't reported is empty. */
 struct pef_names {
     struct pef_bytes fragment;
     struct pef_bytes library;
@@ -458,8 +752,8 @@ struct pef_names {
  * Prepares the fragment of a name and all that it needs: places them, fills them and relocates them, unless they are
  * present already.
  *
- * Returns PEF_OK, and stores the number of the connection in `*connection`. Or returns the first refusal (1 to 39, or 60
- * to 69) or PEF_OUT_OF_MEMORY, stores its names in `*names`, and leaves the context and `*connection` unchanged. Names
+ * Returns PEF_OK, and stores the number of the connection in `*connection`. Or returns the first refusal (1 to 39, 60 to
+ * 70, or 75) or PEF_OUT_OF_MEMORY, stores its names in `*names`, and leaves the context and `*connection` unchanged. Names
  * are parts of what was added.
  */
 uint32_t pef_prepare(struct pef_context *context, const uint8_t *name, size_t name_length, uint32_t *connection, struct pef_names *names);

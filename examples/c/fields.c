@@ -35,8 +35,11 @@ static const struct number places[] = {
     SIZE(pef_import, 32), AT(pef_import, name, 0), AT(pef_import, library, 16), AT(pef_import, symbol_class, 24),
     AT(pef_import, weak, 25),
     SIZE(pef_relocation, 24), AT(pef_relocation, instructions, 0), AT(pef_relocation, section, 16),
+    SIZE(pef_fixup, 24), AT(pef_fixup, offset, 0), AT(pef_fixup, number, 8), AT(pef_fixup, kind, 16),
     SIZE(pef_export, 32), AT(pef_export, name, 0), AT(pef_export, section, 16), AT(pef_export, value, 20),
     AT(pef_export, symbol_class, 24),
+    SIZE(pef_options, 32), AT(pef_options, size, 0), AT(pef_options, limit, 4), AT(pef_options, granule, 8),
+    AT(pef_options, connections, 12), AT(pef_options, steps, 16), AT(pef_options, bytes, 24),
     SIZE(pef_context, 16), AT(pef_context, handle, 0), AT(pef_context, is_open, 8),
     SIZE(pef_names, 48), AT(pef_names, fragment, 0), AT(pef_names, library, 16), AT(pef_names, symbol, 32),
     SIZE(pef_fragment_section, 24), AT(pef_fragment_section, address, 0), AT(pef_fragment_section, size, 8),
@@ -45,6 +48,27 @@ static const struct number places[] = {
     AT(pef_target, offset, 20), AT(pef_target, address, 24),
     SIZE(pef_entries, 16), AT(pef_entries, init, 0), AT(pef_entries, main, 4), AT(pef_entries, term, 8),
     AT(pef_entries, has_init, 12), AT(pef_entries, has_main, 13), AT(pef_entries, has_term, 14),
+    SIZE(pef_part, 40), AT(pef_part, bytes, 0), AT(pef_part, offset, 16), AT(pef_part, error_offset, 24), AT(pef_part, error, 32),
+    SIZE(pef_finder, 32), AT(pef_finder, error_offset, 0), AT(pef_finder, error, 8), AT(pef_finder, file_type, 12),
+    AT(pef_finder, creator, 16), AT(pef_finder, flags, 20), AT(pef_finder, vertical, 22), AT(pef_finder, horizontal, 24),
+    AT(pef_finder, window, 26),
+    SIZE(pef_forks, 208), AT(pef_forks, data_fork, 0), AT(pef_forks, resource_fork, 40), AT(pef_forks, name, 80),
+    AT(pef_forks, comment, 120), AT(pef_forks, finder, 160), AT(pef_forks, error_offset, 192), AT(pef_forks, error, 200),
+    AT(pef_forks, kind, 204),
+    SIZE(pef_resource_map, 32), AT(pef_resource_map, error_offset, 0), AT(pef_resource_map, error, 8),
+    AT(pef_resource_map, data_offset, 12), AT(pef_resource_map, map_offset, 16), AT(pef_resource_map, data_length, 20),
+    AT(pef_resource_map, map_length, 24), AT(pef_resource_map, attributes, 28), AT(pef_resource_map, type_count, 30),
+    SIZE(pef_resource, 80), AT(pef_resource, name, 0), AT(pef_resource, bytes, 16), AT(pef_resource, offset, 32),
+    AT(pef_resource, error_offset, 40), AT(pef_resource, name_error_offset, 48), AT(pef_resource, error, 56),
+    AT(pef_resource, name_error, 60), AT(pef_resource, type, 64), AT(pef_resource, id, 68), AT(pef_resource, type_row, 70),
+    AT(pef_resource, row, 72), AT(pef_resource, attributes, 74),
+    SIZE(pef_member, 120), AT(pef_member, name, 0), AT(pef_member, container, 16), AT(pef_member, place, 32),
+    AT(pef_member, error_offset, 40), AT(pef_member, name_error_offset, 48), AT(pef_member, container_error_offset, 56),
+    AT(pef_member, error, 64), AT(pef_member, name_error, 68), AT(pef_member, container_error, 72),
+    AT(pef_member, architecture, 76), AT(pef_member, current_version, 80), AT(pef_member, old_def_version, 84),
+    AT(pef_member, stack_size, 88), AT(pef_member, offset, 92), AT(pef_member, length, 96), AT(pef_member, space_id, 100),
+    AT(pef_member, directory_or_flags, 104), AT(pef_member, fork_instance, 106), AT(pef_member, extension_count, 108),
+    AT(pef_member, size, 110), AT(pef_member, update_level, 112), AT(pef_member, usage, 113), AT(pef_member, locator, 114),
 };
 
 static size_t compared, different;
@@ -257,7 +281,7 @@ static void test_exports(void)
     COMPARE(numbers);
 }
 
-/* The containers of fragments, which stay until the program ends, as the library asks. */
+/* The containers of fragments, which stay until the program ends. */
 enum { ROOMS = 9, ROOM = 512 };
 static uint8_t rooms[ROOMS][ROOM];
 static size_t used_rooms;

@@ -1,4 +1,4 @@
-/* Fragments from words NAME=FILE, which stay until the program ends, as the library asks. */
+/* Fragments from words NAME=FILE, which stay until the program ends. */
 #ifndef FILES_H
 #define FILES_H
 

@@ -1,3 +1,5 @@
 mod Filling
 mod HandleValues
+mod MacFilling
 mod NumberLemmas
+mod PartLemmas

@@ -87,5 +87,7 @@ pub prepare_refused : (f : PrepareFault) → (fault_number f == 0) ≡ false
 prepare_refused prepare.TooManyConnections = refl
 prepare_refused prepare.RootMissing = refl
 prepare_refused (prepare.Bind f) = bind_refused f
+prepare_refused (prepare.TooManyBytes f) = refl
+prepare_refused (prepare.TooManyStepsInAll f) = refl
 prepare_refused (prepare.Fragment f) = fragment_refused f
 prepare_refused prepare.OutOfMemory = refl

@@ -3,10 +3,15 @@ pub mod Link
 pub mod List
 pub mod Names
 pub mod Containers
+pub mod Options
 pub mod Packed
 pub mod Loaders
 pub mod Rows
+pub mod Fixups
 pub mod Handles
 pub mod Contexts
 pub mod Reading
 pub mod Places
+pub mod MacForks
+pub mod MacParts
+pub mod MacRows

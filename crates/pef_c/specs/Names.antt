@@ -11,6 +11,8 @@ library_name number =
     else if number == 202 then Some (codes "NotOpen")
     else if number == 203 then Some (codes "AddedTooLate")
     else if number == 204 then Some (codes "StoreFull")
+    else if number == 205 then Some (codes "BadGranule")
+    else if number == 206 then Some (codes "BadOptions")
     else None
 
 -- their help
@@ -21,6 +23,8 @@ library_help number =
     else if number == 202 then Some (codes "The context isn't open. Open it by pef_open first.")
     else if number == 203 then Some (codes "A fragment of an open connection has a weak library of this name, and was prepared without it. Add the library after that connection is closed.")
     else if number == 204 then Some (codes "The context has 256 fragments, and takes no more.")
+    else if number == 205 then Some (codes "The granule isn't a power of two, or is below 16.")
+    else if number == 206 then Some (codes "The size of the options isn't that of this library's struct. Set it to sizeof, and build with the header of this library.")
     else None
 
 -- all names; refusals have numbers up to 99

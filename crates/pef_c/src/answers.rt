@@ -27,11 +27,29 @@ pub(crate) const NOT_THERE: u32 = 201;
 /// A context isn't open: it never was, or it was freed.
 pub(crate) const NOT_OPEN: u32 = 202;
 
+/// The options have another size than this library's struct.
+pub(crate) const BAD_OPTIONS: u32 = 206;
+
+/// Returns the bytes that C passed. If there are none, C may have passed a null pointer, which no slice has: then the
+/// slice of no bytes.
+pub(crate) fn given<'a>(bytes: &'a [u8]) -> &'a [u8]
+    ensures { result.now ≡ bytes.entry.now }
+{
+    if bytes.is_empty() {
+        return &[];
+    }
+    bytes
+}
+
 /// Copies items to the front of the caller's buffer, if they fit. Writes how many they are, also if they don't fit.
 pub(crate) fn copy_out<T: Copy>(items: &[T], buffer: &mut [T], written: &mut usize) -> Option<()>
     ensures { IsCopied items.now buffer.old buffer.new written.new result }
 {
     *written = items.len();
+    if items.is_empty() {
+        // The buffer may be null.
+        return Some(());
+    }
     let (front, _) = buffer.split_at_mut_checked(items.len())?;
     front.copy_from_slice(items);
     Some(())

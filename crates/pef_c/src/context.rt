@@ -5,7 +5,7 @@ ghost use Rattle.cfm_memory.specs.Faults as memory;
 ghost use Rattle.cfm_prepare.specs.Faults.{add_fault_number, close_fault_number, fault_number};
 ghost use Rattle.pef_c.specs.Contexts.{AddAnswers, AddsIn, CloseAnswers, ClosesIn, OpenAnswers, PlacedPrepareAnswers, PrepareAnswers, PreparesIn, ReserveAnswers, ReservesIn, held, names_shown};
 
-use crate::answers::{NOT_OPEN, OUT_OF_MEMORY};
+use crate::answers::{NOT_OPEN, OUT_OF_MEMORY, given};
 use crate::handle::{PefContext, put, take};
 use crate::place::place_or_nowhere;
 use crate::refusal_names::{names_of, place_of};
@@ -56,7 +56,7 @@ pub extern "C" fn pef_add(
     let Some(mut boxed) = take(alloc, context) else {
         return NOT_OPEN;
     };
-    let answer = add_in(&mut boxed, name, bytes);
+    let answer = add_in(&mut boxed, given(name), given(bytes));
     put(context, boxed);
     answer
 }

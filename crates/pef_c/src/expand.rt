@@ -1,6 +1,6 @@
 ghost use Rattle.pef_c.specs.Packed.{ExpandAnswers};
 
-use crate::answers::pack_number;
+use crate::answers::{given, pack_number};
 use pef_pidata::expand;
 
 /// Expands packed bytes until `out` is full.
@@ -10,7 +10,7 @@ use pef_pidata::expand;
 pub extern "C" fn pef_expand(packed: &[u8], out: &mut [u8]) -> u32
     ensures { ExpandAnswers packed.now out.old out.new result }
 {
-    match expand(packed, out) {
+    match expand(given(packed), out) {
         Ok(()) => 0,
         Err(fault) => pack_number(fault),
     }

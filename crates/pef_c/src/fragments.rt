@@ -9,7 +9,7 @@ ghost use Rattle.cfm_prepare.specs.Sections.{section_present};
 ghost use Rattle.pef_c.specs.Contexts.{held};
 ghost use Rattle.pef_c.specs.Reading.{CopyAnswers, ReadAnswers, entries_given, fragment_section_of};
 
-use crate::answers::{NOT_OPEN, NOT_THERE, copy_answer};
+use crate::answers::{NOT_OPEN, NOT_THERE, copy_answer, given};
 use crate::handle::{PefContext, put, take};
 use crate::structs::{PefEntries, PefFragmentSection};
 use cfm_prepare::{Connection, Context, Entries};
@@ -247,7 +247,7 @@ pub extern "C" fn pef_fragment_symbol(
     let Some(boxed) = take(alloc, context) else {
         return NOT_OPEN;
     };
-    let answer = match boxed.fragment_symbol(Connection(connection), fragment, name) {
+    let answer = match boxed.fragment_symbol(Connection(connection), fragment, given(name)) {
         Some(found) => {
             *address = found;
             0

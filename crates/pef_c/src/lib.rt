@@ -11,6 +11,7 @@ mod context;
 #[cfg(test)]
 mod context_tests;
 mod expand;
+mod fixups;
 mod fragments;
 mod handle;
 #[cfg(test)]
@@ -19,11 +20,21 @@ mod link;
 mod list;
 mod loader;
 mod loose;
+mod mac_errors;
+mod mac_file;
+mod mac_structs;
+#[cfg(test)]
+mod mac_tests;
+mod members;
 mod names;
+mod options;
+#[cfg(test)]
+mod options_tests;
 mod place;
 #[cfg(test)]
 mod place_tests;
 mod refusal_names;
+mod resources;
 mod rows;
 #[cfg(test)]
 mod struct_tests;
@@ -39,6 +50,7 @@ pub use context::{
     pef_add, pef_close, pef_free, pef_open, pef_prepare, pef_prepare_with_place, pef_reserve,
 };
 pub use expand::pef_expand;
+pub use fixups::pef_fixups;
 pub use fragments::{
     pef_fragment_bytes, pef_fragment_entries, pef_fragment_name, pef_fragment_section,
     pef_fragment_sections, pef_fragment_symbol, pef_fragments, pef_init_order,
@@ -47,11 +59,18 @@ pub use handle::PefContext;
 pub use link::pef_link;
 pub use list::{pef_list, pef_list_part};
 pub use loader::pef_loader;
+pub use mac_file::{
+    pef_file_container, pef_file_kind, pef_fork_container, pef_forks, pef_numbered_container,
+};
+pub use mac_structs::{PefFinder, PefForks, PefMember, PefPart, PefResource, PefResourceMap};
+pub use members::{pef_find_containers, pef_members};
 pub use names::{pef_help, pef_name};
+pub use options::{PefOptions, pef_open_with, pef_version};
 pub use place::{pef_container_place, pef_script_place};
+pub use resources::{pef_find_resource, pef_resource_map, pef_resources};
 pub use rows::{pef_export_named, pef_exports, pef_imports, pef_libraries, pef_relocations};
 pub use structs::{
-    PefEntries, PefExport, PefFragmentSection, PefHeader, PefImport, PefLibrary, PefLoader,
-    PefNames, PefPlace, PefRelocation, PefSection, PefTarget,
+    PefEntries, PefExport, PefFixup, PefFragmentSection, PefHeader, PefImport, PefLibrary,
+    PefLoader, PefNames, PefPlace, PefRelocation, PefSection, PefTarget,
 };
 pub use theorems::{container_names, listing_names, loader_names, packed_names, script_names};

@@ -1,6 +1,6 @@
 ghost use Rattle.pef_c.specs.Link.{LinkAnswers};
 
-use crate::answers::{OUT_OF_MEMORY, ROOM_TOO_SMALL, copy_out, line_number};
+use crate::answers::{OUT_OF_MEMORY, ROOM_TOO_SMALL, copy_out, given, line_number};
 use pef_script::{Script, ScriptFault};
 use pef_write::link_container;
 use std::alloc::Global;
@@ -20,7 +20,7 @@ pub extern "C" fn pef_link(
     ensures { LinkAnswers script.now buffer.old buffer.new written.old written.new line.new result }
 {
     *line = 0;
-    let script = match Script::read(alloc, script) {
+    let script = match Script::read(alloc, given(script)) {
         Ok(script) => script,
         Err(
             ScriptFault::Refused {

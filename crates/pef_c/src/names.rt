@@ -74,6 +74,8 @@ fn library_name(number: u32) -> Option<&'static str>
         202 => Some("NotOpen"),
         203 => Some("AddedTooLate"),
         204 => Some("StoreFull"),
+        205 => Some("BadGranule"),
+        206 => Some("BadOptions"),
         _ => None,
     }
 }
@@ -93,6 +95,10 @@ fn library_help(number: u32) -> Option<&'static str>
             "A fragment of an open connection has a weak library of this name, and was prepared without it. Add the library after that connection is closed.",
         ),
         204 => Some("The context has 256 fragments, and takes no more."),
+        205 => Some("The granule isn't a power of two, or is below 16."),
+        206 => Some(
+            "The size of the options isn't that of this library's struct. Set it to sizeof, and build with the header of this library.",
+        ),
         _ => None,
     }
 }

@@ -2,7 +2,7 @@
 ghost use Rattle.std.specs.Prelude.{◌≡◌};
 ghost use Rattle.pef_c.specs.Places.{ContainerPlaces, ScriptPlaces, place_or_nowhere, word_place};
 
-use crate::answers::{OUT_OF_MEMORY, line_number, list_number};
+use crate::answers::{OUT_OF_MEMORY, given, line_number, list_number};
 use crate::structs::PefPlace;
 use pef_faults::Fault;
 use pef_format::{Part, Place};
@@ -11,7 +11,7 @@ use pef_script::{Script, ScriptFault, Word};
 use std::alloc::Global;
 
 /// The offset of what has none (`PEF_NO_OFFSET`).
-const NO_OFFSET: usize = usize::MAX;
+pub(crate) const NO_OFFSET: usize = usize::MAX;
 
 /// Finds the first error of a container: of its header and its sections, of its loader section, and of its relocation
 /// programs, in the order in which `pef_list` reports them.
@@ -48,7 +48,7 @@ pub extern "C" fn pef_script_place(
 {
     *place = place_or_nowhere(None);
     *earlier = 0;
-    let _script = match Script::read(alloc, script) {
+    let _script = match Script::read(alloc, given(script)) {
         Ok(script) => script,
         Err(ScriptFault::OutOfMemory) => return OUT_OF_MEMORY,
         Err(

@@ -7,7 +7,7 @@ ghost use Rattle.pef_format.specs.Symbols.{import_seen};
 ghost use Rattle.pef_loader.specs.Views.{library_seen, loaded, reloc_seen};
 ghost use Rattle.pef_c.specs.Rows.{ExportsAnswer, ImportsAnswer, LibrariesAnswer, NamedAnswer, RelocationsAnswer, export_shown, filled, fitting, import_shown, library_shown, relocation_shown};
 
-use crate::answers::NOT_THERE;
+use crate::answers::{NOT_THERE, given};
 use crate::loader::read_tables;
 use crate::structs::{PefExport, PefImport, PefLibrary, PefRelocation};
 use pef_format::{ExportView, ImportView};
@@ -109,7 +109,7 @@ pub extern "C" fn pef_export_named<'a>(
         Ok(loader) => loader,
         Err(number) => return number,
     };
-    let Some(place) = loader.export_named(name) else {
+    let Some(place) = loader.export_named(given(name)) else {
         return NOT_THERE;
     };
     let Some(found) = loader.export(place) else {

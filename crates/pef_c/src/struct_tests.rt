@@ -3,10 +3,10 @@
 use crate::context_tests::{LIBRARY, LIMIT, NO_NAMES, linked};
 use crate::handle::{PefContext, none};
 use crate::{
-    PefEntries, PefExport, PefFragmentSection, PefHeader, PefImport, PefLibrary, PefLoader,
-    PefRelocation, PefSection, pef_add, pef_exports, pef_fragment_entries, pef_fragment_section,
-    pef_free, pef_header, pef_imports, pef_libraries, pef_link, pef_loader, pef_open, pef_prepare,
-    pef_relocations, pef_section,
+    PefEntries, PefExport, PefFixup, PefFragmentSection, PefHeader, PefImport, PefLibrary,
+    PefLoader, PefRelocation, PefSection, pef_add, pef_exports, pef_fixups, pef_fragment_entries,
+    pef_fragment_section, pef_free, pef_header, pef_imports, pef_libraries, pef_link, pef_loader,
+    pef_open, pef_prepare, pef_relocations, pef_section,
 };
 use std::alloc::Global;
 use std::process::Abort;
@@ -180,6 +180,27 @@ fn exports(rt: HostRuntime) {
     assert!(rt; within.section == 4 && within.value == 20);
     assert!(rt; number.name == b"five".as_slice() && number.class == 2);
     assert!(rt; number.section == -2 && number.value == 0x89AB_CDEF);
+}
+
+/// The one addition of the relocation header, and none of a header that doesn't exist.
+#[test]
+fn fixups(rt: HostRuntime) {
+    let buffer = container(&rt, rt.alloc());
+    let unfilled = PefFixup {
+        offset: 7,
+        number: 7,
+        kind: 7,
+    };
+    let mut places = [unfilled; 2];
+    let mut count = 7;
+    assert!(rt; pef_fixups(&buffer, 1, 0, &mut places, &mut count) == 201 && count == 7);
+    assert!(rt; pef_fixups(&buffer, 0, 0, &mut places, &mut count) == 0 && count == 1);
+    let made = PefFixup {
+        offset: 4,
+        number: 1,
+        kind: 1,
+    };
+    assert!(rt; places[0] == made && places[1] == unfilled);
 }
 
 /// Adds the fragment of a script to a context.

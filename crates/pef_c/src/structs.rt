@@ -83,6 +83,17 @@ pub struct PefRelocation<'a> {
     pub section: u32,
 }
 
+/// An addition of a relocation program: the word that gets an address, and which.
+#[repr(C)]
+#[derive(Clone, Copy, Debug, PartialEq, Eq)]
+pub struct PefFixup {
+    pub offset: u64,
+    /// The number of the section or of the import.
+    pub number: u64,
+    /// 1 for a section, 2 for an import.
+    pub kind: u32,
+}
+
 /// An exported symbol.
 #[repr(C)]
 #[derive(Clone, Copy, Debug)]

@@ -183,7 +183,7 @@ fn refusals(rt: HostRuntime) {
     let mut name: &'static [u8] = b"";
     assert!(rt; pef_name(listed, &mut name) == 0);
     assert!(rt; name == b"BadTag".as_slice());
-    assert!(rt; pef_name(70, &mut name) == 201);
+    assert!(rt; pef_name(59, &mut name) == 201);
     assert!(rt; name == b"BadTag".as_slice());
 }
 

@@ -1,0 +1,211 @@
+/*
+ * What callers do all the same, and what pef.h promises: slices of no bytes that are null, structs that come as zero bytes or
+ * with any bytes, pef_free() of NULL and of a context that isn't open, and names and containers that go after pef_free().
+ * With --memory it opens, fills and frees a context 100,000 times instead, and the process may not grow.
+ */
+#include "file.h"
+
+#include <string.h>
+#include <unistd.h>
+
+static size_t failures;
+
+static void expect(bool holds, const char *what)
+{
+    if (!holds) {
+        fprintf(stderr, "promised: %s\n", what);
+        failures++;
+    }
+}
+
+static const char script[] = "library L 1 0 weak\nimport i data weak\nsection a data process 4 16\nbytes a 01020304\n"
+                             "fix a 4 section a\nfix a 8 import i\nexport x data a 4\nmain a 0\n";
+
+static uint8_t container[1024];
+static size_t container_length;
+
+static void link_script(void)
+{
+    size_t line = 0;
+    expect(pef_link((const uint8_t *)script, strlen(script), container, sizeof container, &container_length, &line) == PEF_OK, "the script");
+}
+
+static bool is_named(struct pef_bytes found, const char *wanted)
+{
+    return found.length == strlen(wanted) && memcmp(found.at, wanted, found.length) == 0;
+}
+
+/* A null pointer with a length of 0 is no bytes, in every call. */
+static void test_null_slices(void)
+{
+    struct pef_header header;
+    struct pef_section section;
+    struct pef_bytes bytes;
+    struct pef_loader loader;
+    struct pef_place place;
+    struct pef_export export;
+    size_t count = 7, number = 7, line = 7;
+    expect(pef_header(NULL, 0, &header) == PEF_TOO_SHORT, "pef_header of null");
+    expect(pef_section(NULL, 0, 0, &section, &bytes) == PEF_TOO_SHORT, "pef_section of null");
+    expect(pef_section_name(NULL, 0, 0, &bytes) == PEF_TOO_SHORT, "pef_section_name of null");
+    expect(pef_loader(NULL, 0, &loader) == PEF_TOO_SHORT, "pef_loader of null");
+    expect(pef_list(NULL, 0, NULL, 0, &count) == PEF_TOO_SHORT && count == 7, "pef_list of null");
+    expect(pef_list_part(NULL, 0, 0, NULL, 0, &count) == PEF_TOO_SHORT && count == 7, "pef_list_part of null");
+    expect(pef_container_place(NULL, 0, &place) == PEF_TOO_SHORT && place.part == PEF_NOWHERE, "pef_container_place of null");
+    expect(pef_script_place(NULL, 0, &place, &line) == PEF_OK && place.part == PEF_NOWHERE && line == 0, "pef_script_place of null");
+    expect(pef_libraries(NULL, 0, 0, NULL, 0, &count) == PEF_TOO_SHORT, "pef_libraries of null");
+    expect(pef_fixups(NULL, 0, 0, 0, NULL, 0, &count) == PEF_TOO_SHORT, "pef_fixups of null");
+    expect(pef_export_named(NULL, 0, NULL, 0, &number, &export) == PEF_TOO_SHORT, "pef_export_named of null");
+    expect(pef_expand(NULL, 0, NULL, 0) == PEF_OK, "pef_expand of no bytes to none");
+    expect(pef_link((const uint8_t *)"", 0, container, 0, &number, &line) == PEF_ROOM_TOO_SMALL && number > 40, "pef_link of no line");
+    expect(pef_link(NULL, 0, NULL, 0, &count, &line) == PEF_ROOM_TOO_SMALL && count == number && line == 0, "pef_link of null");
+    number = 7;
+    count = 7;
+    expect(pef_libraries(container, container_length, 0, NULL, 0, &count) == PEF_OK && count == 0, "pef_libraries to no places");
+    count = 7;
+    expect(pef_fixups(container, container_length, 0, 0, NULL, 0, &count) == PEF_OK && count == 0, "pef_fixups to no places");
+    expect(pef_export_named(container, container_length, NULL, 0, &number, &export) == PEF_NOT_THERE && number == 7, "an export without a name");
+    count = 7;
+    expect(pef_list_part(container, container_length, 1 << 20, NULL, 0, &count) == PEF_OK && count == 0, "no part of a listing");
+}
+
+/* A fragment whose name and container have no bytes: it is there, and refused as such. */
+static void test_null_fragment(void)
+{
+    struct pef_context context = PEF_NO_CONTEXT;
+    struct pef_names names;
+    struct pef_place place;
+    struct pef_bytes name;
+    uint32_t connection = 7;
+    size_t count = 7;
+    memset(&names, 0xFF, sizeof names);
+    expect(pef_open(&context, 0x10000000) == PEF_OK, "pef_open");
+    expect(pef_add(&context, NULL, 0, NULL, 0) == PEF_OK, "pef_add of null");
+    expect(pef_prepare_with_place(&context, NULL, 0, &connection, &names, &place) == PEF_TOO_SHORT, "pef_prepare of null");
+    expect(names.fragment.length == 0 && place.part == PEF_NOWHERE && connection == 7, "what is reported of it");
+    expect(pef_fragment_name(&context, 0, &name) == PEF_OK && name.length == 0, "the name of it");
+    expect(pef_fragment_name(&context, 1, &name) == PEF_NOT_THERE, "a fragment after it");
+    expect(pef_fragment_sections(&context, 0, &count) == PEF_OK && count == 0, "its sections");
+    pef_free(&context);
+}
+
+/* All structs that a call fills come with the same byte in each place. */
+static void test_filled(int byte)
+{
+    struct pef_section section;
+    struct pef_bytes raw, name;
+    struct pef_library library;
+    struct pef_import import;
+    struct pef_relocation relocation;
+    struct pef_fixup fixups[3];
+    struct pef_export exports[2], found;
+    size_t count = 0, number = 7;
+    memset(&section, byte, sizeof section);
+    memset(&raw, byte, sizeof raw);
+    memset(&name, byte, sizeof name);
+    memset(&library, byte, sizeof library);
+    memset(&import, byte, sizeof import);
+    memset(&relocation, byte, sizeof relocation);
+    memset(fixups, byte, sizeof fixups);
+    memset(exports, byte, sizeof exports);
+    memset(&found, byte, sizeof found);
+    expect(pef_section(container, container_length, 0, &section, &raw) == PEF_OK && section.total_size == 16, "a section");
+    expect(raw.length >= 4 && raw.at == container + section.container_offset && raw.at[3] == 4, "its bytes");
+    expect(pef_name(PEF_BAD_TAG, &name) == PEF_OK && is_named(name, "BadTag"), "the name of a number");
+    expect(pef_libraries(container, container_length, 0, &library, 1, &count) == PEF_OK && count == 1 && is_named(library.name, "L"), "a library");
+    expect(pef_imports(container, container_length, 0, &import, 1, &count) == PEF_OK && count == 1 && import.weak && is_named(import.name, "i"), "an import");
+    expect(pef_relocations(container, container_length, 0, &relocation, 1, &count) == PEF_OK && count == 1 && relocation.section == 0, "a relocation header");
+    expect(pef_fixups(container, container_length, 0, 0, fixups, 3, &count) == PEF_OK && count == 2, "two additions");
+    expect(fixups[0].offset == 4 && fixups[0].kind == PEF_FIXUP_SECTION && fixups[0].number == 0, "the first");
+    expect(fixups[1].offset == 8 && fixups[1].kind == PEF_FIXUP_IMPORT && fixups[1].number == 0, "the second");
+    expect(pef_fixups(container, container_length, 0, 1, fixups, 3, &count) == PEF_OK && count == 1 && fixups[0].offset == 8, "the second alone");
+    expect(pef_fixups(container, container_length, 0, 2, fixups, 3, &count) == PEF_OK && count == 0, "those after the last");
+    expect(pef_fixups(container, container_length, 1, 0, fixups, 3, &count) == PEF_NOT_THERE, "those of no header");
+    expect(pef_exports(container, container_length, 0, exports, 2, &count) == PEF_OK && count == 1 && is_named(exports[0].name, "x"), "an export");
+    expect(pef_export_named(container, container_length, (const uint8_t *)"x", 1, &number, &found) == PEF_OK && number == 0 && found.value == 4, "an export by its name");
+}
+
+static void test_free(void)
+{
+    struct pef_context context = PEF_NO_CONTEXT, zeros;
+    memset(&zeros, 0, sizeof zeros);
+    pef_free(NULL);
+    pef_free(&context);
+    pef_free(&zeros);
+    expect(pef_open(&context, 0x10000000) == PEF_OK && context.is_open, "pef_open");
+    pef_free(&context);
+    pef_free(&context);
+    expect(!context.is_open && pef_close(&context, 0) == PEF_NOT_OPEN, "a context that was freed twice");
+}
+
+static uint8_t *copy(const void *bytes, size_t length)
+{
+    uint8_t *made = malloc(length);
+    if (made == NULL)
+        exit(2);
+    return memcpy(made, bytes, length);
+}
+
+/* Opens a context, prepares a fragment whose name and container are blocks of their own, and frees all of it. */
+static void open_once(void)
+{
+    struct pef_context context = PEF_NO_CONTEXT;
+    struct pef_names names;
+    struct pef_fragment_section section = {0};
+    uint32_t connection = 7;
+    uint8_t *name = copy("it", 2), *bytes = copy(container, container_length), wanted[] = {1, 2, 3, 4}, found[16];
+    size_t written = 0;
+    bool is_prepared = pef_open(&context, 0x10000000) == PEF_OK && pef_add(&context, name, 2, bytes, container_length) == PEF_OK
+                       && pef_prepare(&context, name, 2, &connection, &names) == PEF_OK
+                       && pef_fragment_section(&context, connection, 0, 0, &section) == PEF_OK && section.size == 16
+                       && pef_fragment_bytes(&context, 0, 0, found, sizeof found, &written) == PEF_OK
+                       && memcmp(found, wanted, sizeof wanted) == 0;
+    expect(is_prepared, "a fragment in a context");
+    pef_free(&context);
+    memset(name, 0xEE, 2);
+    memset(bytes, 0xEE, container_length);
+    free(name);
+    free(bytes);
+}
+
+/* How many bytes of memory the process has. */
+static long resident(void)
+{
+    long pages = 0;
+    FILE *file = fopen("/proc/self/statm", "r");
+    if (file == NULL || fscanf(file, "%*d %ld", &pages) != 1)
+        exit(2);
+    fclose(file);
+    return pages * sysconf(_SC_PAGESIZE);
+}
+
+static void test_memory(void)
+{
+    for (int i = 0; i < 1000; i++)  // the heap has found its size
+        open_once();
+    resident();
+    long before = resident();
+    for (int i = 0; i < 100000 && failures == 0; i++)
+        open_once();
+    long grown = resident() - before;
+    if (grown > 131072)
+        fprintf(stderr, "promised: %ld bytes more\n", grown);
+    expect(grown <= 131072, "100,000 contexts take more memory than one");
+}
+
+int main(int count, char **words)
+{
+    link_script();
+    if (count == 2 && strcmp(words[1], "--memory") == 0) {
+        test_memory();
+    } else {
+        test_null_slices();
+        test_null_fragment();
+        test_filled(0);
+        test_filled(0xA5);
+        test_filled(0xFF);
+        test_free();
+        open_once();
+    }
+    return failures == 0 ? 0 : 1;
+}

@@ -1,0 +1,294 @@
+/*
+ * Measures how much stack each call takes: stack FILE.. has every call read, list and prepare the containers of the files, and
+ * then containers that were made to take much: libraries out of order, 256 fragments that need one another in a row, and a
+ * chain of exports that are passed on. A call runs in a thread whose stack is full of one byte, and what it changed is counted.
+ * A call that takes more than 64 KB is told, and the status is then 1.
+ */
+#define _DEFAULT_SOURCE
+#include "file.h"
+
+#include <pthread.h>
+#include <string.h>
+#include <sys/mman.h>
+
+enum { STACK = 1 << 21, LIMIT = 1 << 16, FILLED = 0xA5, ROOM = 1 << 20, PLACES = 1024 };
+
+/* --- what a piece of work takes --- */
+
+static uint8_t *stack;
+
+static void *run(void *work)
+{
+    (*(void (**)(void))work)();
+    return NULL;
+}
+
+/* How many bytes of the stack a piece of work changes. */
+static size_t changed_by(void (*work)(void))
+{
+    pthread_attr_t attributes;
+    pthread_t thread;
+    memset(stack, FILLED, STACK);
+    if (pthread_attr_init(&attributes) != 0 || pthread_attr_setstack(&attributes, stack, STACK) != 0
+        || pthread_create(&thread, &attributes, run, &work) != 0 || pthread_join(thread, NULL) != 0)
+        exit(2);
+    pthread_attr_destroy(&attributes);
+    size_t left = 0;
+    while (left < STACK && stack[left] == FILLED)
+        left++;
+    return STACK - left;
+}
+
+static void nothing(void)
+{
+}
+
+static size_t most, failures;
+
+static void measure(const char *name, const char *what, void (*work)(void))
+{
+    size_t all = changed_by(work), thread = changed_by(nothing);
+    size_t taken = all > thread ? all - thread : 0;
+    if (taken > most)
+        most = taken;
+    if (taken > LIMIT) {
+        printf("%s takes %zu bytes of stack: %s\n", name, taken, what);
+        failures++;
+    }
+}
+
+/* --- the calls --- */
+
+static struct pef_bytes it;
+static const char *text;
+static uint8_t room[ROOM];
+static size_t written, line, places[PEF_MAX_FRAGMENTS], count;
+static uint32_t connection, answer;
+static struct pef_context context = PEF_NO_CONTEXT;
+static struct pef_bytes bytes;
+
+static void call_link(void)
+{
+    answer = pef_link((const uint8_t *)text, strlen(text), room, ROOM, &written, &line);
+}
+
+static void call_script_place(void)
+{
+    static struct pef_place place;
+    answer = pef_script_place((const uint8_t *)text, strlen(text), &place, &line);
+}
+
+static void call_container_place(void)
+{
+    static struct pef_place place;
+    answer = pef_container_place(it.at, it.length, &place);
+}
+
+static void call_list(void)
+{
+    answer = pef_list(it.at, it.length, room, ROOM, &written);
+}
+
+static void call_list_part(void)
+{
+    answer = pef_list_part(it.at, it.length, 100, room, ROOM, &written);
+}
+
+static void call_section(void)
+{
+    static struct pef_section section;
+    answer = pef_section(it.at, it.length, 0, &section, &bytes);
+    answer = pef_section_name(it.at, it.length, 0, &bytes);
+    if (section.kind == PEF_KIND_PACKED && section.unpacked_size <= ROOM)
+        answer = pef_expand(bytes.at, bytes.length, room, section.unpacked_size);
+}
+
+static void call_loader(void)
+{
+    static struct pef_loader loader;
+    answer = pef_loader(it.at, it.length, &loader);
+}
+
+static void call_libraries(void)
+{
+    static struct pef_library rows[PLACES];
+    answer = pef_libraries(it.at, it.length, 0, rows, PLACES, &count);
+}
+
+static void call_imports(void)
+{
+    static struct pef_import rows[PLACES];
+    answer = pef_imports(it.at, it.length, 0, rows, PLACES, &count);
+}
+
+static void call_relocations(void)
+{
+    static struct pef_relocation rows[PLACES];
+    answer = pef_relocations(it.at, it.length, 0, rows, PLACES, &count);
+}
+
+static void call_fixups(void)
+{
+    static struct pef_fixup rows[PLACES];
+    answer = pef_fixups(it.at, it.length, 0, 0, rows, PLACES, &count);
+}
+
+static void call_exports(void)
+{
+    static struct pef_export rows[PLACES], found;
+    answer = pef_exports(it.at, it.length, 0, rows, PLACES, &count);
+    answer = pef_export_named(it.at, it.length, (const uint8_t *)"x", 1, &count, &found);
+}
+
+static void call_prepare(void)
+{
+    static struct pef_names names;
+    static struct pef_place place;
+    answer = pef_prepare_with_place(&context, (const uint8_t *)"0", 1, &connection, &names, &place);
+}
+
+static void call_readers(void)
+{
+    static struct pef_fragment_section section;
+    static struct pef_entries entries;
+    static struct pef_target target;
+    static uint32_t address;
+    pef_fragments(&context, connection, places, PEF_MAX_FRAGMENTS, &count);
+    pef_init_order(&context, connection, places, PEF_MAX_FRAGMENTS, &count);
+    pef_new_fragments(&context, connection, places, PEF_MAX_FRAGMENTS, &count);
+    pef_released_by(&context, connection, places, PEF_MAX_FRAGMENTS, &count);
+    pef_fragment_name(&context, 0, &bytes);
+    pef_fragment_sections(&context, 0, &count);
+    pef_fragment_section(&context, connection, 0, 0, &section);
+    pef_fragment_bytes(&context, 0, 0, room, ROOM, &written);
+    pef_fragment_entries(&context, connection, 0, &entries);
+    pef_fragment_symbol(&context, connection, 0, (const uint8_t *)"x", 1, &address);
+    pef_import_target(&context, connection, 0, 0, &target);
+    pef_export_address(&context, connection, 0, 0, &address);
+}
+
+static void call_close(void)
+{
+    answer = pef_close(&context, connection);
+}
+
+static void call_free(void)
+{
+    pef_free(&context);
+}
+
+static void call_open(void)
+{
+    answer = pef_open(&context, 0x10000000);
+}
+
+/* Prepares the fragment 0 of the context. */
+static void measure_context(const char *what)
+{
+    measure("pef_prepare_with_place", what, call_prepare);
+    measure("a reader of a context", what, call_readers);
+    measure("pef_close", what, call_close);
+    measure("pef_free", what, call_free);
+}
+
+static void measure_container(const char *what)
+{
+    measure("pef_container_place", what, call_container_place);
+    measure("pef_list", what, call_list);
+    measure("pef_list_part", what, call_list_part);
+    measure("pef_section", what, call_section);
+    measure("pef_loader", what, call_loader);
+    measure("pef_libraries", what, call_libraries);
+    measure("pef_imports", what, call_imports);
+    measure("pef_relocations", what, call_relocations);
+    measure("pef_fixups", what, call_fixups);
+    measure("pef_exports", what, call_exports);
+    measure("pef_open", what, call_open);
+    if (pef_add(&context, (const uint8_t *)"0", 1, it.at, it.length) != PEF_OK)
+        exit(2);
+    measure_context(what);
+}
+
+/* --- containers that were made for it --- */
+
+static struct pef_bytes linked(const char *script)
+{
+    text = script;
+    measure("pef_link", script, call_link);
+    measure("pef_script_place", script, call_script_place);
+    uint8_t *made = malloc(written);
+    if (answer != PEF_OK || made == NULL)
+        exit(2);
+    return (struct pef_bytes){memcpy(made, room, written), written};
+}
+
+/* Two libraries whose rows are exchanged, so that their imports are out of order. */
+static void measure_out_of_order(void)
+{
+    static char script[400000];
+    char *end = script + sprintf(script, "library A 0 0 weak\n");
+    for (int i = 0; i < 5000; i++)
+        end += sprintf(end, "import a%d data weak\n", i);
+    end += sprintf(end, "library B 0 0 weak\n");
+    for (int i = 0; i < 5000; i++)
+        end += sprintf(end, "import b%d data weak\n", i);
+    sprintf(end, "section d data process 4 8\nfix d 0 import a0\nexport x data d 0\n");
+    it = linked(script);
+    struct pef_section section = {0};
+    struct pef_bytes raw = PEF_NO_BYTES;
+    uint8_t row[24];
+    if (pef_section(it.at, it.length, 1, &section, &raw) != PEF_OK || section.kind != PEF_KIND_LOADER)
+        exit(2);
+    uint8_t *rows = (uint8_t *)it.at + section.container_offset + 56;
+    memcpy(row, rows, 24);
+    memmove(rows, rows + 24, 24);
+    memcpy(rows + 24, row, 24);
+    measure_container("libraries out of order");
+    free((void *)it.at);
+}
+
+/* As many fragments as a context has, each of which needs the next one, and passes its export on. */
+static void measure_chain(void)
+{
+    static struct pef_bytes fragments[PEF_MAX_FRAGMENTS];
+    static char names[PEF_MAX_FRAGMENTS][4];
+    call_open();
+    for (int i = 0; i < PEF_MAX_FRAGMENTS; i++) {
+        char script[200];
+        sprintf(script, i == PEF_MAX_FRAGMENTS - 1 ? "versions 0 0 0\nsection d data process 4 4\nexport x data d 0\ninit d 0\n"
+                                                   : "versions 0 0 0\nlibrary %d 0 0 before\nimport x data strong\n"
+                                                     "section d data process 4 4\nfix d 0 import x\nreexport x data x\ninit d 0\n", i + 1);
+        fragments[i] = linked(script);
+        sprintf(names[i], "%d", i);
+        if (pef_add(&context, (const uint8_t *)names[i], strlen(names[i]), fragments[i].at, fragments[i].length) != PEF_OK)
+            exit(2);
+    }
+    call_prepare();
+    if (answer != PEF_OK)
+        exit(2);
+    call_close();
+    measure_context("256 fragments in a row");
+    for (int i = 0; i < PEF_MAX_FRAGMENTS; i++)
+        free((void *)fragments[i].at);
+}
+
+int main(int words_count, char **words)
+{
+    stack = mmap(NULL, STACK, PROT_READ | PROT_WRITE, MAP_PRIVATE | MAP_ANONYMOUS, -1, 0);
+    if (stack == MAP_FAILED)
+        return 2;
+    for (int i = 1; i < words_count; i++) {
+        uint8_t *read = read_file(words[i], &it.length);
+        if (read == NULL) {
+            perror(words[i]);
+            return 2;
+        }
+        it.at = read;
+        measure_container(words[i]);
+        free(read);
+    }
+    measure_out_of_order();
+    measure_chain();
+    printf("at most %zu bytes of stack\n", most);
+    return failures == 0 ? 0 : 1;
+}
