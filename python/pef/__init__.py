@@ -1,20 +1,22 @@
 """PEF containers, the executables of the classic Mac OS on PowerPC: linked, listed, read and prepared by libpef.
 
-    import pef
+    >>> import pef
+    >>> script = "section data data process 4 4\\nbytes data 0000002A\\nexport answer data data 0\\n"
+    >>> container = pef.link(script)
+    >>> pef.Container(container).exports
+    [Export(name='answer', section=0, value=0, symbol_class=<SymbolClass.DATA: 1>)]
 
-    container = pef.link(open("tools.pefscript").read())
-    tools = pef.Container(container)
-    print(tools.libraries, tools.exports)
-
-    with pef.Context() as context:
-        context.add("Tools", container)
-        connection = context.prepare("Tools")
-        for fragment in connection.fragments:
-            for section in fragment.sections:
-                print(fragment.name, hex(section.address), section.contents)
+    >>> with pef.Context() as context:
+    ...     context.add("Tools", container)
+    ...     with context.prepare("Tools") as connection:
+    ...         for fragment in connection.fragments:
+    ...             for section in fragment.sections:
+    ...                 print(fragment.name, hex(section.address), section.contents.hex())
+    Tools 0x10000 0000002a
 
 This module needs the shared library of tools/build-library and nothing else. It looks for the file that the environment's
-PEF_LIBRARY names, then for out/libpef.so beside this folder, then for an installed libpef.so.0.
+PEF_LIBRARY names, then for libpef.so in this folder, as a wheel has it, then for out/libpef.so at the top of the repository, then
+for an installed libpef.so.0.
 
 Names of fragments, libraries and symbols are `str`. In a container they are bytes, and here each byte is the character that it
 is in Mac Roman, so nothing is lost. Where a name is asked for, `bytes` are taken too.
@@ -26,10 +28,11 @@ from __future__ import annotations
 import ctypes
 import ctypes.util
 import dataclasses
+import enum
 import functools
 import os
 import pathlib
-from typing import Any, Dict, List, Optional, Tuple, Union
+from typing import Any, Dict, Iterator, List, Optional, Tuple, Type, Union
 
 __all__ = [
     "Connection",
@@ -37,6 +40,7 @@ __all__ = [
     "Context",
     "Entry",
     "Export",
+    "Fixup",
     "Fragment",
     "Header",
     "Import",
@@ -46,11 +50,17 @@ __all__ = [
     "PlacedSection",
     "Relocation",
     "Section",
+    "SectionKind",
+    "Share",
+    "SymbolClass",
     "help_of",
     "library",
     "link",
     "name_of",
+    "version",
 ]
+
+__version__ = "0.1.0"
 
 ENCODING = "mac_roman"
 OK, ROOM_TOO_SMALL, NOT_THERE = 0, 200, 201
@@ -58,7 +68,63 @@ MAX_FRAGMENTS = 256
 
 KINDS = {0: "code", 1: "data", 2: "pattern", 3: "const", 4: "loader", 5: "debug", 6: "exec", 7: "exception", 8: "traceback"}
 SHARES = {1: "process", 4: "global", 5: "protected"}
+FIXUP_KINDS = {1: "section", 2: "import"}
 CLASSES = {0: "code", 1: "data", 2: "tvector", 3: "toc", 4: "glue"}
+
+
+class _Code(enum.IntEnum):
+    """A code of the format. It is an int, and prints as one in each version of Python."""
+
+    def __str__(self) -> str:
+        return str(int(self))
+
+    def __format__(self, form: str) -> str:
+        return format(int(self), form)
+
+
+class SectionKind(_Code):
+    """What a section holds.
+
+    >>> SectionKind(2), SectionKind.PATTERN == 2, str(SectionKind.PATTERN)
+    (<SectionKind.PATTERN: 2>, True, '2')
+    """
+
+    CODE = 0
+    DATA = 1
+    PATTERN = 2
+    CONST = 3
+    LOADER = 4
+    DEBUG = 5
+    EXEC = 6
+    EXCEPTION = 7
+    TRACEBACK = 8
+
+
+class Share(_Code):
+    """How instances of a section are shared."""
+
+    PROCESS = 1
+    GLOBAL = 4
+    PROTECTED = 5
+
+
+class SymbolClass(_Code):
+    """What a symbol names."""
+
+    CODE = 0
+    DATA = 1
+    TVECTOR = 2
+    TOC = 3
+    GLUE = 4
+
+
+def _code(kind: Type[_Code], number: int) -> int:
+    """The constant with this number, or the number if the format has none."""
+    try:
+        return kind(number)
+    except ValueError:
+        return number
+
 
 #: The parts that an error can be about, by the numbers of `struct pef_place`.
 PARTS = {
@@ -83,6 +149,7 @@ _NO_OFFSET = 2 ** (8 * ctypes.sizeof(ctypes.c_size_t)) - 1
 ABSOLUTE, REEXPORT = -2, -3
 
 Text = Union[str, bytes]
+_Contents = bytes
 
 
 class PefError(Exception):
@@ -94,6 +161,12 @@ class PefError(Exception):
     Where the error is: `part` is a word of PARTS, `row` the number of that part, `field` the offset of the field in it, and `offset`
     where that is in the container of the fragment that `names` has. In a script, `line` and `word` say which word of which line, `offset`
     where the word begins, and `earlier` the line that the error is also about. Each is None if the library says nothing.
+
+    >>> try:
+    ...     link("section d data process 4 4\\nbytes d 0000002A00\\n")
+    ... except PefError as error:
+    ...     print(error.number, error.name, error.names)
+    47 OutsideSection {'line': 2}
     """
 
     def __init__(self, number: int, names: Optional[Dict[str, Union[int, str]]] = None, place: Optional["_Place"] = None, earlier: int = 0):
@@ -114,6 +187,15 @@ class PefError(Exception):
             self.line, self.word = self.row, self.field
         super().__init__(" ".join([str(number), self.name, *(f"{word} {value}" for word, value in self.names.items()), *self._where()]))
 
+    @property
+    def help(self) -> Optional[str]:
+        """What the number means, and what to do, in a sentence or two; None if nothing has the number."""
+        return help_of(self.number)
+
+    def __reduce__(self) -> Tuple[Any, ...]:
+        """How it is copied and pickled: by its attributes, which __init__ doesn't take."""
+        return _copied, (type(self), self.args), self.__dict__
+
     def _where(self) -> List[str]:
         """The words for the place."""
         said = []
@@ -122,6 +204,10 @@ class PefError(Exception):
         elif self.part is not None:
             said.append(f"in {self.part}" + (f" {self.row}" if self.part in _NUMBERED else ""))
         return said + ([f"at 0x{self.offset:X}"] if self.offset is not None else [])
+
+
+def _copied(kind: Type[PefError], words: Tuple[Any, ...]) -> PefError:
+    return kind.__new__(kind, *words)
 
 
 # --- what C has ---
@@ -181,12 +267,20 @@ class _Relocation(ctypes.Structure):
     _fields_ = [("instructions", _Bytes), *_fields(uint32="section")]
 
 
+class _Fixup(ctypes.Structure):
+    _fields_ = _fields(uint64="offset number", uint32="kind")
+
+
 class _Export(ctypes.Structure):
     _fields_ = [("name", _Bytes), *_fields(int32="section", uint32="value", uint8="symbol_class")]
 
 
 class _Context(ctypes.Structure):
     _fields_ = _fields(void_p="handle", bool="is_open")
+
+
+class _Options(ctypes.Structure):
+    _fields_ = _fields(uint32="size limit granule connections", uint64="steps bytes")
 
 
 class _Names(ctypes.Structure):
@@ -213,7 +307,7 @@ def _no_bytes() -> _Bytes:
     return _Bytes(ctypes.addressof(_NOWHERE), 0)
 
 
-def _room(length: int):
+def _room(length: int) -> ctypes.Array[ctypes.c_uint8]:
     return (ctypes.c_uint8 * max(1, length))()
 
 
@@ -221,13 +315,13 @@ def _raw(text: Text) -> bytes:
     return text if isinstance(text, bytes) else text.encode(ENCODING)
 
 
-_IN = [ctypes.c_char_p, ctypes.c_size_t]
-_ROOM = [ctypes.c_void_p, ctypes.c_size_t]
-_SIZE = [ctypes.POINTER(ctypes.c_size_t)]
-_PLACES = [ctypes.POINTER(ctypes.c_size_t), ctypes.c_size_t]
-_IN_CONTEXT = [ctypes.POINTER(_Context)]
-_OF_FRAGMENT = _IN_CONTEXT + [ctypes.c_uint32, ctypes.c_size_t]
-_CALLS = {
+_IN: List[Any] = [ctypes.c_char_p, ctypes.c_size_t]
+_ROOM: List[Any] = [ctypes.c_void_p, ctypes.c_size_t]
+_SIZE: List[Any] = [ctypes.POINTER(ctypes.c_size_t)]
+_PLACES: List[Any] = [ctypes.POINTER(ctypes.c_size_t), ctypes.c_size_t]
+_IN_CONTEXT: List[Any] = [ctypes.POINTER(_Context)]
+_OF_FRAGMENT: List[Any] = _IN_CONTEXT + [ctypes.c_uint32, ctypes.c_size_t]
+_CALLS: Dict[str, List[Any]] = {
     "pef_link": _IN + _ROOM + _SIZE * 2,
     "pef_list": _IN + _ROOM + _SIZE,
     "pef_list_part": _IN + [ctypes.c_size_t] + _ROOM + _SIZE,
@@ -243,9 +337,12 @@ _CALLS = {
     "pef_libraries": _IN + [ctypes.c_size_t, ctypes.POINTER(_Library), ctypes.c_size_t] + _SIZE,
     "pef_imports": _IN + [ctypes.c_size_t, ctypes.POINTER(_Import), ctypes.c_size_t] + _SIZE,
     "pef_relocations": _IN + [ctypes.c_size_t, ctypes.POINTER(_Relocation), ctypes.c_size_t] + _SIZE,
+    "pef_fixups": _IN + [ctypes.c_size_t] * 2 + [ctypes.POINTER(_Fixup), ctypes.c_size_t] + _SIZE,
     "pef_exports": _IN + [ctypes.c_size_t, ctypes.POINTER(_Export), ctypes.c_size_t] + _SIZE,
     "pef_export_named": _IN * 2 + _SIZE + [ctypes.POINTER(_Export)],
     "pef_open": _IN_CONTEXT + [ctypes.c_uint32],
+    "pef_open_with": _IN_CONTEXT + [ctypes.POINTER(_Options)],
+    "pef_version": [],
     "pef_free": _IN_CONTEXT,
     "pef_add": _IN_CONTEXT + _IN * 2,
     "pef_prepare": _IN_CONTEXT + _IN + [ctypes.POINTER(ctypes.c_uint32), ctypes.POINTER(_Names)],
@@ -270,9 +367,10 @@ _CALLS = {
 @functools.lru_cache(maxsize=None)
 def library() -> ctypes.CDLL:
     """The shared library, which is loaded by the first call of any kind. An OSError says where it was looked for."""
-    built = pathlib.Path(__file__).resolve().parent.parent / "out" / "libpef.so"
+    beside = pathlib.Path(__file__).resolve().with_name("libpef.so")
+    built = beside.parent.parent.parent / "out" / "libpef.so"
     named = os.environ.get("PEF_LIBRARY")
-    path = named or (str(built) if built.exists() else ctypes.util.find_library("pef"))
+    path = named or next((str(file) for file in (beside, built) if file.exists()), None) or ctypes.util.find_library("pef")
     if path is None:
         raise OSError(f"libpef isn't found: tools/build-library builds {built}, or PEF_LIBRARY names the file")
     loaded = ctypes.CDLL(path)
@@ -283,7 +381,7 @@ def library() -> ctypes.CDLL:
     return loaded
 
 
-def _check(answer: int, place: Optional[_Place] = None, earlier: int = 0, **names) -> None:
+def _check(answer: int, place: Optional[_Place] = None, earlier: int = 0, **names: Union[int, str]) -> None:
     if answer != OK:
         raise PefError(answer, {word: value for word, value in names.items() if value}, place, earlier)
 
@@ -307,7 +405,11 @@ def _script_place(text: bytes) -> Tuple[Optional[_Place], int]:
 
 
 def name_of(number: int) -> Optional[str]:
-    """The name of a number that a call gave, as "BadTag"; None if nothing has the number."""
+    """The name of a number that a call gave, as "BadTag"; None if nothing has the number.
+
+    >>> name_of(2)
+    'BadTag'
+    """
     name = _no_bytes()
     return name.text() if library().pef_name(number, ctypes.byref(name)) == OK else None
 
@@ -318,6 +420,12 @@ def help_of(number: int) -> Optional[str]:
     return text.text() if library().pef_help(number, ctypes.byref(text)) == OK else None
 
 
+def version() -> str:
+    """The version of the library that runs, as "0.1.0"."""
+    number = library().pef_version()
+    return f"{number >> 16}.{number >> 8 & 255}.{number & 255}"
+
+
 # --- linking ---
 
 
@@ -325,6 +433,9 @@ def link(script: Text) -> bytes:
     """The container of a script (docs/SCRIPTS.md). A refusal's `names` has the line.
 
     Raises PefError: 41 to 49, or 99.
+
+    >>> link("section d data process 4 4\\nbytes d 0000002A\\n")[:12]
+    b'Joy!peffpwpc'
     """
     text, length = _raw(script), 4096
     while True:
@@ -354,7 +465,11 @@ class Header:
 
 @dataclasses.dataclass(frozen=True)
 class Section:
-    """A section's header and raw bytes. `kind` and `share` are numbers, with names in KINDS and SHARES."""
+    """A section's header and raw bytes.
+
+    `kind` is a SectionKind and `share` a Share, or another number in a section that isn't instantiated. KINDS and SHARES have their
+    names.
+    """
 
     number: int
     name: Optional[str]
@@ -386,7 +501,7 @@ class Library:
 
 @dataclasses.dataclass(frozen=True)
 class Import:
-    """An imported symbol. `library` is the library's name; a weak symbol may be missing."""
+    """An imported symbol. `library` is the library's name; `symbol_class` is a SymbolClass; a weak symbol may be missing."""
 
     name: str
     library: str
@@ -403,10 +518,23 @@ class Relocation:
 
 
 @dataclasses.dataclass(frozen=True)
+class Fixup:
+    """An addition of a relocation program: the offset of a word in the section, and what is added to it.
+
+    `kind` is "section" or "import", and `number` says which.
+    """
+
+    offset: int
+    kind: str
+    number: int
+
+
+@dataclasses.dataclass(frozen=True)
 class Export:
     """An exported symbol.
 
-    `value` is an offset in the section, a number if `section` is ABSOLUTE, or the number of an import if it is REEXPORT.
+    `value` is an offset in the section, a number if `section` is ABSOLUTE, or the number of an import if it is REEXPORT. `symbol_class`
+    is a SymbolClass.
     """
 
     name: str
@@ -424,11 +552,18 @@ class Entry:
 
 
 def _export(row: _Export) -> Export:
-    return Export(row.name.text(), row.section, row.value, row.symbol_class)
+    return Export(row.name.text(), row.section, row.value, _code(SymbolClass, row.symbol_class))
 
 
 class Container:
-    """A container, read from its bytes. Making one raises PefError if the bytes are refused (1 to 20)."""
+    """A container, read from its bytes. Making one raises PefError if the bytes are refused (1 to 20).
+
+    >>> container = Container(link("section d data process 4 4\\nbytes d 0000002A\\nmain d 0\\n"))
+    >>> container
+    <pef.Container: 2 sections, 0 libraries, 0 imports, 0 exports>
+    >>> container.sections[0].kind, container.expand(container.sections[0]), container.entries
+    (<SectionKind.DATA: 1>, b'\\x00\\x00\\x00*', {'main': Entry(section=0, offset=0)})
+    """
 
     def __init__(self, contents: bytes):
         self.contents = bytes(contents)
@@ -446,6 +581,16 @@ class Container:
         )
         self._loader = _Loader()
         self._read(library().pef_loader(*self._bytes, ctypes.byref(self._loader)))
+
+    @classmethod
+    def from_file(cls, path: Union[str, os.PathLike[str]]) -> Container:
+        """The container in a file. Raises PefError as Container does, and OSError."""
+        return cls(pathlib.Path(path).read_bytes())
+
+    def __repr__(self) -> str:
+        loader = self._loader
+        rows = f"{loader.library_count} libraries, {loader.import_count} imports, {loader.export_count} exports"
+        return f"<pef.Container: {self.header.section_count} sections, {rows}>"
 
     def _read(self, answer: int) -> None:
         if answer != OK:
@@ -465,8 +610,8 @@ class Container:
         return Section(
             number,
             name.text() if answer == OK else None,
-            row.kind,
-            row.share,
+            _code(SectionKind, row.kind),
+            _code(Share, row.share),
             row.alignment,
             row.default_address,
             row.total_size,
@@ -487,7 +632,7 @@ class Container:
         _check(library().pef_expand(section.raw, len(section.raw), room, section.unpacked_size))
         return ctypes.string_at(room, section.unpacked_size)
 
-    def _rows(self, call: str, row, count: int, slice_name: str = "name") -> list:
+    def _rows(self, call: str, row: Any, count: int, slice_name: str = "name") -> List[Any]:
         rows, found = (row * max(1, count))(), ctypes.c_size_t()
         for it in rows:
             setattr(it, slice_name, _no_bytes())
@@ -504,13 +649,29 @@ class Container:
     def imports(self) -> List[Import]:
         """The imported symbols, by their numbers."""
         rows = self._rows("pef_imports", _Import, self._loader.import_count)
-        return [Import(it.name.text(), self.libraries[it.library].name, it.symbol_class, it.weak) for it in rows]
+        return [Import(it.name.text(), self.libraries[it.library].name, _code(SymbolClass, it.symbol_class), it.weak) for it in rows]
 
     @functools.cached_property
     def relocations(self) -> List[Relocation]:
         """The relocation headers, with their instructions (docs/FORMATS.md)."""
         rows = self._rows("pef_relocations", _Relocation, self._loader.relocation_count, "instructions")
         return [Relocation(it.section, it.instructions.value()) for it in rows]
+
+    def fixups(self, header: int) -> Iterator[Fixup]:
+        """The additions of the program that has this place in `relocations`, in the order in which it makes them.
+
+        Words, sections and imports needn't exist. Raises PefError: 31 to 36, for a damaged program, or 201 past the last header.
+        """
+        start, room = 0, 1024
+        while True:
+            rows, count = (_Fixup * room)(), ctypes.c_size_t()
+            self._read(library().pef_fixups(*self._bytes, header, start, rows, room, ctypes.byref(count)))
+            for it in rows[: count.value]:
+                yield Fixup(it.offset, FIXUP_KINDS[it.kind], it.number)
+            if count.value < room:
+                return
+            start += room
+            room = min(2 * room, 1 << 20)
 
     @functools.cached_property
     def exports(self) -> List[Export]:
@@ -557,7 +718,7 @@ class Container:
 
 @dataclasses.dataclass(frozen=True)
 class PlacedSection:
-    """A section in memory: where it is, and its bytes right after relocation."""
+    """A section in memory: where it is, and its bytes right after relocation. `kind` is a SectionKind and `share` a Share."""
 
     number: int
     address: int
@@ -585,14 +746,6 @@ class ImportTarget:
     offset: Optional[int] = None
 
 
-#: The names and containers that a context was given: the library keeps them until the program ends.
-_KEPT: Dict[bytes, bytes] = {}
-
-
-def _keep(contents: bytes) -> bytes:
-    return _KEPT.setdefault(contents, contents)
-
-
 class Fragment:
     """A fragment of a connection's closure. What is read of it after the connection is closed raises PefError."""
 
@@ -600,6 +753,12 @@ class Fragment:
         self.connection = connection
         #: The number of the fragment in its context, counted from 0 in the order in which fragments were added.
         self.number = number
+
+    def __repr__(self) -> str:
+        try:
+            return f"<pef.Fragment {self.number}: {self.name!r}>"
+        except PefError:  # its context is freed
+            return f"<pef.Fragment {self.number}>"
 
     @property
     def name(self) -> str:
@@ -620,7 +779,8 @@ class Fragment:
         self._call("pef_fragment_section", number, ctypes.byref(row))
         room = _room(row.size)
         self.connection.context._call("pef_fragment_bytes", self.number, number, room, row.size, ctypes.byref(written))
-        return PlacedSection(number, row.address, row.kind, row.share, ctypes.string_at(room, written.value))
+        kind, share = _code(SectionKind, row.kind), _code(Share, row.share)
+        return PlacedSection(number, row.address, kind, share, ctypes.string_at(room, written.value))
 
     @property
     def entries(self) -> Dict[str, int]:
@@ -649,7 +809,7 @@ class Fragment:
             return ImportTarget(kind, row.address)
         return ImportTarget(kind, row.address, Fragment(self.connection, row.fragment), row.section, row.offset)
 
-    def _finds(self, name: str, *words) -> bool:
+    def _finds(self, name: str, *words: Any) -> bool:
         """Makes a call, and says whether there is such a thing."""
         try:
             self._call(name, *words)
@@ -659,7 +819,7 @@ class Fragment:
             return False
         return True
 
-    def _call(self, name: str, *words) -> None:
+    def _call(self, name: str, *words: Any) -> None:
         self.connection.context._call(name, self.connection.number, self.number, *words)
 
 
@@ -669,6 +829,12 @@ class Connection:
     def __init__(self, context: "Context", number: int):
         self.context = context
         self.number = number
+
+    def __repr__(self) -> str:
+        try:
+            return f"<pef.Connection {self.number}: {', '.join(it.name for it in self.fragments)}>"
+        except PefError:
+            return f"<pef.Connection {self.number}: closed>"
 
     @property
     def fragments(self) -> List[Fragment]:
@@ -713,32 +879,70 @@ class Connection:
     def __enter__(self) -> "Connection":
         return self
 
-    def __exit__(self, *_) -> None:
+    def __exit__(self, *_: object) -> None:
         self.close()
 
 
 class Context:
     """Fragments by name, and the memory in which they are prepared (docs/EMBEDDING.md).
 
-    No section passes `limit`. The context is freed at the end of a `with`, or by free(). It is used by one thread at a time.
+    No section passes `limit`. The other options are those of docs/RULES.md: each section takes a multiple of `granule` at a
+    multiple of it, `connections` are given in all, and one preparation takes at most so many `steps` and `bytes`. What is
+    None has its usual value. The context is freed at the end of a `with`, or by free(). It is used by one thread at a time.
+
+    Raises PefError: 205 if `granule` isn't a power of two from 16 on, or 99. ValueError if an option is 0 or has too many bits.
+
+    >>> with Context() as context:
+    ...     context.add("Tools", link("section d data process 4 4\\nbytes d 0000002A\\nexport answer data d 0\\n"))
+    ...     connection = context.prepare("Tools")
+    ...     connection, connection.root, hex(connection.root.symbol("answer"))
+    (<pef.Connection 0: Tools>, <pef.Fragment 0: 'Tools'>, '0x10000')
     """
 
-    def __init__(self, limit: int = 0x10000000):
+    def __init__(
+        self,
+        limit: int = 0x10000000,
+        granule: Optional[int] = None,
+        connections: Optional[int] = None,
+        steps: Optional[int] = None,
+        bytes: Optional[int] = None,  # pylint: disable=redefined-builtin
+    ):
         self._context = _Context()
-        self._call("pef_open", limit)
+        #: The names and containers that were added: the library reads them until the context is freed.
+        self._kept: List[_Contents] = []
+        if (granule, connections, steps, bytes) == (None, None, None, None):
+            self._call("pef_open", limit)
+            return
+        options = _Options(ctypes.sizeof(_Options))
+        for name, bits, value in [
+            ("limit", 32, limit),
+            ("granule", 32, granule),
+            ("connections", 32, connections),
+            ("steps", 64, steps),
+            ("bytes", 64, bytes),
+        ]:
+            if value is not None:
+                if not 0 < value < 2**bits:
+                    raise ValueError(f"{name} is a number of {bits} bits, and not 0")
+                setattr(options, name, value)
+        self._call("pef_open_with", ctypes.byref(options))
 
-    def _call(self, name: str, *words) -> None:
+    def __repr__(self) -> str:
+        return f"<pef.Context: {'open' if self._context.is_open else 'freed'}>"
+
+    def _call(self, name: str, *words: Any) -> None:
         _check(getattr(library(), name)(ctypes.byref(self._context), *words))
 
     def add(self, name: Text, contents: bytes) -> None:
         """Adds a fragment. Its container is read when it is prepared, and refused then.
 
-        Fragments may be added at any time. The name and the container stay in memory until the program ends. Raises
+        Fragments may be added at any time. The name and the container stay in memory until the context is freed. Raises
         PefError: 203 if a fragment of an open connection has a weak library of this name and was prepared without it, 204
         for the 257th fragment, or 99.
         """
-        raw, kept = _keep(_raw(name)), _keep(bytes(contents))
+        raw, kept = _raw(name), bytes(contents)
         self._call("pef_add", raw, len(raw), kept, len(kept))
+        self._kept += [raw, kept]
 
     def reserve(self, address: int, size: int) -> None:
         """Takes addresses out of use: no section is placed in them.
@@ -754,7 +958,7 @@ class Context:
     def prepare(self, name: Text) -> Connection:
         """Opens a connection: places, fills and relocates what isn't present of a fragment and all that it needs.
 
-        Raises PefError: 1 to 39, 60 to 69, or 99. `names` has the fragment, library and symbol that a refusal is about.
+        Raises PefError: 1 to 39, 60 to 70, 75, or 99. `names` has the fragment, library and symbol that a refusal is about.
         """
         raw, number = _raw(name), ctypes.c_uint32()
         names, place = _Names(_no_bytes(), _no_bytes(), _no_bytes()), _Place()
@@ -769,13 +973,19 @@ class Context:
     def free(self) -> None:
         """Frees the context. What is called later raises PefError: 202."""
         library().pef_free(ctypes.byref(self._context))
+        self._kept.clear()
 
     def __enter__(self) -> "Context":
         return self
 
-    def __exit__(self, *_) -> None:
+    def __exit__(self, *_: object) -> None:
         self.free()
 
     def __del__(self) -> None:
         if self._context.is_open:
             self.free()
+
+
+from .mac import Damage, FileKind, Finder, FoundContainer, Locator, MacFile, Member, Resource, Usage, resource_files  # noqa: E402
+
+__all__ += ["Damage", "FileKind", "Finder", "FoundContainer", "Locator", "MacFile", "Member", "Resource", "Usage", "resource_files"]
