@@ -86,7 +86,10 @@ fn is_found(
     want: Result<(usize, usize), FragmentFault>,
 ) -> bool {
     match (found, want) {
-        (Ok(bytes), Ok((at, len))) => file.get(at..at + len) == Some(bytes),
+        (Ok(bytes), Ok((at, len))) => match file.get(at..) {
+            Some(rest) => rest.get(..len) == Some(bytes),
+            None => false,
+        },
         (Err(fault), Err(other)) => fault == other,
         _ => false,
     }
