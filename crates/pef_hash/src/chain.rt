@@ -1,7 +1,7 @@
-ghost use Rattle.std.specs.Prelude.{◌≡◌, ℕ, ◌+◌, ◌<◌, ◌≤◌, IsTrue, Some};
+ghost use Rattle.std.specs.Prelude.{◌≡◌, ℕ, ◌+◌, ◌<◌, ◌≤◌, IsTrue, Some, length};
 ghost use Rattle.pef_hash.specs.Exports.{name_of, slot_count, slot_first};
 ghost use Rattle.pef_hash.specs.Limits.{most_power};
-ghost use Rattle.pef_hash.specs.Regular.{IsRegular, IsSearchable};
+ghost use Rattle.pef_hash.specs.Regular.{IsRegular, IsSearchable, names_length};
 ghost use Rattle.pef_hash.specs.Kept.Searches.{AreSlotsInTurn, IsHashed, LeadsToAll};
 
 use crate::exports::Exports;
@@ -30,6 +30,7 @@ impl<'a> Exports<'a> {
         ensures found { IsSearchable (table_of self.now) → IsTrue result }
         ensures small { IsTrue result → self.now.power ≤ most_power }
         ensures leads { IsTrue result → LeadsToAll (table_of self.now) }
+        ensures searchable { IsTrue result → IsSearchable (table_of self.now) }
     {
         self.count > 0 && self.has_slots_in_turn() && self.has_hashed_keys()
     }
@@ -61,6 +62,7 @@ impl<'a> Exports<'a> {
         requires { self.now.power ≤ most_power }
         ensures hashed { IsTrue result → ((i : ℕ) → i < self.now.count → IsHashed (table_of self.now) i) }
         ensures found { IsSearchable (table_of self.now) → IsTrue result }
+        ensures within { IsTrue result → names_length (table_of self.now) self.now.count ≤ length self.now.strings.now }
     {
         let mut left = self.strings.len();
         for i in 0..self.count as usize {

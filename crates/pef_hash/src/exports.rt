@@ -103,6 +103,7 @@ impl<'a> Exports<'a> {
     pub fn is_searched(&self) -> bool
         ensures regular { IsTrue result → IsRegular (table_of self.now) }
         ensures found { IsSearchable (table_of self.now) → IsTrue result }
+        ensures searchable { IsTrue result → IsSearchable (table_of self.now) }
     {
         self.is_regular()
     }

@@ -25,3 +25,14 @@ returns-else-has_slots_in_turn-clause-found c = λ sought.
       | then-self-gt0 w ↦ (let turn = w.has_slots_in_turn.ensures.found sought in let no = sym w.value-is ∙ c.if-has_slots_in_turn.false in absurd (cc))
       | else-self-gt0 w ↦ absurd (let some = sought.some in let none = w.if-self-gt0 in omega arith)
     ]
+
+pub returns-then-has_slots_in_turn-clause-searchable : goal.returns-then-has_slots_in_turn-clause-searchable
+returns-then-has_slots_in_turn-clause-searchable c = λ all.
+    elim c.if-self-gt0.branch [
+      | then-self-gt0 w ↦ record {
+        some = (let some = w.if-self-gt0 in omega arith);
+        regular = turn_regular (table_of c.args.self.now) (w.has_slots_in_turn.ensures.turn (sym w.value-is ∙ c.if-has_slots_in_turn.true)) (c.has_hashed_keys.ensures.hashed all);
+        within = c.has_hashed_keys.ensures.within all;
+      }
+      | else-self-gt0 w ↦ absurd (let some = ltb-true 0 c.args.self.now.count (sym w.value-is ∙ c.if-has_slots_in_turn.true) in let none = w.if-self-gt0 in omega arith)
+    ]
