@@ -1,12 +1,13 @@
 -- Exported symbols (Mac OS Runtime Architectures, "PEF Structure", "Exported Symbol Table";
 -- PEFExportedSymbol of PEFBinaryFormat.h).
-use Rattle.std.specs.Prelude.{ℕ, ℤ, true, ◌||◌, ◌&&◌, Bool, not, List, [], ◌∷◌, Option, Some, drop, length, nat_lt}
+use Rattle.std.specs.Prelude.{ℕ, ℤ, ◌<◌, true, ◌||◌, ◌&&◌, Bool, IsTrue, not, List, [], ◌∷◌, Option, Some, drop, length, nat_lt}
 use Rattle.std.specs.Option.{is_none, option_map_or}
 use Rattle.pef_words.specs.Refusals.{◌>>=◌, first_met}
 use Rattle.pef_format.specs.declared.export.ExportValue.{ExportValue}
 use Rattle.pef_format.specs.declared.export.ExportValue.TheVariants.{Absolute, InSection, Reexport}
 use Rattle.pef_format.specs.Exports.{Export, is_export_section, value_of}
 use Rattle.pef_hash.specs.Exports.{ExportTable, entry_of, has_table, name_of}
+use Rattle.pef_hash.specs.Regular.{IsSearchable}
 use Rattle.pef_hash.specs.declared.exports.Entry.{Entry}
 use Rattle.pef_loader.specs.declared.header.LoaderHeader.{LoaderHeader}
 use Rattle.pef_loader.specs.declared.fault.LoaderFault.{LoaderFault}
@@ -25,6 +26,12 @@ export_table bytes h = record {
   bytes = drop h.export_hash_offset bytes;
   strings = drop h.strings_offset bytes;
 }
+
+-- there are exports, and their table isn't one that is searched by its slots
+pub record HasIrregular (bytes : List ℕ) (h : LoaderHeader) : Type 0 where
+  pub whole : IsTrue (has_exports bytes h)
+  pub some : 0 < h.export_count
+  pub irregular : IsSearchable (export_table bytes h) → ⊥
 
 -- an export's value exists: it is in an instantiated section, it is absolute, or it is that of one of the imports
 abbrev pub is_there : LoaderHeader → ℕ → ExportValue → Bool

@@ -1,10 +1,9 @@
 ghost use Rattle.std.specs.Prelude.{◌≡◌, ◌<◌, ◌^◌, Some, IfOk, IsTrue, nat_le, option_map, length};
 ghost use Rattle.std.specs.Option.{ForSome, is_some};
 ghost use Rattle.pef_words.specs.Refusals.{result_map};
-ghost use Rattle.pef_hash.specs.Regular.{IsSearchable};
 ghost use Rattle.pef_hash.specs.Views.{table_of};
 ghost use Rattle.pef_views.specs.PartialViews.{partly};
-ghost use Rattle.pef_loader.specs.Export.{export_table, has_exports};
+ghost use Rattle.pef_loader.specs.Export.{HasIrregular, export_table, has_exports};
 ghost use Rattle.pef_loader.specs.Faults.{fault_place};
 ghost use Rattle.pef_loader.specs.Header.{header_of, imports_from, library_place, relocs_from, tables_end};
 ghost use Rattle.pef_loader.specs.Import.{owner_of};
@@ -342,7 +341,8 @@ impl<'a> PartialLoader<'a> {
     /// Returns whether there are exports, and the hash table isn't searched for their names: it doesn't lead to each of them, or
     /// their names are together longer than all strings.
     pub fn is_irregular(&self) -> bool
-        ensures { IsTrue result → IsSearchable (export_table (partly_loaded self.now).bytes (partly_loaded self.now).header) → ⊥ }
+        ensures irregular { IsTrue result → HasIrregular (partly_loaded self.now).bytes (partly_loaded self.now).header }
+        ensures found { HasIrregular (partly_loaded self.now).bytes (partly_loaded self.now).header → IsTrue result }
     {
         match self.exports {
             Some(exports) => self.tables.header.export_count > 0 && !exports.is_searched(),
