@@ -1,5 +1,5 @@
 -- What is odd about a container and breaks no rule. Which oddities are noted is this project's own choice.
-use Rattle.std.specs.Prelude.{◌≡◌, ℕ, ℤ, pos, negsuc, ◌+◌, ◌==◌, ◌&&◌, not, min, Bool, true, false, IsTrue, List, [], ◌∷◌, ◌++◌, Option, None, Some, Result, Ok, Err, nat_le, nat_lt, if◌then◌else◌}
+use Rattle.std.specs.Prelude.{◌≡◌, ◌↔◌, ℕ, ℤ, pos, negsuc, ◌+◌, ◌==◌, ◌&&◌, not, min, Bool, true, false, IsTrue, List, [], ◌∷◌, ◌++◌, Option, None, Some, Result, Ok, Err, nat_le, nat_lt, if◌then◌else◌}
 use Rattle.std.specs.Option.{option_and_then, option_map, option_map_or, option_to_list}
 use Rattle.pef_words.specs.Findings.{all_among, all_met}
 use Rattle.pef_format.specs.Exports.{value_of}
@@ -16,6 +16,7 @@ use Rattle.pef_views.specs.Container.{Contained, is_instantiated}
 use Rattle.pef_views.specs.Partial as views
 use Rattle.pef_views.specs.declared.fault.ViewFault.{ViewFault}
 use Rattle.pef_views.specs.declared.section.SectionHeader.{SectionHeader}
+use Rattle.pef_loader.specs.Export.{HasIrregular}
 use Rattle.pef_loader.specs.Header.{imports_from, library_place, relocs_from}
 use Rattle.pef_loader.specs.Loader.{Loaded}
 use Rattle.pef_loader.specs.Partial as loader
@@ -156,6 +157,28 @@ notes_in c irregular = all_met (header_notes c)
 abbrev pub opened_notes : Result Contained ViewFault → Bool → List Finding
 opened_notes (Ok c) irregular = notes_in c irregular
 opened_notes (Err f) irregular = []
+
+-- there are exports, and their table isn't one that is searched by its slots
+abbrev pub IrregularLoader : Result Loaded LoaderFault → Type 0
+IrregularLoader (Ok l) = HasIrregular l.bytes l.header
+IrregularLoader (Err f) = ⊥
+
+abbrev pub IrregularContainer : Contained → Type 0
+IrregularContainer c = IrregularLoader (loader.partial_of c.header.instantiated_section_count c.loader)
+
+abbrev pub IrregularOpened : Result Contained ViewFault → Type 0
+IrregularOpened (Ok c) = IrregularContainer c
+IrregularOpened (Err f) = ⊥
+
+-- some bytes are a container with such exports
+unfoldable pub HasIrregularExports : List ℕ → Type 0
+HasIrregularExports bytes = IrregularOpened (views.partial_of bytes)
+
+-- the notes that follow others, by whether something holds
+pub record Adds (before after : List Finding) (notes : Bool → List Finding) (holds : Type 0) : Type 0 where
+  pub answer : Bool
+  pub exact : IsTrue answer ↔ holds
+  pub taken : after ≡ before ++ notes answer
 
 -- the notes on some bytes as a container, except those that need memory
 unfoldable pub notes_of : List ℕ → Bool → List Finding

@@ -1,8 +1,8 @@
-ghost use Rattle.std.specs.Prelude.{◌≡◌, ◌++◌, Bool, OnOk, Some};
+ghost use Rattle.std.specs.Prelude.{◌≡◌, ◌++◌, OnOk, Some};
 ghost use Rattle.std.specs.Option.{option_to_list};
 ghost use Rattle.pef_views.specs.PartialViews.{partly};
 ghost use Rattle.pef_loader.specs.PartialViews.{partly_loaded};
-ghost use Rattle.pef_inspect.specs.Oddities.{behind_notes, entry_notes, header_notes, image_size, irregular_note, is_past, is_past_entry, is_past_value, is_unknown_kind, is_unknown_share, loader_notes, note_at, notes_in, notes_of, section_notes, word_inside, word_note, word_outside};
+ghost use Rattle.pef_inspect.specs.Oddities.{Adds, HasIrregularExports, IrregularContainer, behind_notes, entry_notes, header_notes, image_size, irregular_note, is_past, is_past_entry, is_past_value, is_unknown_kind, is_unknown_share, loader_notes, note_at, notes_in, notes_of, section_notes, word_inside, word_note, word_outside};
 ghost use Rattle.pef_inspect.specs.Runs.{run_seen};
 ghost use Rattle.pef_loader.specs.Partial.{partial_of};
 
@@ -26,9 +26,9 @@ use pef_views::{PartialContainer, SectionHeader};
 /// # Errors
 ///
 /// Only those of the sink.
-#[tactic(auto, unfolding(crate::specs::Oddities::notes_of))]
+#[tactic(auto, unfolding(crate::specs::Oddities::notes_of, crate::specs::Oddities::HasIrregularExports))]
 pub fn find_notes<S: Findings>(bytes: &[u8], sink: &mut S) -> Result<(), S::Error>
-    ensures { OnOk result ((irregular : Bool) × (S.taken sink.new ≡ S.taken sink.old ++ notes_of bytes.now irregular)) }
+    ensures { OnOk result (Adds (S.taken sink.old) (S.taken sink.new) (notes_of bytes.now) (HasIrregularExports bytes.now)) }
 {
     match PartialContainer::read(bytes) {
         Ok(container) => find_in_container(&container, sink),
@@ -41,7 +41,7 @@ fn find_in_container<S: Findings>(
     container: &PartialContainer<'_>,
     sink: &mut S,
 ) -> Result<(), S::Error>
-    ensures { OnOk result ((irregular : Bool) × (S.taken sink.new ≡ S.taken sink.old ++ notes_in (partly container.now) irregular)) }
+    ensures { OnOk result (Adds (S.taken sink.old) (S.taken sink.new) (notes_in (partly container.now)) (IrregularContainer (partly container.now))) }
 {
     take_met(&header_notes(container), sink)?;
     let count = u32::from(container.header().section_count);
@@ -52,7 +52,7 @@ fn find_in_container<S: Findings>(
 
 /// Hands the notes on the loader section to a sink.
 fn find_behind<S: Findings>(container: &PartialContainer<'_>, sink: &mut S) -> Result<(), S::Error>
-    ensures { OnOk result ((irregular : Bool) × (S.taken sink.new ≡ S.taken sink.old ++ behind_notes (partly container.now) (partial_of (partly container.now).header.instantiated_section_count (partly container.now).loader) irregular)) }
+    ensures { OnOk result (Adds (S.taken sink.old) (S.taken sink.new) (behind_notes (partly container.now) (partial_of (partly container.now).header.instantiated_section_count (partly container.now).loader)) (IrregularContainer (partly container.now))) }
 {
     match PartialLoader::read(container) {
         Ok(loader) => {
