@@ -1,17 +1,16 @@
 -- The first of all faults of a loader section is the one that is reported alone.
-use Rattle.std.proofs.Common.{◌≡◌, ◌∙◌, ℕ, ◌+◌, ◌*◌, ◌^◌, ◌<◌, ◌≤◌, Bool, true, false, not, cond, List, [], ◌∷◌, ◌++◌, drop, Option, None, Some, refl, sym, ap, inl, inr, arith, length}
-use Rattle.std.specs.Prelude.{Result, Ok, Err, nat_lt, nat_le, ◌==◌, ◌||◌, ◌&&◌}
-use Rattle.std.specs.Option.{is_some, option_or, option_map_or}
+use Rattle.std.proofs.Common.{◌≡◌, ◌∙◌, ℕ, ◌+◌, ◌*◌, ◌^◌, ◌<◌, ◌≤◌, Bool, true, false, not, cond, List, [], ◌∷◌, ◌++◌, drop, Option, None, Some, refl, sym, inl, inr, arith, length}
+use Rattle.std.specs.Prelude.{Result, Ok, Err, nat_lt, nat_le, ◌&&◌}
+use Rattle.std.specs.Option.{is_some, option_map, option_or, option_map_or}
 use Rattle.std.specs.Result.{result_err}
 use Rattle.std.proofs.lemmas.Bool.Decides.{eqb_tells}
 use Rattle.std.proofs.lemmas.Bool.{ltb-false, le-leb, lt-ltb, leb-true}
-use Rattle.std.proofs.lemmas.List.{length-drop}
-use Rattle.pef_words.specs.Bytes.{number_at, signed_at}
-use Rattle.pef_words.specs.Findings.{all_among, all_met, first_fault, found_in}
-use Rattle.pef_words.specs.Refusals.{first_among, first_met, unless}
+use Rattle.pef_words.specs.Bytes.{number_at}
+use Rattle.pef_words.specs.Findings.{all_met, first_fault, found_in}
+use Rattle.pef_words.specs.Refusals.{◌>>=◌, first_among, first_met, unless}
 use Rattle.pef_words.proofs.Laws.Findings.{first_fault-append, first_fault-met, first_fault-among, result_err-unless}
 use Rattle.pef_words.proofs.Laws.Refusals.{neither}
-use Rattle.pef_hash.specs.Exports.{ExportTable, entry_at, entry_of, export_place, has_table, slot_place}
+use Rattle.pef_hash.specs.Exports.{entry_at, entry_of, export_place, has_table, slot_place}
 use Rattle.pef_hash.specs.Limits.{most_power}
 use Rattle.pef_hash.specs.declared.exports.Entry.{Entry}
 use Rattle.pef_loader.specs.declared.header.LoaderHeader.{LoaderHeader}
@@ -23,11 +22,10 @@ use Rattle.pef_loader.specs.declared.fault.LoaderFault.TheVariants.{LoaderShort,
 use Rattle.pef_loader.specs.Header.{header_of, import_place, imports_from, library_place, reloc_place, relocs_from, tables_end}
 use Rattle.pef_loader.specs.Library.{library_at, library_refusal, library_tests}
 use Rattle.pef_loader.specs.Import.{import_at, import_refusal, import_tests}
-use Rattle.pef_loader.specs.Reloc.{reloc_at, reloc_refusal, reloc_tests}
+use Rattle.pef_loader.specs.Reloc.{instructions_of, reloc_at, reloc_in, reloc_refusal, reloc_tests}
 use Rattle.pef_loader.specs.Export.{export_refusal, export_table, export_tests, has_exports}
-use Rattle.pef_loader.specs.Kept.Accepted.{IsAccepted}
-use Rattle.pef_loader.specs.Loader.{IsLoader, Loaded, entry_tests, fault_if, judged, loaded_of}
-use Rattle.pef_loader.specs.Partial.{export_findings, export_table_tests, exports_findings, findings_in, findings_of, if_whole, import_findings, imports_findings, libraries_findings, library_findings, partial_of, relocation_findings, relocations_findings, table_tests}
+use Rattle.pef_loader.specs.Loader.{IsLoader, Loaded, entry_tests, fault_if, judged, loaded_of, reloc_of}
+use Rattle.pef_loader.specs.Partial.{RelocationRow, export_findings, export_table_tests, exports_findings, findings_in, findings_of, if_whole, import_findings, imports_findings, libraries_findings, library_findings, partial_of, relocation_findings, relocation_row, relocations_findings, table_tests}
 use Rattle.pef_loader.proofs.Loaders.{accepted}
 
 -- what is there
@@ -229,3 +227,21 @@ unrefused_loader sections bytes l opens none = by (header_of bytes) opens none
     by : (h : Option LoaderHeader) → option_map_or (λ h. Ok (record { sections = sections; bytes = bytes; header = h })) h (Err LoaderShort) ≡ Ok l → result_err (option_map_or (judged sections bytes) h (Err LoaderShort)) ≡ None → option_map_or (judged sections bytes) h (Err LoaderShort) ≡ Ok l
     by None opens none = absurd (cc none)
     by (Some h) opens none = unrefused_judged (record { sections = sections; bytes = bytes; header = h }) none ∙ opens
+
+-- a relocation header is the same, whether it is read of a whole loader section or of one that may be damaged
+abbrev with_section : ℕ → List ℕ → ℕ × List ℕ
+with_section section program = (section, program)
+
+program_of : (section : ℕ) (o : Option (List ℕ)) → (o >>= (λ instructions. Some (with_section section instructions))) ≡ option_map (with_section section) o
+program_of section None = refl
+program_of section (Some bytes) = refl
+
+pub reloc_row : (l : Loaded) (k : ℕ) → reloc_of l k ≡ (relocation_row l k >>= (λ (r : RelocationRow). option_map (with_section r.section) r.program))
+unfolding reloc_of reloc_in
+reloc_row l k = by (nat_lt k l.header.reloc_count) (reloc_at l.bytes l.header k)
+  where
+    by : (b : Bool) (o : Option RelocEntry) → cond b (o >>= (λ e. instructions_of l.bytes l.header e >>= (λ instructions. Some (with_section e.section instructions)))) None
+        ≡ (cond b (option_map (λ (e : RelocEntry). record { section = e.section; count = e.count; first = e.first; program = instructions_of l.bytes l.header e }) o) None >>= (λ (r : RelocationRow). option_map (with_section r.section) r.program))
+    by false o = refl
+    by true None = refl
+    by true (Some e) = program_of e.section (instructions_of l.bytes l.header e)

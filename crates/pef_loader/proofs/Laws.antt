@@ -10,3 +10,5 @@ pub use Rattle.pef_loader.proofs.Loaders.{named_there}
 pub use Rattle.pef_loader.proofs.Loaders.{named_is}
 -- the first of all faults is the one that is reported alone, and what can be read of a loader section is the loader section
 pub use Rattle.pef_loader.proofs.FindingLemmas.{first_is_reported, unrefused_loader, whole_loader}
+-- a relocation header is the same, whether it is read of a whole loader section or of one that may be damaged
+pub use Rattle.pef_loader.proofs.FindingLemmas.{reloc_row}

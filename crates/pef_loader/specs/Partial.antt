@@ -5,7 +5,6 @@ use Rattle.pef_words.specs.Bytes.{name_at, number_at}
 use Rattle.pef_words.specs.Findings.{all_among, all_met, found_in}
 use Rattle.pef_words.specs.Refusals.{◌>>=◌}
 use Rattle.pef_hash.specs.Exports.{ExportTable, entry_of, name_of}
-use Rattle.pef_loader.specs.declared.header.LoaderHeader.{LoaderHeader}
 use Rattle.pef_loader.specs.declared.partial.LibraryVersions.{LibraryVersions}
 use Rattle.pef_loader.specs.declared.fault.LoaderFault.{LoaderFault}
 use Rattle.pef_loader.specs.declared.fault.LoaderFault.TheVariants.{LoaderShort, BadTableOffset, BadExportTable}
