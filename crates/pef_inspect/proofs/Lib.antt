@@ -1,3 +1,5 @@
+mod ExtentLemmas
+mod FirstLemmas
 mod Soundness
 mod Taking
 mod Within

@@ -1,10 +1,9 @@
 -- A container without errors is sound.
-use Rattle.std.proofs.Common.{◌≡◌, ◌∙◌, ℕ, zero, suc, ◌+◌, ◌-◌, ◌<◌, ◌≤◌, Bool, true, false, cond, List, [], ◌∷◌, ◌++◌, map, length, Option, None, Some, refl, sym, ap, subst, arith}
-use Rattle.std.specs.Prelude.{Result, Ok, Err, nat_lt, nat_le}
-use Rattle.std.specs.Option.{is_none, option_and_then, option_map, option_to_list}
-use Rattle.std.specs.Result.{result_err}
-use Rattle.std.proofs.lemmas.Bool.{ltb-false, le-leb, le-ltb, lt-ltb}
-use Rattle.pef_words.specs.Findings.{all_among, all_met, first_fault, found_in}
+use Rattle.std.proofs.Common.{◌≡◌, ◌∙◌, ℕ, ◌<◌, ◌≤◌, Bool, true, false, cond, List, [], ◌∷◌, map, length, Option, None, Some, refl, sym, arith}
+use Rattle.std.specs.Prelude.{Result, Ok, Err, nat_lt}
+use Rattle.std.specs.Option.{is_none, option_map, option_to_list}
+use Rattle.std.proofs.lemmas.Bool.{ltb-false, le-leb}
+use Rattle.pef_words.specs.Findings.{all_among, all_met, first_fault}
 use Rattle.pef_words.proofs.Laws.Findings.{none-among, none-append, none-map}
 use Rattle.pef_views.specs.Container.{Contained, container_of, loader_of}
 use Rattle.pef_views.specs.Partial as views
@@ -77,7 +76,7 @@ loader_is sections bytes l opens none =
     loader_laws.unrefused_loader sections bytes l opens (sym (loader_laws.first_is_reported sections bytes) ∙ first-none (loader.findings_of sections bytes) found)
 
 -- the tables after the loader header are there
-tables_whole : (l : Loaded) → loader.findings_in l ≡ [] → headers_of l ≡ l.header.reloc_count
+pub tables_whole : (l : Loaded) → loader.findings_in l ≡ [] → headers_of l ≡ l.header.reloc_count
 tables_whole l none =
     let short = none-met (nat_lt (length l.bytes) (tables_end l.header)) BadTableOffset (none-append (all_met (loader.table_tests l)) _ none).0 in
     rw (le-leb (tables_end l.header) (length l.bytes) (ltb-false (length l.bytes) (tables_end l.header) short)) refl
@@ -107,13 +106,18 @@ sound-tables : (bytes : List ℕ) (c : Contained) (r : Result Loaded LoaderFault
 sound-tables bytes c (Ok l) contained opens none = sound-loader bytes c l contained opens none
 sound-tables bytes c (Err fault) contained opens none = absurd (cc none)
 
+-- a container without errors has a loader section
+pub loader_there : (c : Contained) → views.findings_in c ≡ [] → is_none (loader_of c.bytes c.header) ≡ false
+loader_there c clean =
+    let rows = (none-append _ _ clean).1 in
+    none-met (is_none (loader_of c.bytes c.header)) NoLoader (none-append (all_among (views.section_findings c) 0 c.header.section_count) (all_met (views.loader_tests c)) rows).1
+
 -- a container with a header
 sound-container : (bytes : List ℕ) (c : Contained) → views.partial_of bytes ≡ Ok c → errors_in c ≡ [] → IsSound bytes
 sound-container bytes c opens none =
     let parts = none-append (map view_finding (views.findings_in c)) (behind_errors c) none in
     let clean = none-map view_finding (views.findings_in c) parts.0 in
-    let rows = (none-append _ _ clean).1 in
-    let there = none-met (is_none (loader_of c.bytes c.header)) NoLoader (none-append (all_among (views.section_findings c) 0 c.header.section_count) (all_met (views.loader_tests c)) rows).1 in
+    let there = loader_there c clean in
     sound-tables bytes c (loader.partial_of c.header.instantiated_section_count c.loader) (container_is bytes c opens clean) refl (rw there at parts.1)
 
 -- if no error is found, and nothing is left unverified, the container is sound

@@ -1,7 +1,13 @@
 pub mod Errors
+pub mod Extents
 pub mod Findings
+pub mod First
 pub mod Limits
+pub mod More
 pub mod Notes
 pub mod Runs
+pub mod Loads
 pub mod Oddities
+pub mod PartsSeen
 pub mod Sound
+pub mod Twice

@@ -17,6 +17,10 @@ most_steps = 67108864
 abbrev pub most_packed : ℕ
 most_packed = 268435456
 
+-- how many words may be compared, of all programs together, to find those that are relocated twice
+abbrev pub most_words : ℕ
+most_words = 1048576
+
 -- how many of the n parts from one on cost no more than what is left
 abbrev pub within : (ℕ → ℕ) → ℕ → ℕ → ℕ → ℕ
 within cost left from zero = 0

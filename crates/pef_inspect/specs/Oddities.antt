@@ -17,7 +17,7 @@ use Rattle.pef_views.specs.Partial as views
 use Rattle.pef_views.specs.declared.fault.ViewFault.{ViewFault}
 use Rattle.pef_views.specs.declared.section.SectionHeader.{SectionHeader}
 use Rattle.pef_loader.specs.Export.{HasIrregular}
-use Rattle.pef_loader.specs.Header.{imports_from, library_place, relocs_from}
+use Rattle.pef_loader.specs.Header.{library_place, relocs_from}
 use Rattle.pef_loader.specs.Loader.{Loaded}
 use Rattle.pef_loader.specs.Partial as loader
 use Rattle.pef_loader.specs.Partial.{ExportRow, exports_in, rows_in}

@@ -7,20 +7,23 @@ ghost use Rattle.pef_inspect.specs.declared.finding.Finding.{Finding};
 use crate::finding::Finding;
 use crate::sink::{Findings, take_some};
 
-/// Parts that are checked up to a limit of what that costs together.
-pub(crate) trait Checked {
+/// Parts that are looked at up to a limit of what that costs together.
+pub(crate) trait Costed {
     /// What each part costs.
     ghost cost: { Self → ℕ → ℕ };
 
+    /// Returns what part `i` costs.
+    fn cost(&self, i: u32) -> u64
+        ensures { result ≡ cost self.now i };
+}
+
+/// Parts that are checked.
+pub(crate) trait Checked: Costed {
     /// The error of each part.
     ghost error: { Self → ℕ → Option Finding };
 
     /// The note that the parts from one on weren't checked.
     ghost unchecked: { Self → ℕ → Finding };
-
-    /// Returns what part `i` costs.
-    fn cost(&self, i: u32) -> u64
-        ensures { result ≡ cost self.now i };
 
     /// Returns the error of part `i`.
     fn error(&self, i: u32) -> Option<Finding>
@@ -32,7 +35,7 @@ pub(crate) trait Checked {
 }
 
 /// Returns how many of the first `count` parts cost no more than `most` together.
-pub(crate) fn within<C: Checked>(parts: &C, most: u64, count: u32) -> u32
+pub(crate) fn within<C: Costed>(parts: &C, most: u64, count: u32) -> u32
     ensures value { result ≡ within (C.cost parts.now) most 0 count }
     ensures below { result ≤ count }
 {

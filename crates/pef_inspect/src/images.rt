@@ -3,7 +3,7 @@ ghost use Rattle.pef_views.specs.PartialViews.{partly};
 ghost use Rattle.pef_inspect.specs.Errors.{image_errors, packed_at};
 ghost use Rattle.pef_inspect.specs.Findings.{image_finding};
 
-use crate::checked::{Checked, check_within};
+use crate::checked::{Checked, Costed, check_within};
 use crate::finding::{Cause, Finding};
 use crate::note::Note;
 use crate::sink::Findings;
@@ -22,15 +22,11 @@ struct Images<'c, 'a> {
     container: &'c PartialContainer<'a>,
 }
 
-impl<'c, 'a> Checked for Images<'c, 'a> {
+impl<'c, 'a> Costed for Images<'c, 'a> {
     ghost use Rattle.pef_views.specs.PartialViews.{partly};
-    ghost use Rattle.pef_inspect.specs.Errors.{image_cost, image_error, images_unverified};
+    ghost use Rattle.pef_inspect.specs.Errors.{image_cost};
 
     ghost cost = { λ parts i. image_cost (partly parts.container.now) i };
-
-    ghost error = { λ parts i. image_error (partly parts.container.now) i };
-
-    ghost unchecked = { λ parts i. images_unverified (partly parts.container.now) i };
 
     fn cost(&self, i: u32) -> u64 {
         match packed_section(self.container, i) {
@@ -38,6 +34,15 @@ impl<'c, 'a> Checked for Images<'c, 'a> {
             None => 0,
         }
     }
+}
+
+impl<'c, 'a> Checked for Images<'c, 'a> {
+    ghost use Rattle.pef_views.specs.PartialViews.{partly};
+    ghost use Rattle.pef_inspect.specs.Errors.{image_error, images_unverified};
+
+    ghost error = { λ parts i. image_error (partly parts.container.now) i };
+
+    ghost unchecked = { λ parts i. images_unverified (partly parts.container.now) i };
 
     fn error(&self, i: u32) -> Option<Finding> {
         let section = packed_section(self.container, i)?;

@@ -7,6 +7,7 @@
 
 mod checked;
 mod errors;
+mod extents;
 mod finding;
 mod images;
 mod more;
@@ -19,6 +20,7 @@ mod runs;
 mod sink;
 mod tables;
 mod theorems;
+mod twice;
 
 pub use errors::find_errors;
 pub use finding::{Cause, Finding};
@@ -30,4 +32,5 @@ pub use parts::Parts;
 pub use programs::MAX_PROGRAM_BYTES;
 pub use runs::MAX_STEPS;
 pub use sink::Findings;
-pub use theorems::no_errors_are_sound;
+pub use theorems::{first_error_is_reported, no_errors_are_sound};
+pub use twice::MAX_WORDS;

@@ -22,7 +22,8 @@ pub enum Note {
     IrregularExports,
     /// `length` bytes follow the last part of the container.
     TrailingBytes { length: usize },
-    /// The programs from this one on ask for too many steps together, and weren't verified.
+    /// The programs from this one on ask for too many steps together, and weren't verified; or they relocate too many words
+    /// together, and weren't searched for words that are relocated twice.
     ProgramsUnverified,
     /// The packed data from this section on is too long together, and wasn't verified.
     ImagesUnverified,

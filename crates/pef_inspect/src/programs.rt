@@ -5,7 +5,7 @@ ghost use Rattle.pef_loader.specs.PartialViews.{partly_loaded};
 ghost use Rattle.pef_inspect.specs.Errors.{headers_of, program_at, program_errors, programs_reached, programs_unverified};
 ghost use Rattle.pef_inspect.specs.Findings.{program_finding};
 
-use crate::checked::{Checked, check_within, within};
+use crate::checked::{Checked, Costed, check_within, within};
 use crate::finding::{Cause, Finding};
 use crate::note::Note;
 use crate::sink::Findings;
@@ -24,16 +24,11 @@ struct Programs<'c, 'a> {
     loader: &'c PartialLoader<'a>,
 }
 
-impl<'c, 'a> Checked for Programs<'c, 'a> {
-    ghost use Rattle.pef_views.specs.PartialViews.{partly};
+impl<'c, 'a> Costed for Programs<'c, 'a> {
     ghost use Rattle.pef_loader.specs.PartialViews.{partly_loaded};
-    ghost use Rattle.pef_inspect.specs.Errors.{program_cost, program_error, programs_unverified};
+    ghost use Rattle.pef_inspect.specs.Errors.{program_cost};
 
     ghost cost = { λ parts k. program_cost (partly_loaded parts.loader.now) k };
-
-    ghost error = { λ parts k. program_error (partly parts.container.now) (partly_loaded parts.loader.now) k };
-
-    ghost unchecked = { λ parts k. programs_unverified (partly parts.container.now) k };
 
     fn cost(&self, i: u32) -> u64 {
         match program(self.loader, i) {
@@ -41,6 +36,16 @@ impl<'c, 'a> Checked for Programs<'c, 'a> {
             None => 0,
         }
     }
+}
+
+impl<'c, 'a> Checked for Programs<'c, 'a> {
+    ghost use Rattle.pef_views.specs.PartialViews.{partly};
+    ghost use Rattle.pef_loader.specs.PartialViews.{partly_loaded};
+    ghost use Rattle.pef_inspect.specs.Errors.{program_error, programs_unverified};
+
+    ghost error = { λ parts k. program_error (partly parts.container.now) (partly_loaded parts.loader.now) k };
+
+    ghost unchecked = { λ parts k. programs_unverified (partly parts.container.now) k };
 
     fn error(&self, i: u32) -> Option<Finding> {
         let bytes = program(self.loader, i)?;

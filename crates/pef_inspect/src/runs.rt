@@ -4,7 +4,7 @@ ghost use Rattle.pef_loader.specs.PartialViews.{partly_loaded};
 ghost use Rattle.pef_inspect.specs.Errors.{programs_reached, run_at, run_errors, sizes_at};
 ghost use Rattle.pef_inspect.specs.Oddities.{runs_reached};
 
-use crate::checked::{Checked, check_within, within};
+use crate::checked::{Checked, Costed, check_within, within};
 use crate::finding::Finding;
 use crate::programs::{program_finding, programs_unverified, programs_within};
 use crate::sink::Findings;
@@ -22,16 +22,12 @@ struct Runs<'c, 'a> {
     loader: &'c PartialLoader<'a>,
 }
 
-impl<'c, 'a> Checked for Runs<'c, 'a> {
+impl<'c, 'a> Costed for Runs<'c, 'a> {
     ghost use Rattle.pef_views.specs.PartialViews.{partly};
     ghost use Rattle.pef_loader.specs.PartialViews.{partly_loaded};
-    ghost use Rattle.pef_inspect.specs.Errors.{programs_unverified, run_cost, run_error};
+    ghost use Rattle.pef_inspect.specs.Errors.{run_cost};
 
     ghost cost = { λ parts k. run_cost (partly parts.container.now) (partly_loaded parts.loader.now) k };
-
-    ghost error = { λ parts k. run_error (partly parts.container.now) (partly_loaded parts.loader.now) k };
-
-    ghost unchecked = { λ parts k. programs_unverified (partly parts.container.now) k };
 
     fn cost(&self, i: u32) -> u64 {
         match Run::at(self.container, self.loader, i) {
@@ -39,6 +35,16 @@ impl<'c, 'a> Checked for Runs<'c, 'a> {
             None => 0,
         }
     }
+}
+
+impl<'c, 'a> Checked for Runs<'c, 'a> {
+    ghost use Rattle.pef_views.specs.PartialViews.{partly};
+    ghost use Rattle.pef_loader.specs.PartialViews.{partly_loaded};
+    ghost use Rattle.pef_inspect.specs.Errors.{programs_unverified, run_error};
+
+    ghost error = { λ parts k. run_error (partly parts.container.now) (partly_loaded parts.loader.now) k };
+
+    ghost unchecked = { λ parts k. programs_unverified (partly parts.container.now) k };
 
     fn error(&self, i: u32) -> Option<Finding> {
         let run = Run::at(self.container, self.loader, i)?;

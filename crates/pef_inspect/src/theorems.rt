@@ -1,4 +1,5 @@
 //! Laws of the errors of a container. The functions do nothing.
+ghost use Rattle.pef_inspect.specs.First.{FirstIsReported};
 ghost use Rattle.pef_inspect.specs.Sound.{FindsAll};
 
 /// A container in which no error is found, and nothing is left unverified, is sound: nothing of it is refused when it is read,
@@ -6,4 +7,11 @@ ghost use Rattle.pef_inspect.specs.Sound.{FindsAll};
 #[tactic(auto, using(crate::proofs::Soundness::no_errors_sound))]
 pub fn no_errors_are_sound()
     ensures { FindsAll }
+{}
+
+/// The first error is the one that reading the container, its loader section and its relocation programs in turn reports. If
+/// the programs before that error have too many bytes to be verified, the note that says so comes first.
+#[tactic(auto, using(crate::proofs::FirstLemmas::first_is_reported))]
+pub fn first_error_is_reported()
+    ensures { FirstIsReported }
 {}

@@ -4,4 +4,4 @@ use Rattle.pef_inspect.specs.Limits.{within}
 use Rattle.pef_inspect.proofs.checked.within.Given as goal
 
 abbrev pub invariant-loop-i : goal.invariant-loop-i
-invariant-loop-i g l = l.i + within (g.C.Checked.cost l.parts) l.left l.i (l.count - l.i) ≡ within (g.C.Checked.cost l.parts) l.most 0 l.count
+invariant-loop-i g l = l.i + within (g.C.Costed.cost l.parts) l.left l.i (l.count - l.i) ≡ within (g.C.Costed.cost l.parts) l.most 0 l.count

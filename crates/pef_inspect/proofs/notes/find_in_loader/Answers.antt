@@ -1,5 +1,5 @@
 -- The notes on the tables of a loader section, one after the other.
-use Rattle.std.proofs.Common.{◌≡◌, ◌∙◌, ◌++◌, ℕ, Bool, List, ap}
+use Rattle.std.proofs.Common.{◌≡◌, ◌∙◌, ◌++◌, Bool, List, ap}
 use Rattle.std.specs.Option.{option_to_list}
 use Rattle.pef_words.specs.Findings.{all_among, all_met}
 use Rattle.pef_views.specs.PartialViews.{partly}

@@ -5,7 +5,7 @@ use Rattle.pef_words.specs.Findings.{all_among}
 use Rattle.pef_views.specs.PartialViews.{partly}
 use Rattle.pef_loader.specs.declared.header.LoaderHeader.{LoaderHeader}
 use Rattle.pef_loader.specs.declared.partial.PartialLoader.{PartialLoader}
-use Rattle.pef_loader.specs.Header.{imports_from, relocs_from, tables_end}
+use Rattle.pef_loader.specs.Header.{relocs_from}
 use Rattle.pef_loader.specs.Partial.{import_findings}
 use Rattle.pef_loader.specs.PartialViews.{partly_loaded}
 use Rattle.pef_inspect.specs.Findings.{loader_finding}

@@ -4,7 +4,7 @@ use Rattle.std.specs.Prelude.{nat_le}
 use Rattle.pef_words.specs.Findings.{all_among}
 use Rattle.pef_views.specs.PartialViews.{partly}
 use Rattle.pef_loader.specs.declared.header.LoaderHeader.{LoaderHeader}
-use Rattle.pef_loader.specs.Header.{imports_from, relocs_from, tables_end}
+use Rattle.pef_loader.specs.Header.{tables_end}
 use Rattle.pef_loader.specs.Partial.{relocation_findings}
 use Rattle.pef_loader.specs.PartialViews.{partly_loaded}
 use Rattle.pef_inspect.specs.Findings.{loader_finding}

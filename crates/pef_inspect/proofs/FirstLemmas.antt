@@ -1,0 +1,177 @@
+-- The first of all errors is the one that is reported.
+use Rattle.std.proofs.Common.{◌≡◌, ◌∙◌, ℕ, zero, suc, ◌+◌, true, List, [], ◌∷◌, ◌++◌, map, Option, None, Some, inl, inr, refl, sym, ap, subst, arith}
+use Rattle.std.specs.Prelude.{◌⊎◌, Result, Ok, Err, nat_lt}
+use Rattle.std.specs.Option.{option_and_then, option_map, option_to_list}
+use Rattle.std.specs.Result.{result_err}
+use Rattle.std.proofs.lemmas.Bool.{lt-ltb}
+use Rattle.std.proofs.lemmas.Bool.Decides.{leb_tells}
+use Rattle.pef_words.specs.Findings.{all_among, first_fault}
+use Rattle.pef_words.specs.Refusals.{◌>>=◌, first_among}
+use Rattle.pef_words.proofs.Laws.Findings.{first_fault-among, first_fault-append}
+use Rattle.pef_words.proofs.Laws.Refusals.{first_among-at, first_among-none, some_among}
+use Rattle.pef_views.specs.Container.{Contained, container_of}
+use Rattle.pef_views.specs.Partial as views
+use Rattle.pef_views.specs.declared.fault.ViewFault.{ViewFault}
+use Rattle.pef_views.proofs.Laws as view_laws
+use Rattle.pef_loader.specs.Loader.{Loaded, loaded_of}
+use Rattle.pef_loader.specs.Partial as loader
+use Rattle.pef_loader.specs.Partial.{RelocationRow}
+use Rattle.pef_loader.specs.declared.fault.LoaderFault.{LoaderFault}
+use Rattle.pef_loader.proofs.Laws as loader_laws
+use Rattle.pef_reloc.specs.Unrolled.{program_fault}
+use Rattle.pef_inspect.specs.declared.finding.Finding.{Finding}
+use Rattle.pef_inspect.specs.Errors.{behind_errors, errors_in, errors_of, headers_of, image_errors, loader_errors, opened_errors, program_at, program_cost, program_error, program_errors, programs_unverified, run_errors, tables_errors}
+use Rattle.pef_inspect.specs.Findings.{loader_finding, program_finding, view_finding}
+use Rattle.pef_inspect.specs.First.{IsLimit, first_of_container, first_of_loader, first_program, first_reported, program_refused}
+use Rattle.pef_inspect.specs.Limits.{checked_within, most_program_bytes, rest_of, within}
+use Rattle.pef_inspect.proofs.Soundness.{loader_there, tables_whole}
+
+first-map : {F G : Type 0} (f : F → G) (xs : List F) → first_fault (map f xs) ≡ option_map f (first_fault xs)
+first-map f [] = refl
+first-map f (x ∷ xs) = refl
+
+first-listed : {F : Type 0} (o : Option F) → first_fault (option_to_list o) ≡ o
+first-listed None = refl
+first-listed (Some x) = refl
+
+none-first : {F : Type 0} (xs : List F) → first_fault xs ≡ None → xs ≡ []
+none-first [] none = refl
+none-first (x ∷ xs) none = absurd (cc none)
+
+-- the first of some findings, if it is one of the first part
+first-here : {F : Type 0} (xs ys : List F) (x : F) → first_fault xs ≡ Some x → first_fault (xs ++ ys) ≡ Some x
+first-here xs ys x is = first_fault-append xs ys ∙ rw is refl
+
+-- .. and if that part has none
+first-later : {F : Type 0} (xs ys : List F) → first_fault xs ≡ None → first_fault (xs ++ ys) ≡ first_fault ys
+first-later xs ys none = first_fault-append xs ys ∙ rw none refl
+
+-- an error is the first, or the note on programs that weren't verified is
+abbrev IsFirst : List Finding → Finding → Type 0
+IsFirst errors f = (first_fault errors ≡ Some f) ⊎ IsLimit (first_fault errors)
+
+is-here : (xs ys : List Finding) (f : Finding) → IsFirst xs f → IsFirst (xs ++ ys) f
+is-here xs ys f (inl is) = inl (first-here xs ys f is)
+is-here xs ys f (inr limit) = inr (record { container = limit.container; header = limit.header; is = first-here xs ys (programs_unverified limit.container limit.header) limit.is })
+
+is-later : (xs ys : List Finding) (f : Finding) → first_fault xs ≡ None → IsFirst ys f → IsFirst (xs ++ ys) f
+is-later xs ys f none first = subst (λ o. (o ≡ Some f) ⊎ IsLimit o) (sym (first-later xs ys none)) first
+
+-- the program of a relocation header is the same, however it is read
+abbrev with_section : ℕ → List ℕ → ℕ × List ℕ
+with_section section program = (section, program)
+
+program-same : (l : Loaded) (k : ℕ) → program_refused l k ≡ option_and_then program_fault (program_at l k)
+program-same l k = ap (option_and_then (λ (h : ℕ × List ℕ). program_fault h.1)) (loader_laws.reloc_row l k) ∙ by (loader.relocation_row l k)
+  where
+    at : (section : ℕ) (o : Option (List ℕ)) → option_and_then (λ (h : ℕ × List ℕ). program_fault h.1) (option_map (with_section section) o) ≡ option_and_then program_fault o
+    at section None = refl
+    at section (Some bytes) = refl
+
+    by : (o : Option RelocationRow) → option_and_then (λ (h : ℕ × List ℕ). program_fault h.1) (o >>= (λ (r : RelocationRow). option_map (with_section r.section) r.program))
+        ≡ option_and_then program_fault (option_and_then (λ (r : RelocationRow). r.program) o)
+    by None = refl
+    by (Some r) = at r.section r.program
+
+-- the first error of some parts, or the note on those that weren't checked
+first-checked : (cost : ℕ → ℕ) (error : ℕ → Option Finding) (unchecked : ℕ → Finding) (most count : ℕ) (f : Finding) → first_among error 0 count ≡ Some f
+    → (first_fault (checked_within cost error unchecked most count) ≡ Some f) ⊎ ((reached : ℕ) × (first_fault (checked_within cost error unchecked most count) ≡ Some (unchecked reached)))
+unfolding checked_within
+first-checked cost error unchecked most count f is =
+    let reached = within cost most 0 count in
+    let r = some_among error 0 count f is in
+    let at = r.at in
+    let high = r.high in
+    let zero-at : 0 + at ≡ at = omega arith in
+    let each = first_fault-among (λ i. option_to_list (error i)) error 0 reached (λ k low high. first-listed (error k)) in
+    elim (leb_tells reached at) [
+      | inl past ↦ (
+          let none : first_among error 0 reached ≡ None = first_among-none error 0 reached (λ k low under. r.before k low (let p = past.1 in omega (arith, under, p))) in
+          let left : nat_lt reached count ≡ true = (let p = past.1 in lt-ltb reached count (omega (arith, p, high))) in
+          inr (reached, first-later (all_among (λ i. option_to_list (error i)) 0 reached) (rest_of unchecked reached count) (each ∙ none) ∙ rw left refl))
+      | inr under ↦ inl (first-here (all_among (λ i. option_to_list (error i)) 0 reached) (rest_of unchecked reached count) f
+          (each ∙ first_among-at error 0 reached at f under.1 (λ j low below. r.before j low (omega (arith, below))) (rw zero-at r.is)))
+    ]
+
+module _ (c : Contained) (l : Loaded) where
+  -- the programs are those of the relocation headers
+  first-programs : (f : Finding) → loader.findings_in l ≡ [] → first_program c l ≡ Some f → IsFirst (program_errors c l) f
+  first-programs f none is =
+      let whole = tables_whole l none in
+      let same : first_among (program_error c l) 0 (headers_of l) ≡ Some f = ap (first_among (program_error c l) 0) whole ∙ sym each ∙ is in
+      elim (first-checked (program_cost l) (program_error c l) (programs_unverified c) most_program_bytes (headers_of l) f same) [
+        | inl first ↦ inl first
+        | inr limit ↦ inr (record { container = c; header = limit.0; is = limit.1 })
+      ]
+    where
+      same-at : (k : ℕ) → option_map (program_finding c k) (program_refused l k) ≡ program_error c l k
+      same-at k = ap (option_map (program_finding c k)) (program-same l k)
+
+      among : (from n : ℕ) → first_among (λ k. option_map (program_finding c k) (program_refused l k)) from n ≡ first_among (program_error c l) from n
+      among from zero = refl
+      among from (suc n) = rw (same-at from, among (from + 1) n) refl
+
+      each : first_program c l ≡ first_among (program_error c l) 0 l.header.reloc_count
+      each = among 0 l.header.reloc_count
+
+  -- the first error of a loader section with a header is the one that is reported
+  first-found : loader.partial_of c.header.instantiated_section_count c.loader ≡ Ok l → first_fault (loader.findings_in l) ≡ result_err (loaded_of c.header.instantiated_section_count c.loader)
+  unfolding loader.findings_of
+  first-found opens =
+      let found : loader.findings_of c.header.instantiated_section_count c.loader ≡ loader.findings_in l = rw opens refl in
+      ap first_fault (sym found) ∙ loader_laws.first_is_reported c.header.instantiated_section_count c.loader
+
+  first-opened : (r : Result Loaded LoaderFault) (f : Finding) → loader.partial_of c.header.instantiated_section_count c.loader ≡ Ok l → loaded_of c.header.instantiated_section_count c.loader ≡ r → first_of_loader c r ≡ Some f → IsFirst (loader_errors c l) f
+  first-opened (Err fault) f opens read is = inl (first-here (map (loader_finding c) (loader.findings_in l)) (program_errors c l ++ (image_errors c ++ run_errors c l)) f
+      (first-map (loader_finding c) (loader.findings_in l) ∙ ap (option_map (loader_finding c)) (first-found opens ∙ ap result_err read) ∙ is))
+  first-opened (Ok m) f opens read is =
+      let none : first_fault (loader.findings_in l) ≡ None = first-found opens ∙ ap result_err read in
+      let sound = loader_laws.unrefused_loader c.header.instantiated_section_count c.loader l opens (ap result_err read) in
+      let same : m ≡ l = cc (read, sound) in
+      let first = first-programs f (none-first (loader.findings_in l) none) (ap (first_program c) (sym same) ∙ is) in
+      is-later (map (loader_finding c) (loader.findings_in l)) (program_errors c l ++ (image_errors c ++ run_errors c l)) f (first-map (loader_finding c) (loader.findings_in l) ∙ ap (option_map (loader_finding c)) none)
+      (is-here (program_errors c l) (image_errors c ++ run_errors c l) f first)
+
+-- the errors behind those of a container
+first-tables : (c : Contained) (r : Result Loaded LoaderFault) (f : Finding) → loader.partial_of c.header.instantiated_section_count c.loader ≡ r → first_of_loader c (loaded_of c.header.instantiated_section_count c.loader) ≡ Some f → IsFirst (tables_errors c r) f
+unfolding loader.findings_of
+first-tables c (Ok l) f opens is = first-opened c l (loaded_of c.header.instantiated_section_count c.loader) f opens refl is
+first-tables c (Err g) f opens is =
+    let found : loader.findings_of c.header.instantiated_section_count c.loader ≡ g ∷ [] = rw opens refl in
+    by (loaded_of c.header.instantiated_section_count c.loader) (ap first_fault (sym found) ∙ loader_laws.first_is_reported c.header.instantiated_section_count c.loader) is
+  where
+    by : (r : Result Loaded LoaderFault) → Some g ≡ result_err r → first_of_loader c r ≡ Some f → IsFirst (loader_finding c g ∷ image_errors c) f
+    by (Ok l) same is = absurd (cc same)
+    by (Err h) same is = inl (ap (option_map (loader_finding c)) same ∙ is)
+
+-- those of a container
+first-container : (bytes : List ℕ) (c : Contained) (r : Result Contained ViewFault) (f : Finding) → views.partial_of bytes ≡ Ok c → container_of bytes ≡ r → first_of_container r ≡ Some f → IsFirst (errors_in c) f
+unfolding views.findings_of
+first-container bytes c r f opens read is =
+    let found : views.findings_of bytes ≡ views.findings_in c = rw opens refl in
+    by r read (ap first_fault (sym found) ∙ view_laws.first_is_reported bytes ∙ ap result_err read) is
+  where
+    by : (r : Result Contained ViewFault) → container_of bytes ≡ r → first_fault (views.findings_in c) ≡ result_err r → first_of_container r ≡ Some f → IsFirst (errors_in c) f
+    by (Err fault) read first is = inl (first-here (map view_finding (views.findings_in c)) (behind_errors c) f (first-map view_finding (views.findings_in c) ∙ ap (option_map view_finding) first ∙ is))
+    by (Ok d) read none is =
+        let sound = view_laws.unrefused_container bytes c opens (ap result_err read) in
+        let same : d ≡ c = cc (read, sound) in
+        let there = loader_there c (none-first (views.findings_in c) none) in
+        let behind : behind_errors c ≡ tables_errors c (loader.partial_of c.header.instantiated_section_count c.loader) = rw there refl in
+        let first = first-tables c (loader.partial_of c.header.instantiated_section_count c.loader) f refl (ap (λ (k : Contained). first_of_loader k (loaded_of k.header.instantiated_section_count k.loader)) (sym same) ∙ is) in
+        is-later (map view_finding (views.findings_in c)) (behind_errors c) f (first-map view_finding (views.findings_in c) ∙ ap (option_map view_finding) none)
+        (subst (λ errors. IsFirst errors f) (sym behind) first)
+
+pub first_is_reported : (bytes : List ℕ) (f : Finding) → first_reported bytes ≡ Some f → (first_fault (errors_of bytes) ≡ Some f) ⊎ IsLimit (first_fault (errors_of bytes))
+unfolding errors_of first_reported views.findings_of
+first_is_reported bytes f is = by (views.partial_of bytes) refl
+  where
+    unopened : (g : ViewFault) (r : Result Contained ViewFault) → Some g ≡ result_err r → first_of_container r ≡ Some f → IsFirst (view_finding g ∷ []) f
+    unopened g (Ok c) same is = absurd (cc same)
+    unopened g (Err h) same is = inl (ap (option_map view_finding) same ∙ is)
+
+    by : (r : Result Contained ViewFault) → views.partial_of bytes ≡ r → IsFirst (opened_errors r) f
+    by (Ok c) opens = first-container bytes c (container_of bytes) f opens refl is
+    by (Err g) opens =
+        let found : views.findings_of bytes ≡ g ∷ [] = rw opens refl in
+        unopened g (container_of bytes) (ap first_fault (sym found) ∙ view_laws.first_is_reported bytes) is

@@ -1,0 +1,22 @@
+-- The notes on some bytes as a container that need memory.
+use Rattle.std.specs.Prelude.{◌≡◌, ◌++◌, ℕ, List, [], Result, Ok, Err}
+use Rattle.pef_views.specs.Container.{Contained}
+use Rattle.pef_views.specs.Partial.{partial_of}
+use Rattle.pef_views.specs.declared.fault.ViewFault.{ViewFault}
+use Rattle.pef_inspect.specs.Extents.{AreParts, Extent, extent_notes}
+use Rattle.pef_inspect.specs.Twice.{twice_in}
+use Rattle.pef_inspect.specs.declared.finding.Finding.{Finding}
+
+-- those on the parts of a container, in their order, then those on words that are relocated twice
+pub record AreMoreIn (c : Contained) (found : List Finding) : Type 0 where
+  pub extents : List Extent
+  pub are : AreParts c extents
+  pub notes : found ≡ extent_notes c extents ++ twice_in c
+
+-- none if the bytes have no header
+abbrev pub AreMoreOpened : Result Contained ViewFault → List Finding → Type 0
+AreMoreOpened (Ok c) found = AreMoreIn c found
+AreMoreOpened (Err f) found = found ≡ []
+
+unfoldable pub AreMore : List ℕ → List Finding → Type 0
+AreMore bytes found = AreMoreOpened (partial_of bytes) found

@@ -1,0 +1,54 @@
+-- Words to which a program adds more than one address. How many words are compared is bounded (this project's own).
+use Rattle.std.specs.Prelude.{ℕ, ◌+◌, ◌==◌, ◌||◌, Bool, false, min, List, [], ◌∷◌, Option, None, Some, Result, Ok, Err, length, map, if◌then◌else◌}
+use Rattle.std.specs.Option.{option_map, option_map_or}
+use Rattle.pef_format.specs.declared.place.Part.TheVariants as part
+use Rattle.pef_views.specs.Container.{Contained}
+use Rattle.pef_loader.specs.Loader.{Loaded}
+use Rattle.pef_loader.specs.Partial.{partial_of}
+use Rattle.pef_loader.specs.declared.fault.LoaderFault.{LoaderFault}
+use Rattle.pef_reloc.specs.Traces.{fixups_of}
+use Rattle.pef_reloc.specs.declared.fixup.Fixup.{Fixup}
+use Rattle.pef_reloc.specs.declared.verifying.Sizes.{Sizes}
+use Rattle.pef_inspect.specs.Errors.{programs_unverified, run_at}
+use Rattle.pef_inspect.specs.Limits.{checked_within, most_words}
+use Rattle.pef_inspect.specs.Oddities.{note_at, runs_reached}
+use Rattle.pef_inspect.specs.declared.finding.Finding.{Finding}
+use Rattle.pef_inspect.specs.declared.note.Note.TheVariants.{WordRelocatedTwice}
+
+-- the words of some additions
+abbrev pub words_of : List Fixup → List ℕ
+words_of fixups = map (λ (f : Fixup). f.offset) fixups
+
+-- the words to which the program of relocation header k adds an address, if it is readable and for an instantiated section
+abbrev pub words_at : Contained → Loaded → ℕ → List ℕ
+words_at c l k = option_map_or (λ (r : Sizes × List ℕ). words_of (fixups_of r.1)) (run_at c l k) []
+
+-- whether a word is one of some
+abbrev pub is_among : List ℕ → ℕ → Bool
+is_among [] word = false
+is_among (x ∷ words) word = word == x || is_among words word
+
+-- the first word that is also one of those before it
+abbrev pub first_again : List ℕ → List ℕ → Option ℕ
+first_again before [] = None
+first_again before (word ∷ words) = if is_among before word then Some word else first_again (word ∷ before) words
+
+-- how many words of a program are compared
+abbrev pub words_cost : Contained → Loaded → ℕ → ℕ
+words_cost c l k = min (length (words_at c l k)) (most_words + 1)
+
+-- the note on the first such word of the program of relocation header k
+abbrev pub twice_note : Contained → Loaded → ℕ → Option Finding
+twice_note c l k = option_map (λ word. note_at c (WordRelocatedTwice word) part.Program k 0) (first_again [] (words_at c l k))
+
+-- the notes on the programs that are verified, and that on those with too many words
+abbrev pub twice_notes : Contained → Loaded → List Finding
+twice_notes c l = checked_within (words_cost c l) (twice_note c l) (programs_unverified c) most_words (runs_reached c l)
+
+abbrev pub loader_twice : Contained → Result Loaded LoaderFault → List Finding
+loader_twice c (Ok l) = twice_notes c l
+loader_twice c (Err f) = []
+
+-- the notes on a container
+unfoldable pub twice_in : Contained → List Finding
+twice_in c = loader_twice c (partial_of c.header.instantiated_section_count c.loader)
