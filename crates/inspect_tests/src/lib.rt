@@ -3,3 +3,7 @@
 
 #[cfg(test)]
 mod findings;
+#[cfg(test)]
+mod limits;
+#[cfg(test)]
+mod notes;
