@@ -4,6 +4,8 @@
 pub use Rattle.cfm_closure.proofs.PlaceLemmas.{place_of-below, place_of-first, place_of-named}
 -- a closure is one of its store; its order has each fragment once, with all its libraries, and its root last
 pub use Rattle.cfm_closure.proofs.ClosedLemmas.{closed-complete, closed-root, closed-store}
+-- each fragment of the order is the root, or the first with its name
+pub use Rattle.cfm_closure.proofs.MetLemmas.{closed-met}
 -- its initialization order has the same fragments
 pub use Rattle.cfm_closure.proofs.InitOrderLemmas.{closed-init}
 -- each import of a closure's fragments has a target, or none

@@ -14,6 +14,7 @@ mod KnownLemmas
 pub mod Laws
 mod LeadLemmas
 mod LoopLemmas
+mod MetLemmas
 mod NoteLemmas
 mod NumberLemmas
 mod OrderFacts

@@ -61,10 +61,10 @@ module _ (pairs : List Pair) (root : ℕ) where
     pub inside : p < length pairs
     pub found : (p ≡ root) ⊎ (place_of pairs (pair_of pairs p).name ≡ Some p)
 
-  root-met : root < length pairs → IsMet root
+  pub root-met : root < length pairs → IsMet root
   root-met inside = record { inside = inside; found = inl refl }
 
-  library-met : (p l q : ℕ) → bound_to pairs p l ≡ Ok (Some q) → IsMet q
+  pub library-met : (p l q : ℕ) → bound_to pairs p l ≡ Ok (Some q) → IsMet q
   library-met p l q is = let s = stands_for pairs p l q is in record { inside = s.inside; found = inr s.first }
 
   -- a fact of each refusal except that of an endless import
