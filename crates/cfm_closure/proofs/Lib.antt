@@ -1,10 +1,12 @@
 mod AdditionLemmas
 mod BoundLemmas
+mod CacheLemmas
 mod ClosedLemmas
 mod EndlessLemmas
 mod FollowLemmas
 mod FragmentLemmas
 mod FrameLemmas
+mod GrowLemmas
 mod HopFacts
 mod HopLemmas
 mod ImportLemmas

@@ -1,6 +1,5 @@
 -- The tables of a walk stay sound.
 use Rattle.std.proofs.Common.{◌≡◌, ℕ, ◌<◌, Bool, true, List, [], ◌∷◌, ◌++◌, length, replicate, Option, None, Some, sym, ap, ◌∙◌, subst, set, inl, inr, arith}
-use Rattle.std.specs.Prelude.{option_map}
 use Rattle.std.specs.List.{AllByRecursion}
 use Rattle.std.proofs.lemmas.Bool.Decides.{eqb_tells}
 use Rattle.std.proofs.lemmas.List.{get_or-set_same, get_or-set_other, length-replicate, length-set}
@@ -11,10 +10,9 @@ use Rattle.cfm_closure.specs.declared.fragment.FragmentView.{FragmentView}
 use Rattle.cfm_closure.specs.declared.walk.Frame.{Frame}
 use Rattle.cfm_closure.specs.Kept.Paths.{AreTables, IsClosed, IsFrame, IsWalked, count_of}
 use Rattle.cfm_closure.specs.Kept.Targets.{Row}
-use Rattle.cfm_closure.specs.Kept.Views.{AreKept, AreRead, fragment_at}
+use Rattle.cfm_closure.specs.Kept.Views.{AreKept, AreRead}
 use Rattle.cfm_closure.specs.Views.{fragment_seen}
 use Rattle.cfm_closure.proofs.KnownLemmas.{right-none}
-use Rattle.cfm_closure.proofs.RowLemmas.{none-at}
 
 module _ (pairs : List Pair) (closed : List (Option ClosedFragment)) (p : ℕ) (f : ClosedFragment) (place : p < length pairs) (inside : p < length closed) (is : IsClosed pairs p f) where
   -- a fragment that is put into its place is there
@@ -33,21 +31,14 @@ module _ (pairs : List Pair) (closed : List (Option ClosedFragment)) (p : ℕ) (
 places-none : {T : Type 0} (table : List (Option T)) (n : ℕ) → table ≡ replicate n None → length table ≡ n
 places-none table n is = ap length is ∙ length-replicate n None
 
--- no fragment was read
-read-none : (pairs : List Pair) (table : List (Option FragmentView)) (n : ℕ) → table ≡ replicate n None → AreRead pairs table
-read-none pairs table n is p f here = absurd (let e : None ≡ Some f = sym (ap (λ table. fragment_at table p) is ∙ absent) ∙ here in cc)
-  where
-    absent : fragment_at (replicate n None) p ≡ None
-    absent = ap (option_map fragment_seen) (none-at {T = FragmentView} n p)
-
 -- the tables of a walk that visited nothing
 pub tables-none : (pairs : List Pair) (fragments : List (Option FragmentView)) (closed : List (Option ClosedFragment)) (marked : List Bool) (path : List Frame) (order : List ℕ)
-    → fragments ≡ replicate (length pairs) None → closed ≡ replicate (length pairs) None → length marked ≡ length pairs → path ≡ [] → order ≡ [] → AreTables pairs fragments closed marked path order
-tables-none pairs fragments closed marked path order no_fragments no_closed marks no_path no_order = record {
-  fragments_size = places-none fragments (length pairs) no_fragments;
+    → length fragments ≡ length pairs → AreRead pairs fragments → closed ≡ replicate (length pairs) None → length marked ≡ length pairs → path ≡ [] → order ≡ [] → AreTables pairs fragments closed marked path order
+tables-none pairs fragments closed marked path order places read no_closed marks no_path no_order = record {
+  fragments_size = places;
   closed_size = places-none closed (length pairs) no_closed;
   marked_size = marks;
-  read = read-none pairs fragments (length pairs) no_fragments;
+  read = read;
   frames = subst (AllByRecursion (IsFrame pairs fragments)) (sym no_path) tt;
   walked = subst (AllByRecursion (IsWalked pairs closed)) (sym no_order) tt;
 }

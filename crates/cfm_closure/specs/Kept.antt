@@ -1,5 +1,6 @@
 -- Definitions for private contracts and proofs. No public clause cites them.
 pub mod Bindings
+pub mod Caches
 pub mod Found
 pub mod Hops
 pub mod Imports

@@ -3,6 +3,7 @@ ghost use Rattle.cfm_closure.specs.Limits.{most_pairs};
 ghost use Rattle.cfm_closure.specs.Faults.{Answers};
 ghost use Rattle.cfm_closure.specs.Fragments.{fragment_of, import_count, library_count};
 ghost use Rattle.cfm_closure.specs.Libraries.{bound_to};
+ghost use Rattle.cfm_closure.specs.Kept.Caches.{IsCache};
 ghost use Rattle.cfm_closure.specs.Kept.Found.{meant};
 ghost use Rattle.cfm_closure.specs.Kept.Paths.{IsClosed};
 ghost use Rattle.cfm_closure.specs.Kept.Targets.{IsKnown, Keeps, known_at, led_to};
@@ -10,6 +11,7 @@ ghost use Rattle.cfm_closure.specs.Orders.{IsComplete};
 ghost use Rattle.cfm_closure.specs.Walk.{order_of};
 ghost use Rattle.cfm_closure.specs.Views.{fragment_seen};
 
+use crate::cache::Cache;
 use crate::fault::BindFault;
 use crate::fragment::{ClosedFragment, FragmentView};
 use crate::place_table::PlaceTable;
@@ -46,20 +48,35 @@ impl<'a> Model for Bindings<'a> {
 }
 
 impl<'a> Bindings<'a> {
-    /// Returns the closure order of the fragment in a place of a store, with no target known.
+    /// Returns the closure order of the fragment in a place of a store, with no target known. What was read of the
+    /// store's fragments is taken from a cache, and goes there.
     ///
     /// # Errors
     ///
     /// The first refusal of a fragment or of a library entry, in the order in which they are visited.
     /// `OutOfMemory` may come instead of any later result.
-    pub fn of(alloc: Global, store: &Store<'a>, root: usize) -> Result<Bindings<'a>, BindFault<'a>>
-        requires { root < length store.now }
+    pub fn of(
+        alloc: Global,
+        store: &Store<'a>,
+        cache: &mut Cache<'a>,
+        root: usize,
+    ) -> Result<Bindings<'a>, BindFault<'a>>
+        requires root { root < length store.now }
+        requires cache { IsCache store.now cache.old.views }
         ensures answer { Answers (λ b. b.order) result (order_of store.now root) }
         ensures pairs { IfOk result (λ b. b.pairs ≡ store.now) }
+        ensures cache { IsCache store.now cache.new.views }
     {
-        let walk = Walk::from_root(alloc, store, root)?;
+        let views = cache.take_views(alloc, store)?;
+        let walk = Walk::from_root(alloc, store, views, root)?;
+        let Walk {
+            fragments,
+            closed,
+            order,
+            ..
+        } = walk;
+        cache.put_views(fragments);
         let pairs = Vec::from_slice(alloc, store.pairs())?;
-        let Walk { closed, order, .. } = walk;
         Ok(Bindings {
             pairs,
             fragments: closed,

@@ -9,6 +9,8 @@
 
 mod binding;
 mod bindings;
+mod cache;
+mod cached_store;
 mod closed;
 mod closing;
 mod fault;
@@ -27,6 +29,7 @@ pub mod theorems;
 mod versions;
 mod walk;
 
+pub use cached_store::CachedStore;
 pub use closed::Closure;
 pub use closing::closure;
 pub use fault::BindFault;

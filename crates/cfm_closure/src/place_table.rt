@@ -1,4 +1,4 @@
-ghost use Rattle.std.specs.Prelude.{◌≡◌, ◌<◌, ◌^◌, None, Some, length, replicate, slice_index_or, slice_set, IfOk, IsSome, OnOk, OnErr};
+ghost use Rattle.std.specs.Prelude.{◌≡◌, ◌<◌, ◌^◌, ◌++◌, ◌-◌, [], None, Some, length, replicate, slice_index_or, slice_set, IfOk, IsSome, OnOk, OnErr};
 ghost use Rattle.std.specs.Option.{option_copied};
 ghost use Rattle.std.specs.Borrow.{sem};
 ghost use Rattle.cfm_closure.specs.Kept.Lending.{LendsValue};
@@ -33,6 +33,16 @@ impl<T> Model for PlaceTable<T> {
 }
 
 impl<T: Drop> PlaceTable<T> {
+    /// Returns the table without places. Nothing is allocated yet.
+    pub fn empty(alloc: Global) -> PlaceTable<T>
+        ensures { result ≡ [] }
+    {
+        PlaceTable {
+            numbers: Vec::new(alloc),
+            values: Vec::new(alloc),
+        }
+    }
+
     /// Returns a table of `len` places without values.
     pub fn new(alloc: Global, len: usize) -> Result<PlaceTable<T>, AllocError>
         requires { len < 2 ^ 16 }
@@ -41,6 +51,22 @@ impl<T: Drop> PlaceTable<T> {
         let numbers = vec![in alloc; 0; len]?;
         let values = Vec::new(alloc);
         Ok(PlaceTable { numbers, values })
+    }
+
+    /// Adds places without values, up to `len` places. If there are as many already, none is added.
+    ///
+    /// # Errors
+    ///
+    /// `AllocError` if an allocation fails. The table is then unchanged.
+    pub fn grow(&mut self, len: usize) -> Result<(), AllocError>
+        requires { len < 2 ^ 16 }
+        ensures ok { OnOk result (self.new ≡ self.old ++ replicate (len - length self.old) None) }
+        ensures err { OnErr result (self.new ≡ self.old) }
+    {
+        if self.numbers.len() < len {
+            self.numbers.resize(len, 0)?;
+        }
+        Ok(())
     }
 
     /// Returns the value at place `p`, or `None` if there is none.

@@ -30,7 +30,7 @@ pub(crate) struct Frame<'a> {
 pub(crate) struct Walk<'a> {
     alloc: Global,
     /// The fragments that were read.
-    fragments: PlaceTable<FragmentView<'a>>,
+    pub fragments: PlaceTable<FragmentView<'a>>,
     /// Those that are done.
     pub closed: PlaceTable<ClosedFragment<'a>>,
     marked: Vec<bool>,
@@ -80,14 +80,19 @@ fn bind_next<'a>(
 }
 
 impl<'a> Walk<'a> {
-    /// Returns a walk that visited no fragment yet.
-    fn new(alloc: Global, store: &Store<'a>) -> Result<Walk<'a>, AllocError>
+    /// Returns a walk that visited no fragment yet, with the fragments that were read before.
+    fn new(
+        alloc: Global,
+        store: &Store<'a>,
+        fragments: PlaceTable<FragmentView<'a>>,
+    ) -> Result<Walk<'a>, AllocError>
+        requires size { length fragments ≡ length store.now }
+        requires read { AreRead store.now fragments }
         ensures walk { IfOk result (λ w. IsWalk store.now w) }
         ensures state { IfOk result (λ w. state_of w ≡ unwalked store.now) }
         ensures path { IfOk result (λ w. w.path.items ≡ []) }
     {
         let len = store.len();
-        let fragments = PlaceTable::new(alloc, len)?;
         let closed = PlaceTable::new(alloc, len)?;
         let marked = vec![in alloc; false; len]?;
         Ok(Walk {
@@ -100,17 +105,20 @@ impl<'a> Walk<'a> {
         })
     }
 
-    /// Returns the completed walk from a fragment.
+    /// Returns the completed walk from a fragment. Fragments that were read before aren't read again.
     pub fn from_root(
         alloc: Global,
         store: &Store<'a>,
+        fragments: PlaceTable<FragmentView<'a>>,
         root: usize,
     ) -> Result<Walk<'a>, BindFault<'a>>
-        requires { root < length store.now }
+        requires root { root < length store.now }
+        requires size { length fragments ≡ length store.now }
+        requires read { AreRead store.now fragments }
         ensures walk { IfOk result (λ w. IsWalk store.now w) }
         ensures answer { Answers (λ w. w.order.items) result (order_of store.now root) }
     {
-        let mut walk = Walk::new(alloc, store)?;
+        let mut walk = Walk::new(alloc, store, fragments)?;
         walk.enter(store, root)?;
         walk.run(store)?;
         Ok(walk)

@@ -2,6 +2,7 @@
 use Rattle.std.proofs.Common.{map, ap, sym, subst, ◌∙◌, rules}
 use Rattle.cfm_closure.specs.Seen.{pair_seen}
 use Rattle.cfm_closure.specs.Kept.Bindings.{AreBindings}
+use Rattle.cfm_closure.proofs.CacheLemmas.{cache_of}
 use Rattle.cfm_closure.proofs.OrderFacts.{order-complete}
 use Rattle.cfm_closure.proofs.bindings.Bindings.of.Goals as goal
 
@@ -21,3 +22,13 @@ returns-in_err-walk-clause-answer c = search rules
 
 pub returns-clause-answer : goal.returns-clause-answer
 returns-clause-answer c = search rules
+
+pub returns-in_err-pairs-clause-cache : goal.returns-in_err-pairs-clause-cache
+returns-in_err-pairs-clause-cache c =
+    let tables = c.in_ok-walk.ensures.walk in
+    rw c.put_views.ensures (cache_of c.args.store.now c.in_ok-walk.walk.fragments tables.fragments_size tables.read)
+
+pub returns-clause-cache : goal.returns-clause-cache
+returns-clause-cache c =
+    let tables = c.in_ok-walk.ensures.walk in
+    rw c.put_views.ensures (cache_of c.args.store.now c.in_ok-walk.walk.fragments tables.fragments_size tables.read)

@@ -1,0 +1,8 @@
+-- What was read stays right, with the pair and without it.
+use Rattle.cfm_closure.proofs.CacheLemmas.{cache_added}
+use Rattle.cfm_closure.proofs.cached_store.CachedStore.add.Goals as goal
+
+pub invariant_of-self : goal.invariant_of-self
+invariant_of-self c =
+    cache_added c.self.inside.store (record { name = c.args.name.now; bytes = c.args.bytes.now }) c.self.inside.cache.views c.add.result c.add.new.self
+    c.add.ensures.ok c.add.ensures.err c.self.invariant

@@ -1,0 +1,122 @@
+ghost use Rattle.std.specs.Prelude.{◌≡◌, ◌<◌, ◌≤◌, ◌++◌, [], ◌∷◌, length, slice_get, option_map, nat_le, IfSome, OnOk, OnErr};
+ghost use Rattle.cfm_closure.specs.Closures.{closed_of};
+ghost use Rattle.cfm_closure.specs.Faults.{Answers};
+ghost use Rattle.cfm_closure.specs.Limits.{most_pairs};
+ghost use Rattle.cfm_closure.specs.Seen.{pair_seen};
+ghost use Rattle.cfm_closure.specs.Stores.{place_of};
+
+use crate::cache::Cache;
+use crate::closed::Closure;
+use crate::closing::closure_with;
+use crate::fault::BindFault;
+use crate::store::Store;
+use crate::store_fault::StoreFault;
+use std::alloc::Global;
+use std::fmt;
+use std::marker::Model;
+
+/// A store that keeps what its closures read, so that a fragment of several closures is read once.
+///
+/// Its closures are those of the [`Store`]. Only their cost differs.
+#[derive(Drop)]
+pub struct CachedStore<'a> {
+    store: Store<'a>,
+    cache: Cache<'a>,
+}
+
+impl<'a> Model for CachedStore<'a> {
+    ghost use Rattle.std.specs.Prelude.{List};
+    ghost use Rattle.cfm_closure.specs.Stores.{Pair};
+
+    ghost Value = { List Pair };
+
+    ghost use Rattle.cfm_closure.specs.Kept.Caches.{IsCache};
+
+    ghost view = { λ s. s.store };
+
+    ghost invariant = { λ s. IsCache s.store s.cache.views };
+}
+
+impl fmt::Debug for CachedStore<'_> {
+    fn fmt<W: fmt::Write>(&self, f: &mut fmt::Formatter<W>) -> fmt::Result {
+        f.debug_struct("CachedStore")
+            .field("pairs", &self.store.len())
+            .finish()
+    }
+}
+
+impl<'a> CachedStore<'a> {
+    /// Returns a store with the same pairs, of which nothing was read. Nothing is allocated yet.
+    pub fn new(alloc: Global, store: Store<'a>) -> CachedStore<'a>
+        ensures { result ≡ store.entry }
+    {
+        CachedStore {
+            store,
+            cache: Cache::empty(alloc),
+        }
+    }
+
+    /// Returns the store.
+    pub fn store(&self) -> &Store<'a>
+        ensures { result.now ≡ self.now }
+    {
+        &self.store
+    }
+
+    /// Appends a pair, as [`Store::add`] does. What was read stays.
+    ///
+    /// # Errors
+    ///
+    /// `OutOfMemory` if an allocation fails. The pairs are then unchanged.
+    pub fn add(&mut self, name: &'a [u8], bytes: &'a [u8]) -> Result<(), StoreFault>
+        requires { length self.old < most_pairs }
+        ensures ok { OnOk result (self.new ≡ self.old ++ (record { name = name.now; bytes = bytes.now }) ∷ []) }
+        ensures err { OnErr result (self.new ≡ self.old) }
+    {
+        self.store.add(name, bytes)
+    }
+
+    /// Returns how many pairs there are.
+    pub fn len(&self) -> usize
+        ensures len { result ≡ length self.now }
+        ensures few { result ≤ most_pairs }
+    {
+        self.store.len()
+    }
+
+    /// Returns whether there are as many pairs as a store may have, so that none may be added.
+    pub fn is_full(&self) -> bool
+        ensures { result ≡ nat_le most_pairs (length self.now) }
+    {
+        self.store.is_full()
+    }
+
+    /// Returns pair `p`, name first, or `None` past the last one.
+    pub fn pair(&self, p: usize) -> Option<(&'a [u8], &'a [u8])>
+        ensures { option_map pair_seen result ≡ slice_get self.now p }
+    {
+        self.store.pair(p)
+    }
+
+    /// Returns the place of the first pair with a name.
+    pub fn find(&self, name: &[u8]) -> Option<usize>
+        ensures place { result ≡ place_of self.now name.now }
+        ensures below { IfSome result (λ p. p < length self.now) }
+    {
+        self.store.find(name)
+    }
+
+    /// Returns the closure of the fragment in a place, as [`closure`](crate::closure) does. What an earlier call read
+    /// isn't read again.
+    ///
+    /// # Errors
+    ///
+    /// Those of [`closure`](crate::closure). The pairs are unchanged in any case.
+    pub fn closure(&mut self, alloc: Global, root: usize) -> Result<Closure<'a>, BindFault<'a>>
+        requires { root < length self.old }
+        ensures answer { Answers (λ c. c) result (closed_of self.old root) }
+        ensures same { self.new ≡ self.old }
+    {
+        closure_with(alloc, &self.store, &mut self.cache, root)
+    }
+}
