@@ -31,6 +31,7 @@ mod SameClosedLemmas
 mod SameInitLemmas
 mod SameLemmas
 mod SameTargetLemmas
+mod SharedLemmas
 mod SymbolLemmas
 mod TableLemmas
 mod TargetLemmas

@@ -1,5 +1,6 @@
 -- A target noted in the table of fragments.
-use Rattle.std.proofs.Common.{◌≡◌, ℕ, ◌<◌, List, [], length, Option, None, Some, Ok, refl, sym, ap, ◌∙◌, subst, get_or, set, arith, Contains}
+use Rattle.std.proofs.Common.{◌≡◌, ℕ, ◌<◌, false, List, [], length, Option, None, Some, Ok, refl, sym, ap, ◌∙◌, subst, get_or, set, arith, Contains}
+use Rattle.std.specs.Prelude.{is_some, option_map}
 use Rattle.std.specs.Option.{option_map_or}
 use Rattle.std.proofs.lemmas.List.{length-set}
 use Rattle.pef_loader.specs.Loader.{Loaded}
@@ -11,13 +12,23 @@ use Rattle.cfm_closure.specs.declared.fragment.ClosedFragment.{ClosedFragment}
 use Rattle.cfm_closure.specs.declared.targets.Target.{Target}
 use Rattle.cfm_closure.specs.Kept.Bindings.{AreBindings}
 use Rattle.cfm_closure.specs.Kept.Paths.{IsClosed, IsWalked}
+use Rattle.cfm_closure.specs.Kept.Found.{meant}
+use Rattle.cfm_closure.specs.declared.targets.Found.{Found}
 use Rattle.cfm_closure.specs.Kept.Rows.{row_of, rows_of}
-use Rattle.cfm_closure.specs.Kept.Targets.{AreRight, IsKnown, Keeps, Row, Rows, led_to}
+use Rattle.cfm_closure.specs.Kept.Targets.{AreRight, IsKnown, Keeps, Row, Rows, known_at, led_to}
 use Rattle.cfm_closure.proofs.HopFacts.{loader_at-is}
 use Rattle.cfm_closure.proofs.KnownLemmas.{kept-noted, known-noted, noted, right-noted}
 use Rattle.cfm_closure.proofs.OrderFacts.{all-contains}
 use Rattle.cfm_closure.proofs.RowLemmas.{row-at, rows-length, rows-set}
 use Rattle.cfm_closure.proofs.TableLemmas.{walked-set}
+
+-- a target that isn't known in the rows isn't known in the row of its fragment
+pub unknown-in : (table : List (Option ClosedFragment)) (p j : ℕ) (f : ClosedFragment) → get_or table p None ≡ Some f → known_at (rows_of table) p j ≡ None → get_or f.targets j None ≡ None
+unknown-in table p j f here none = sym (ap (λ (row : Row). get_or row j None) (row-at table p ∙ ap row_of here)) ∙ none
+
+pub none-meant : (found : Option Found) → is_some found ≡ false → option_map meant found ≡ None
+none-meant None never = refl
+none-meant (Some found) never = absurd (cc)
 
 module _ (pairs : List Pair) (table : List (Option ClosedFragment)) (order : List ℕ) (are : AreBindings pairs table order) (p : ℕ) (there : Contains order p)
     (f : ClosedFragment) (here : get_or table p None ≡ Some f) where

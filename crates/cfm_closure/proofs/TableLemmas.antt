@@ -1,18 +1,21 @@
 -- The tables of a walk stay sound.
 use Rattle.std.proofs.Common.{◌≡◌, ℕ, ◌<◌, Bool, true, List, [], ◌∷◌, ◌++◌, length, replicate, Option, None, Some, sym, ap, ◌∙◌, subst, set, inl, inr, arith}
 use Rattle.std.specs.List.{AllByRecursion}
+use Rattle.std.specs.Option.{option_map_or}
 use Rattle.std.proofs.lemmas.Bool.Decides.{eqb_tells}
 use Rattle.std.proofs.lemmas.List.{get_or-set_same, get_or-set_other, length-replicate, length-set}
 use Rattle.pef_words.proofs.Laws.Lists.{all-append, all-weaker}
+use Rattle.pef_loader.specs.Loader.{Loaded}
 use Rattle.cfm_closure.specs.Stores.{Pair}
+use Rattle.cfm_closure.specs.Fragments.{import_count}
 use Rattle.cfm_closure.specs.declared.fragment.ClosedFragment.{ClosedFragment}
 use Rattle.cfm_closure.specs.declared.fragment.FragmentView.{FragmentView}
 use Rattle.cfm_closure.specs.declared.walk.Frame.{Frame}
 use Rattle.cfm_closure.specs.Kept.Paths.{AreTables, IsClosed, IsFrame, IsWalked, count_of}
-use Rattle.cfm_closure.specs.Kept.Targets.{Row}
+use Rattle.cfm_closure.specs.Kept.Targets.{AreRight, Row}
 use Rattle.cfm_closure.specs.Kept.Views.{AreKept, AreRead}
 use Rattle.cfm_closure.specs.Views.{fragment_seen}
-use Rattle.cfm_closure.proofs.KnownLemmas.{right-none}
+use Rattle.cfm_closure.proofs.HopFacts.{loader_at-is}
 
 module _ (pairs : List Pair) (closed : List (Option ClosedFragment)) (p : ℕ) (f : ClosedFragment) (place : p < length pairs) (inside : p < length closed) (is : IsClosed pairs p f) where
   -- a fragment that is put into its place is there
@@ -83,10 +86,15 @@ module _ (pairs : List Pair) (table : List (Option FragmentView)) (closed : List
     walked = are.walked;
   }
 
+  -- the imports of the fragment of a frame
+  pub frame-imports : (f : Frame) → IsFrame pairs table f → import_count pairs f.p ≡ (fragment_seen f.fragment).loader.header.import_count
+  frame-imports f is =
+      ap (λ o. option_map_or (λ (l : Loaded). l.header.import_count) o 0) (loader_at-is pairs f.p (fragment_seen f.fragment) (are.read f.p (fragment_seen f.fragment) is.read))
+
   -- one more fragment that is done
-  pub tables-joined : (f : Frame) (row : Row) (n : ℕ) → IsFrame pairs table f → length f.libraries ≡ count_of f → row ≡ replicate n None → n ≡ (fragment_seen f.fragment).loader.header.import_count
+  pub tables-joined : (f : Frame) (row : Row) → IsFrame pairs table f → length f.libraries ≡ count_of f → length row ≡ (fragment_seen f.fragment).loader.header.import_count → AreRight pairs f.p row
       → AreTables pairs table (set closed f.p (Some (record { view = f.fragment; libraries = f.libraries; targets = row }))) marked path (order ++ f.p ∷ [])
-  tables-joined f row n is all none count = record {
+  tables-joined f row is all imports right = record {
     fragments_size = are.fragments_size;
     closed_size = length-set closed f.p (Some fragment) ∙ are.closed_size;
     marked_size = are.marked_size;
@@ -109,8 +117,8 @@ module _ (pairs : List Pair) (table : List (Option FragmentView)) (closed : List
         read = are.read f.p (fragment_seen f.fragment) is.read;
         bound = is.bound;
         all = all;
-        imports = ap length none ∙ length-replicate n None ∙ count;
-        right = right-none pairs f.p n row none;
+        imports = imports;
+        right = right;
       }
 
       this : IsWalked pairs later f.p

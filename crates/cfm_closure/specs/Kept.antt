@@ -12,6 +12,7 @@ pub mod Resolvers
 pub mod Rows
 pub mod Symbols
 pub mod Taken
+pub mod TargetRows
 pub mod Targets
 pub mod Views
 pub mod Walks

@@ -1,12 +1,13 @@
-ghost use Rattle.std.specs.Prelude.{◌≡◌, ◌<◌, ◌≤◌, [], length, replicate, slice_index_or, option_map, Contains, None, Some, Ok, IfOk, IfSome};
+ghost use Rattle.std.specs.Prelude.{◌≡◌, ◌<◌, ◌≤◌, true, [], length, replicate, slice_index_or, option_map, Contains, None, Some, Ok, IfOk, IfSome};
 ghost use Rattle.cfm_closure.specs.Limits.{most_pairs};
 ghost use Rattle.cfm_closure.specs.Faults.{Answers};
 ghost use Rattle.cfm_closure.specs.Fragments.{fragment_of, import_count, library_count};
 ghost use Rattle.cfm_closure.specs.Libraries.{bound_to};
-ghost use Rattle.cfm_closure.specs.Kept.Caches.{IsCache};
+ghost use Rattle.cfm_closure.specs.Closures.{imports_refusal};
+ghost use Rattle.cfm_closure.specs.Kept.Caches.{IsCache, IsKeptRow};
 ghost use Rattle.cfm_closure.specs.Kept.Found.{meant};
 ghost use Rattle.cfm_closure.specs.Kept.Paths.{IsClosed};
-ghost use Rattle.cfm_closure.specs.Kept.Targets.{IsKnown, Keeps, known_at, led_to};
+ghost use Rattle.cfm_closure.specs.Kept.Targets.{IsKnown, IsResolved, Keeps, known_at, led_to};
 ghost use Rattle.cfm_closure.specs.Orders.{IsComplete};
 ghost use Rattle.cfm_closure.specs.Walk.{order_of};
 ghost use Rattle.cfm_closure.specs.Views.{fragment_seen};
@@ -16,7 +17,7 @@ use crate::fault::BindFault;
 use crate::fragment::{ClosedFragment, FragmentView};
 use crate::place_table::PlaceTable;
 use crate::store::Store;
-use crate::targets::Found;
+use crate::targets::{Found, SharedTargets};
 use crate::walk::Walk;
 use std::alloc::{AllocError, Global};
 use std::marker::Model;
@@ -62,13 +63,13 @@ impl<'a> Bindings<'a> {
         root: usize,
     ) -> Result<Bindings<'a>, BindFault<'a>>
         requires root { root < length store.now }
-        requires cache { IsCache store.now cache.old.views }
+        requires cache { IsCache store.now cache.old }
         ensures answer { Answers (λ b. b.order) result (order_of store.now root) }
         ensures pairs { IfOk result (λ b. b.pairs ≡ store.now) }
-        ensures cache { IsCache store.now cache.new.views }
+        ensures cache { IsCache store.now cache.new }
     {
-        let views = cache.take_views(alloc, store)?;
-        let walk = Walk::from_root(alloc, store, views, root)?;
+        let views = cache.take_views(store)?;
+        let walk = Walk::from_root(alloc, store, &cache.rows, views, root)?;
         let Walk {
             fragments,
             closed,
@@ -87,6 +88,7 @@ impl<'a> Bindings<'a> {
     /// Returns how many places the store has.
     pub fn places(&self) -> usize
         ensures len { result ≡ length self.now.pairs }
+        ensures few { result ≤ most_pairs }
         ensures complete { IsComplete self.now.pairs self.now.order }
     {
         self.pairs.len()
@@ -158,7 +160,27 @@ impl<'a> Bindings<'a> {
         self.closed(p).targets.get(j)
     }
 
-    /// Notes the target of import `j` of a fragment of the order.
+    /// Returns whether a fragment of the order shares its targets with other closures. Then all are known.
+    pub fn is_shared(&self, p: usize) -> bool
+        requires { Contains self.now.order p }
+        ensures resolved { result ≡ true → IsResolved self.now.pairs self.now.rows p }
+        ensures passes { result ≡ true → imports_refusal self.now.pairs p ≡ None }
+    {
+        self.closed(p).targets.is_shared()
+    }
+
+    /// Returns the targets of a fragment of the order, to be shared with other closures. All must be known.
+    pub fn share(&mut self, alloc: Global, p: usize) -> Result<SharedTargets, AllocError>
+        requires place { Contains self.old.order p }
+        requires resolved { IsResolved self.old.pairs self.old.rows p }
+        ensures same { self.new ≡ self.old }
+        ensures row { IfOk result (λ row. IsKeptRow self.old.pairs p row) }
+    {
+        let fragment = self.fragments.value_mut(p);
+        fragment.targets.share(alloc)
+    }
+
+    /// Notes the target of import `j` of a fragment of the order, unless it is known.
     pub fn note(&mut self, p: usize, j: usize, found: Found)
         requires place { Contains self.old.order p }
         requires import { j < import_count self.old.pairs p }
@@ -166,6 +188,9 @@ impl<'a> Bindings<'a> {
         ensures keeps { Keeps self.old self.new }
         ensures known { IsKnown self.new.rows p j }
     {
+        if self.target(p, j).is_some() {
+            return;
+        }
         let fragment = self.fragments.value_mut(p);
         fragment.targets.note(j, found);
     }

@@ -34,7 +34,7 @@ impl<'a> Model for CachedStore<'a> {
 
     ghost view = { λ s. s.store };
 
-    ghost invariant = { λ s. IsCache s.store s.cache.views };
+    ghost invariant = { λ s. IsCache s.store s.cache };
 }
 
 impl fmt::Debug for CachedStore<'_> {
@@ -73,6 +73,7 @@ impl<'a> CachedStore<'a> {
         ensures ok { OnOk result (self.new ≡ self.old ++ (record { name = name.now; bytes = bytes.now }) ∷ []) }
         ensures err { OnErr result (self.new ≡ self.old) }
     {
+        self.cache.forget_targets();
         self.store.add(name, bytes)
     }
 

@@ -40,13 +40,14 @@ pub(crate) fn closure_with<'a>(
     root: usize,
 ) -> Result<Closure<'a>, BindFault<'a>>
     requires root { root < length store.now }
-    requires cache { IsCache store.now cache.old.views }
+    requires cache { IsCache store.now cache.old }
     ensures answer { Answers (λ c. c) result (closed_of store.now root) }
-    ensures cache { IsCache store.now cache.new.views }
+    ensures cache { IsCache store.now cache.new }
 {
     let mut bindings = Bindings::of(alloc, store, cache, root)?;
     resolve_targets(alloc, &mut bindings)?;
     let init_order = initialized(alloc, &bindings)?;
+    cache.keep_targets(&mut bindings)?;
     Ok(Closure {
         bindings,
         init_order,

@@ -132,12 +132,27 @@ impl<'a> Resolver<'a> {
         Ok(found)
     }
 
-    /// Resolves the imports of a fragment, import by import.
+    /// Resolves the imports of a fragment, import by import. Those whose targets are shared are resolved already.
     fn resolve_imports(
         &mut self,
         bindings: &mut Bindings<'a>,
         p: usize,
     ) -> Result<(), BindFault<'a>>
+        requires place { Contains bindings.old.order p }
+        requires resolver { IsResolver bindings.old.pairs bindings.old.order self.old }
+        ensures resolver { IsResolver bindings.old.pairs bindings.old.order self.new }
+        ensures answer { Passes result (imports_refusal bindings.old.pairs p) }
+        ensures keeps { OnOk result (Keeps bindings.old bindings.new) }
+        ensures known { OnOk result (IsResolved bindings.old.pairs bindings.new.rows p) }
+    {
+        if bindings.is_shared(p) {
+            return Ok(());
+        }
+        self.find_targets(bindings, p)
+    }
+
+    /// Finds the targets of a fragment's imports, import by import.
+    fn find_targets(&mut self, bindings: &mut Bindings<'a>, p: usize) -> Result<(), BindFault<'a>>
         requires place { Contains bindings.old.order p }
         requires resolver { IsResolver bindings.old.pairs bindings.old.order self.old }
         ensures resolver { IsResolver bindings.old.pairs bindings.old.order self.new }

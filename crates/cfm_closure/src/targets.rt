@@ -1,9 +1,12 @@
-ghost use Rattle.std.specs.Prelude.{◌≡◌, ◌<◌, ◌^◌, None, Some, length, option_map, replicate, slice_index_or, slice_set, IfOk};
+ghost use Rattle.std.specs.Prelude.{◌≡◌, ◌<◌, ◌^◌, true, None, Some, length, option_map, replicate, slice_index_or, slice_set, IfOk};
 ghost use Rattle.cfm_closure.specs.declared.targets.Target.TheVariants.{Absolute, At};
 ghost use Rattle.cfm_closure.specs.Kept.Found.{meant};
+ghost use Rattle.cfm_closure.specs.Kept.Targets.{AllKnown};
 
 use std::alloc::{AllocError, Global};
 use std::marker::Model;
+use std::mem;
+use std::sync::Arc;
 
 /// The target of an import.
 #[derive(Clone, Copy, Debug, PartialEq, Eq)]
@@ -92,21 +95,67 @@ impl Found {
     }
 }
 
+/// The targets of the imports of a fragment, all known, which several closures share.
+///
+/// They are in an `Arc`, so that a closure may go to another thread.
+#[derive(Drop)]
+pub(crate) struct SharedTargets {
+    known: Arc<Vec<Option<Found>>>,
+}
+
+impl Model for SharedTargets {
+    ghost use Rattle.cfm_closure.specs.Kept.Targets.{Row};
+
+    ghost Value = { Row };
+
+    ghost use Rattle.std.specs.Arc.{arc_value};
+    ghost use Rattle.cfm_closure.specs.Kept.Found.{all_meant};
+
+    ghost view = { λ t. all_meant (arc_value t.known).items };
+}
+
+impl SharedTargets {
+    /// Returns the same targets once more. They aren't copied.
+    pub fn another(&self) -> Result<SharedTargets, AllocError>
+        ensures { IfOk result (λ targets. targets ≡ self.now) }
+    {
+        Ok(SharedTargets {
+            known: Arc::try_clone(&self.known)?,
+        })
+    }
+
+    /// Returns the target of import `j`, if it is known.
+    fn get(&self, j: usize) -> Option<Found>
+        ensures { option_map meant result ≡ slice_index_or self.now j None }
+    {
+        known_at(&self.known, j)
+    }
+}
+
+/// Where the targets of a closure's fragment are.
+#[derive(Drop)]
+pub(crate) enum TargetRow {
+    /// In this closure alone, to be noted when they are found.
+    Own(Vec<Option<Found>>),
+    Shared(SharedTargets),
+}
+
 /// The targets of the imports of a fragment, as far as they are known.
 #[derive(Drop)]
 pub(crate) struct Targets {
-    known: Vec<Option<Found>>,
+    row: TargetRow,
 }
 
 impl Model for Targets {
-    ghost use Rattle.std.specs.Prelude.{List, Option};
-    ghost use Rattle.cfm_closure.specs.declared.targets.Target.{Target};
+    ghost use Rattle.cfm_closure.specs.Kept.Targets.{Row};
 
-    ghost Value = { List (Option (Option Target)) };
+    ghost Value = { Row };
 
-    ghost use Rattle.cfm_closure.specs.Kept.Found.{all_meant};
+    ghost use Rattle.cfm_closure.specs.Kept.TargetRows.{IsTargetRow, row_seen};
 
-    ghost view = { λ t. all_meant t.known.items };
+    ghost view = { λ t. row_seen t.row };
+
+    ghost invariant = { λ t. IsTargetRow t.row };
 }
 
 impl Targets {
@@ -114,24 +163,75 @@ impl Targets {
     pub fn unknown(alloc: Global, len: usize) -> Result<Targets, AllocError>
         ensures { IfOk result (λ targets. targets ≡ replicate len None) }
     {
+        let known = vec![in alloc; None; len]?;
         Ok(Targets {
-            known: vec![in alloc; None; len]?,
+            row: TargetRow::Own(known),
         })
+    }
+
+    /// Returns targets that are shared. All must be known.
+    pub fn shared(shared: SharedTargets) -> Targets
+        requires { AllKnown shared }
+        ensures { result ≡ shared }
+    {
+        Targets {
+            row: TargetRow::Shared(shared),
+        }
+    }
+
+    /// Returns whether the targets are shared. Then all are known.
+    pub fn is_shared(&self) -> bool
+        ensures { result ≡ true → AllKnown self.now }
+    {
+        matches!(self.row, TargetRow::Shared(_))
     }
 
     /// Returns the target of import `j`, if it is known.
     pub fn get(&self, j: usize) -> Option<Found>
         ensures { option_map meant result ≡ slice_index_or self.now j None }
     {
-        known_at(&self.known, j)
+        match &self.row {
+            TargetRow::Own(known) => known_at(known, j),
+            TargetRow::Shared(shared) => shared.get(j),
+        }
     }
 
-    /// Notes the target of import `j`.
+    /// Notes the target of import `j`, which isn't known.
     pub fn note(&mut self, j: usize, found: Found)
-        requires { j < length self.old }
+        requires import { j < length self.old }
+        requires unknown { slice_index_or self.old j None ≡ None }
         ensures { self.new ≡ slice_set self.old j (Some (meant found)) }
     {
-        self.known[j] = Some(found);
+        match &mut self.row {
+            TargetRow::Own(known) => known[j] = Some(found),
+            TargetRow::Shared(_) => unreachable!(),
+        }
+    }
+
+    /// Returns the targets, to be shared with other closures. All must be known. They aren't copied.
+    ///
+    /// # Errors
+    ///
+    /// `AllocError` if an allocation fails.
+    pub fn share(&mut self, alloc: Global) -> Result<SharedTargets, AllocError>
+        requires { AllKnown self.old }
+        ensures shared { IfOk result (λ shared. shared ≡ self.old) }
+        ensures same { self.new ≡ self.old }
+    {
+        let row = mem::replace(&mut self.row, TargetRow::Own(Vec::new(alloc)));
+        let shared = match row {
+            TargetRow::Shared(shared) => shared,
+            TargetRow::Own(known) => match Arc::new(alloc, known) {
+                Ok(known) => SharedTargets { known },
+                Err(failed) => {
+                    self.row = TargetRow::Own(failed.value);
+                    return Err(AllocError);
+                }
+            },
+        };
+        let another = shared.another();
+        self.row = TargetRow::Shared(shared);
+        another
     }
 }
 

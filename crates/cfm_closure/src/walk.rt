@@ -2,6 +2,10 @@ ghost use Rattle.std.specs.Prelude.{◌≡◌, ◌+◌, ◌<◌, [], List, ℕ, 
 ghost use Rattle.std.specs.Option.{ForSome};
 ghost use Rattle.cfm_closure.specs.Faults.{Answers};
 ghost use Rattle.cfm_closure.specs.Walk.{is_marked, joining, order_of, unwalked};
+ghost use Rattle.cfm_closure.specs.Stores.{Pair};
+ghost use Rattle.cfm_closure.specs.Fragments.{import_count};
+ghost use Rattle.cfm_closure.specs.Kept.Caches.{AreKeptRows};
+ghost use Rattle.cfm_closure.specs.Kept.Targets.{AreAllKnown, AreRight};
 ghost use Rattle.cfm_closure.specs.Kept.Paths.{Continues, IsFrame, IsSameFrame, IsWalk, Next, count_of, frame_and_rest, rest_of_path, state_of, steps_left, visit_and_rest};
 ghost use Rattle.cfm_closure.specs.Kept.Views.{AreKept, AreRead};
 ghost use Rattle.cfm_closure.specs.Kept.Walks.{unmet_of};
@@ -12,7 +16,7 @@ use crate::fragment::{ClosedFragment, FragmentView, read_at};
 use crate::libraries::Libraries;
 use crate::place_table::PlaceTable;
 use crate::store::Store;
-use crate::targets::Targets;
+use crate::targets::{SharedTargets, Targets};
 use std::alloc::{AllocError, Global};
 
 /// A fragment that was visited and isn't done: the walk is in one of its libraries.
@@ -79,6 +83,24 @@ fn bind_next<'a>(
     Ok(None)
 }
 
+/// Returns the kept targets of the `len` imports of the fragment in a place, or, if there are none, that no target is
+/// known.
+fn kept_or_unknown(
+    alloc: Global,
+    rows: &PlaceTable<SharedTargets>,
+    p: usize,
+    len: usize,
+) -> Result<Targets, AllocError>
+    requires { AreAllKnown rows.now }
+    ensures count { (pairs : List Pair) → AreKeptRows pairs rows.now → import_count pairs p ≡ len → IfOk result (λ targets. length targets ≡ len) }
+    ensures right { (pairs : List Pair) → AreKeptRows pairs rows.now → IfOk result (λ targets. AreRight pairs p targets) }
+{
+    match rows.get(p) {
+        Some(row) => Ok(Targets::shared(row.another()?)),
+        None => Targets::unknown(alloc, len),
+    }
+}
+
 impl<'a> Walk<'a> {
     /// Returns a walk that visited no fragment yet, with the fragments that were read before.
     fn new(
@@ -105,14 +127,17 @@ impl<'a> Walk<'a> {
         })
     }
 
-    /// Returns the completed walk from a fragment. Fragments that were read before aren't read again.
+    /// Returns the completed walk from a fragment. Fragments that were read before aren't read again, and those with kept
+    /// targets have them.
     pub fn from_root(
         alloc: Global,
         store: &Store<'a>,
+        rows: &PlaceTable<SharedTargets>,
         fragments: PlaceTable<FragmentView<'a>>,
         root: usize,
     ) -> Result<Walk<'a>, BindFault<'a>>
         requires root { root < length store.now }
+        requires rows { AreKeptRows store.now rows.now }
         requires size { length fragments ≡ length store.now }
         requires read { AreRead store.now fragments }
         ensures walk { IfOk result (λ w. IsWalk store.now w) }
@@ -120,7 +145,7 @@ impl<'a> Walk<'a> {
     {
         let mut walk = Walk::new(alloc, store, fragments)?;
         walk.enter(store, root)?;
-        walk.run(store)?;
+        walk.run(store, rows)?;
         Ok(walk)
     }
 
@@ -144,7 +169,13 @@ impl<'a> Walk<'a> {
     }
 
     /// Ends the visit of a fragment: it joins the order.
-    fn finish(&mut self, store: &Store<'a>, frame: Frame<'a>) -> Result<(), BindFault<'a>>
+    fn finish(
+        &mut self,
+        store: &Store<'a>,
+        rows: &PlaceTable<SharedTargets>,
+        frame: Frame<'a>,
+    ) -> Result<(), BindFault<'a>>
+        requires rows { AreKeptRows store.now rows.now }
         requires walk { IsWalk store.now self.old }
         requires frame { IsFrame store.now self.old.fragments frame }
         requires all { length frame.libraries ≡ count_of frame }
@@ -153,7 +184,8 @@ impl<'a> Walk<'a> {
         ensures fewer { OnOk result (steps_left self.new < steps_left self.old + 1) }
     {
         let p = frame.p;
-        let targets = Targets::unknown(self.alloc, frame.fragment.loader.imports())?;
+        let imports = frame.fragment.loader.imports();
+        let targets = kept_or_unknown(self.alloc, rows, p, imports)?;
         let fragment = ClosedFragment {
             view: frame.fragment,
             libraries: frame.libraries,
@@ -165,7 +197,13 @@ impl<'a> Walk<'a> {
     }
 
     /// Continues in the last fragment of the path, which was taken off it.
-    fn step(&mut self, store: &Store<'a>, frame: Frame<'a>) -> Result<(), BindFault<'a>>
+    fn step(
+        &mut self,
+        store: &Store<'a>,
+        rows: &PlaceTable<SharedTargets>,
+        frame: Frame<'a>,
+    ) -> Result<(), BindFault<'a>>
+        requires rows { AreKeptRows store.now rows.now }
         requires walk { IsWalk store.now self.old }
         requires frame { IsFrame store.now self.old.fragments frame }
         ensures walk { OnOk result (IsWalk store.now self.new) }
@@ -178,18 +216,23 @@ impl<'a> Walk<'a> {
                 self.path.push(frame)?;
                 self.enter(store, q)
             }
-            None => self.finish(store, frame),
+            None => self.finish(store, rows, frame),
         }
     }
 
     /// Continues until no fragment is left on the path.
-    fn run(&mut self, store: &Store<'a>) -> Result<(), BindFault<'a>>
+    fn run(
+        &mut self,
+        store: &Store<'a>,
+        rows: &PlaceTable<SharedTargets>,
+    ) -> Result<(), BindFault<'a>>
+        requires rows { AreKeptRows store.now rows.now }
         requires walk { IsWalk store.now self.old }
         ensures walk { OnOk result (IsWalk store.now self.new) }
         ensures answer { Answers (λ done. state_of self.new) result (rest_of_path store.now self.old.path.items (state_of self.old)) }
     {
         while let Some(frame) = self.path.pop() {
-            self.step(store, frame)?;
+            self.step(store, rows, frame)?;
         }
         Ok(())
     }

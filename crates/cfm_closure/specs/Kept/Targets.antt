@@ -1,5 +1,5 @@
 -- The known targets of imports while they are searched.
-use Rattle.std.specs.Prelude.{◌≡◌, ℕ, ◌<◌, List, [], slice_index_or, Option, None, Some, Result, Ok, Err, Contains, IsSome}
+use Rattle.std.specs.Prelude.{◌≡◌, ℕ, ◌<◌, List, [], length, slice_index_or, Option, None, Some, Result, Ok, Err, Contains, IsSome}
 use Rattle.pef_words.specs.Refusals.{unless}
 use Rattle.cfm_closure.specs.Stores.{Pair}
 use Rattle.cfm_closure.specs.declared.fault.BindFault.{BindFault}
@@ -19,6 +19,14 @@ Row = List (Option (Option Target))
 
 abbrev pub Rows : Type 0
 Rows = List Row
+
+-- all of them are known
+abbrev pub AllKnown : Row → Type 0
+AllKnown row = (j : ℕ) → j < length row → IsSome (slice_index_or row j None)
+
+-- and this of each row of a table
+abbrev pub AreAllKnown : List (Option Row) → Type 0
+AreAllKnown rows = (p : ℕ) (row : Row) → slice_index_or rows p None ≡ Some row → AllKnown row
 
 abbrev pub known_at : Rows → ℕ → ℕ → Option (Option Target)
 known_at rows p j = slice_index_or (slice_index_or rows p []) j None

@@ -26,9 +26,11 @@ returns-clause-answer c = search rules
 pub returns-in_err-pairs-clause-cache : goal.returns-in_err-pairs-clause-cache
 returns-in_err-pairs-clause-cache c =
     let tables = c.in_ok-walk.ensures.walk in
-    rw c.put_views.ensures (cache_of c.args.store.now c.in_ok-walk.walk.fragments tables.fragments_size tables.read)
+    rw c.put_views.ensures.views
+    (cache_of c.args.store.now c.take_views.new.self.views c.take_views.new.self.rows c.in_ok-views.ensures.cache c.in_ok-walk.walk.fragments c.put_views.new.self.rows tables.fragments_size tables.read c.put_views.ensures.rows)
 
 pub returns-clause-cache : goal.returns-clause-cache
 returns-clause-cache c =
     let tables = c.in_ok-walk.ensures.walk in
-    rw c.put_views.ensures (cache_of c.args.store.now c.in_ok-walk.walk.fragments tables.fragments_size tables.read)
+    rw c.put_views.ensures.views
+    (cache_of c.args.store.now c.take_views.new.self.views c.take_views.new.self.rows c.in_ok-views.ensures.cache c.in_ok-walk.walk.fragments c.put_views.new.self.rows tables.fragments_size tables.read c.put_views.ensures.rows)

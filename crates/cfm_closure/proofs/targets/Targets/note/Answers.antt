@@ -5,4 +5,4 @@ use Rattle.cfm_closure.specs.Kept.Found.{meant}
 use Rattle.cfm_closure.proofs.targets.Targets.note.Goals as goal
 
 pub returns : goal.returns
-returns c = rw (← c.self.view_is) (map-set (option_map meant) c.self.inside.known.items c.args.j (Some c.args.found))
+returns c = rw (← c.self.view_is, c.in-Own.is) (map-set (option_map meant) c.in-Own.known.items c.args.j (Some c.args.found))

@@ -6,5 +6,5 @@ use Rattle.cfm_closure.proofs.targets.Targets.unknown.Goals as goal
 
 pub returns : goal.returns
 returns c =
-    let is : c.in_ok-vec.field-0.items ≡ replicate c.args.len None = search rules in
+    let is : c.in_ok-known.known.items ≡ replicate c.args.len None = search rules in
     ap all_meant is ∙ all_meant-none c.args.len

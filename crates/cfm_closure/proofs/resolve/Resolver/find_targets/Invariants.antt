@@ -5,7 +5,7 @@ use Rattle.cfm_closure.specs.Fragments.{import_count}
 use Rattle.cfm_closure.specs.Closures.{import_refusal, imports_refusal}
 use Rattle.cfm_closure.specs.Kept.Resolvers.{IsResolver}
 use Rattle.cfm_closure.specs.Kept.Targets.{IsKnown, Keeps}
-use Rattle.cfm_closure.proofs.resolve.Resolver.resolve_imports.Given as goal
+use Rattle.cfm_closure.proofs.resolve.Resolver.find_targets.Given as goal
 
 abbrev pub invariant-loop-j : goal.invariant-loop-j
 invariant-loop-j l = record {

@@ -11,7 +11,7 @@ use Rattle.cfm_closure.proofs.PathLemmas.{Fails-also}
 use Rattle.cfm_closure.specs.Closures.{import_refusal, imports_refusal}
 use Rattle.cfm_closure.specs.Kept.Targets.{Ordered}
 use Rattle.cfm_closure.specs.Targets.{target_of}
-use Rattle.cfm_closure.proofs.resolve.Resolver.resolve_imports.Goals as goal
+use Rattle.cfm_closure.proofs.resolve.Resolver.find_targets.Goals as goal
 
 pub returns-in_err-resolve-clause-answer : goal.returns-in_err-resolve-clause-answer
 returns-in_err-resolve-clause-answer c =
