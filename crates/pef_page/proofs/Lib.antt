@@ -1,0 +1,3 @@
+mod Filling
+mod Numbered
+mod Keeping

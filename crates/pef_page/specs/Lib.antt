@@ -1,0 +1,9 @@
+pub mod Rows
+pub mod Containers
+pub mod Loaders
+pub mod Fixups
+pub mod Packed
+pub mod Names
+pub mod Kept
+pub mod Findings
+pub mod Files
