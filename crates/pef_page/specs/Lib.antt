@@ -7,3 +7,4 @@ pub mod Names
 pub mod Kept
 pub mod Findings
 pub mod Files
+pub mod Fragments
