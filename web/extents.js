@@ -1,0 +1,76 @@
+// The notes that compare the parts of a container: bytes that two of them share, and bytes that belong to none. The proved
+// module allocates nothing, so these are found here.
+
+/** Bytes between two parts that only align the second one are fewer than this, and all 0. */
+const ALIGNED = 16;
+
+const CONTAINER_HEADER = 40;
+
+const SECTION_HEADER = 28;
+
+const OFFSET_FIELD = 20;
+
+/** Returns the notes on the parts of a container with these bytes, in the order in which the parts begin. */
+export function moreNotes(container, bytes) {
+    if (container.header === null) {
+        return [];
+    }
+    const notes = [];
+    let end = 0;
+    for (const { from, to, section } of extents(container, bytes)) {
+        const shared = Math.min(end, to) - from;
+        if (from > end) {
+            if (!isPadding(bytes.subarray(end, from))) {
+                notes.push(wholeNote(container, 113, "UnownedBytes", end, from - end));
+            }
+        } else if (section !== null && shared > 0) {
+            notes.push(overlap(container, section, shared));
+        }
+        end = Math.max(end, to);
+    }
+    if (end < bytes.length) {
+        notes.push(wholeNote(container, 109, "TrailingBytes", end, bytes.length - end));
+    }
+    return notes;
+}
+
+function isPadding(gap) {
+    return gap.length < ALIGNED && gap.every((byte) => byte === 0);
+}
+
+function wholeNote(container, number, name, at, length) {
+    return { number, name, isError: false, part: "header", rank: 1, row: 0, field: at, offset: container.offset + at, length };
+}
+
+function overlap(container, row, length) {
+    const offset = container.offset + CONTAINER_HEADER + SECTION_HEADER * row + OFFSET_FIELD;
+    return { number: 112, name: "Overlap", isError: false, part: "section", rank: 2, row, field: OFFSET_FIELD, offset, length };
+}
+
+/** Returns the parts that have bytes, in the order of their beginnings, ends and numbers. The first is the headers and names. */
+function extents(container, bytes) {
+    const found = [{ from: 0, to: Math.min(namesEnd(container, bytes), bytes.length), section: null }];
+    container.sections.forEach((section, i) => {
+        const from = section.raw - container.offset;
+        const to = section.packed === 0 ? 0 : Math.min(from + section.packed, bytes.length);
+        if (from < to) {
+            found.push({ from, to, section: i });
+        }
+    });
+    return found.sort((a, b) => a.from - b.from || a.to - b.to || (a.section ?? -1) - (b.section ?? -1));
+}
+
+/** Returns where the section name table ends: after the name that begins last. */
+function namesEnd(container, bytes) {
+    const start = CONTAINER_HEADER + SECTION_HEADER * container.header.sections;
+    const view = new DataView(bytes.buffer, bytes.byteOffset, bytes.byteLength);
+    let last = -1;
+    container.sections.forEach((section) => {
+        const offset = view.getInt32(section.offset - container.offset);
+        if (offset > last && start + offset < bytes.length) {
+            last = offset;
+        }
+    });
+    const end = last < 0 ? -1 : bytes.indexOf(0, start + last);
+    return end < 0 ? start : end + 1;
+}

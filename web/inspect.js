@@ -1,0 +1,471 @@
+// What is known of a file: its parts, its containers with their tables, and all errors and notes.
+import { ALL, Slice } from "./module.js";
+import * as text from "./text.js";
+import { moreNotes } from "./extents.js";
+
+const FORMATS = ["other", "container", "macbinary", "applesingle", "appledouble", "damaged", "resources"];
+
+export const FORKS = ["data fork", "resource fork", "name", "comment"];
+
+/** The kinds of parts by their codes, as JSON names them. */
+const PARTS = [null, "header", "section", "loader", "library", "import", "main", "init", "term", "relocation", "export", "packed", "program", "line"];
+
+/** The part whose row a finding is printed with. */
+const ROW_PARTS = { 11: 2, 12: 9 };
+
+const CONTAINER_HEADER = 40;
+
+const SECTION_HEADER = 28;
+
+const LOADER_HEADER = 56;
+
+const LIBRARY = 24;
+
+const IMPORT = 4;
+
+const RELOCATION = 12;
+
+const EXPORT = 10;
+
+/** The type of the resource that lists fragments: `cfrg`. */
+const FRAGMENT_TABLE = 0x63667267;
+
+/** What the inspections of a file's containers may cost together, besides the length of the file, and what each costs. */
+const BUDGET = 0x4000000;
+
+const COST = 0x10000;
+
+const FIRST_NOTE = 100;
+
+/** A file, as far as it can be read at once. Its containers are read by `Container`. */
+export class File {
+    constructor(reader, name, bytes) {
+        this.name = name;
+        this.bytes = bytes;
+        reader.open(bytes);
+        this.format = FORMATS[reader.kind()];
+        const parts = reader.table("page_forks", [reader.file], 3);
+        this.error = parts.error;
+        this.forks = parts.rows.slice(0, 4).map((row, i) => fork(row, FORKS[i]));
+        this.headerError = parts.rows.length > 4 ? parts.rows[4].numbers[0] : parts.error;
+        this.places = findContainers(reader);
+        this.resources = [];
+        this.resourceError = 0;
+        this.fragments = [];
+        this.fragmentError = 0;
+        this.readResources(reader);
+    }
+
+    /** Reads the resources and the table of fragments, if there is a resource fork. */
+    readResources(reader) {
+        const part = this.forks[1];
+        if (part === undefined || part.slice === null) {
+            return;
+        }
+        const found = reader.table("page_resources", [part.slice], 6);
+        this.resourceError = found.error;
+        this.resources = found.rows.map((row) => resource(row, part));
+        const table = this.resources.find((it) => it.type === FRAGMENT_TABLE && it.id === 0 && it.slice !== null);
+        if (table !== undefined) {
+            const data = this.forks[0] !== undefined && this.forks[0].slice !== null ? this.forks[0] : null;
+            const members = reader.table("page_members", [table.slice, data === null ? new Slice(part.slice.address, 0) : data.slice], 19);
+            this.fragmentError = members.error;
+            this.fragments = members.rows.map((row) => fragment(row, data));
+        }
+    }
+}
+
+function fork(row, kind) {
+    const [error, errorOffset, offset] = row.numbers;
+    return { kind, offset, length: row.bytes === null ? null : row.bytes.length, error, errorOffset, slice: row.bytes };
+}
+
+function resource(row, part) {
+    const [error, errorOffset, type, id, attributes, offset] = row.numbers;
+    return {
+        type,
+        id: id >= 0x8000 ? id - 0x10000 : id,
+        name: row.name,
+        attributes,
+        offset: part.offset + offset,
+        length: row.bytes === null ? null : row.bytes.length,
+        error,
+        errorOffset,
+        slice: row.bytes,
+    };
+}
+
+function fragment(row, data) {
+    const [place, error, errorOffset, nameError, containerError, architecture, update, current, oldDef, stack, directory, usage, where, offset, length] = row.numbers;
+    return {
+        name: row.name,
+        place,
+        error,
+        errorOffset,
+        nameError,
+        containerError,
+        architecture,
+        update,
+        current,
+        oldDef,
+        stack,
+        directory,
+        usage,
+        where,
+        offset,
+        length,
+        at: data === null || row.bytes === null ? null : data.offset + offset,
+    };
+}
+
+/** Returns the offsets of all containers in the file. Each search begins after the last place of the one before. */
+function findContainers(reader) {
+    const places = [];
+    let from = 0;
+    for (;;) {
+        const rest = new Slice(reader.file.address + from, reader.file.length - from);
+        const found = reader.table("page_containers", [rest], 1, 0, { ...ALL, rows: 2048 });
+        for (const row of found.rows) {
+            places.push(from + row.numbers[0]);
+        }
+        if (!found.more) {
+            return places;
+        }
+        from = places[places.length - 1] + 1;
+    }
+}
+
+/** A container of the file that the reader has open, from an offset on. */
+export class Container {
+    constructor(reader, offset, limits = ALL) {
+        this.reader = reader;
+        this.limits = limits;
+        /** The tables of which further rows are to be read. */
+        this.more = new Set();
+        this.offset = offset;
+        this.slice = new Slice(reader.file.address + offset, reader.file.length - offset);
+        this.header = this.readHeader();
+        this.sections = this.read("page_sections", 9).map((row, i) => this.section(row, i)).filter((it) => it !== null);
+        this.loader = this.readLoader();
+        this.libraries = this.read("page_libraries", 5).map((row, i) => this.library(row, i));
+        this.imports = this.read("page_imports", 3).map((row, i) => this.import(row, i));
+        this.relocations = this.read("page_relocations", 3).map((row, i) => this.relocation(row, i));
+        this.exports = this.read("page_exports", 3).map((row, i) => this.export(row, i));
+        this.cut = false;
+        this.findings = this.find();
+    }
+
+    read(name, width, from = 0) {
+        const table = this.reader.table(name, [this.slice], width, from, this.limits);
+        if (table.more) {
+            this.more.add(name);
+        } else {
+            this.more.delete(name);
+        }
+        return table.rows;
+    }
+
+    /** Reads further rows of a table into the list that has the first ones. */
+    readMore(name) {
+        const { rows, width, make } = {
+            page_libraries: { rows: this.libraries, width: 5, make: this.library },
+            page_imports: { rows: this.imports, width: 3, make: this.import },
+            page_relocations: { rows: this.relocations, width: 3, make: this.relocation },
+            page_exports: { rows: this.exports, width: 3, make: this.export },
+        }[name];
+        const first = rows.length;
+        this.read(name, width, first).forEach((row, i) => rows.push(make.call(this, row, first + i)));
+    }
+
+    /** Returns the offset in the file of some bytes of it. */
+    place(slice) {
+        return slice.address - this.reader.file.address;
+    }
+
+    readHeader() {
+        const rows = this.read("page_header", 9);
+        if (rows.length === 0) {
+            return null;
+        }
+        const [architecture, format, date, oldDef, oldImp, current, sections, instantiated, reserved] = rows[0].numbers;
+        return { architecture, format, date, oldDef, oldImp, current, sections, instantiated, reserved };
+    }
+
+    section(row, i) {
+        if (row.bytes === null) {
+            return null;
+        }
+        const [address, total, unpacked, packed, offset, kind, share, alignment, reserved] = row.numbers;
+        return {
+            offset: this.offset + CONTAINER_HEADER + SECTION_HEADER * i,
+            name: row.name,
+            address,
+            total,
+            unpacked,
+            packed,
+            raw: this.offset + offset,
+            kind,
+            share,
+            alignment,
+            reserved,
+            slice: row.bytes,
+        };
+    }
+
+    readLoader() {
+        const rows = this.read("page_loader", 14);
+        if (rows.length === 0) {
+            return null;
+        }
+        const [main, mainOffset, init, initOffset, term, termOffset, libraries, imports, relocations, programs, strings, hash, power, exports] = rows[0].numbers;
+        return {
+            offset: this.place(rows[0].bytes),
+            length: rows[0].bytes.length,
+            entries: [entry(main, mainOffset), entry(init, initOffset), entry(term, termOffset)],
+            libraries,
+            imports,
+            relocations,
+            programs,
+            strings,
+            hash,
+            power,
+            exports,
+        };
+    }
+
+    library(row, i) {
+        const [current, oldImp, options, first, count] = row.numbers;
+        return { offset: this.loader.offset + LOADER_HEADER + LIBRARY * i, name: row.name, current, oldImp, options, first, count };
+    }
+
+    /** Returns where the imports begin. The relocation headers follow them. */
+    importsAt() {
+        return this.loader.offset + LOADER_HEADER + LIBRARY * this.loader.libraries;
+    }
+
+    import(row, i) {
+        const [kind, weak, library] = row.numbers;
+        return { offset: this.importsAt() + IMPORT * i, name: row.name, kind, weak: weak !== 0, library };
+    }
+
+    relocation(row, i) {
+        const [section, halfwords, first] = row.numbers;
+        return {
+            offset: this.importsAt() + IMPORT * this.loader.imports + RELOCATION * i,
+            section,
+            halfwords,
+            first,
+            slice: row.bytes,
+        };
+    }
+
+    export(row, i) {
+        const [kind, section, value] = row.numbers;
+        const table = this.loader.offset + this.loader.hash;
+        const slots = 2 ** this.loader.power;
+        return { offset: table + 4 * slots + 4 * this.loader.exports + EXPORT * i, name: row.name, kind, section: section | 0, value };
+    }
+
+    /** Finds all errors and notes, in the order of the rows that they are about. */
+    find() {
+        const errors = this.reader.table("page_errors", [this.slice], 7);
+        const notes = this.reader.table("page_notes", [this.slice], 7);
+        this.cut = errors.error !== 0 || notes.error !== 0;
+        const found = [...errors.rows, ...notes.rows].map((row) => this.finding(row));
+        found.push(...moreNotes(this, this.reader.bytes(this.slice)));
+        return found.sort((a, b) => a.rank - b.rank || a.row - b.row);
+    }
+
+    finding(row) {
+        const [number, part, index, field, offset, kind, detail] = row.numbers;
+        return {
+            number,
+            name: text.macRoman(row.name),
+            isError: number < FIRST_NOTE,
+            part: PARTS[part],
+            rank: ROW_PARTS[part] ?? part,
+            row: index,
+            field,
+            offset: offset === null ? null : this.offset + offset,
+            ...(kind === 1 ? { word: detail } : {}),
+            ...(kind === 2 ? { length: detail } : {}),
+        };
+    }
+
+    /** Returns the first additions of a relocation header's program as a table, or null if it isn't all there. */
+    fixups(relocation, rows) {
+        if (relocation.slice === null) {
+            return null;
+        }
+        const table = this.reader.table("page_fixups", [relocation.slice], 3, 0, { ...ALL, rows });
+        table.rows = table.rows.map(({ numbers: [offset, kind, number] }) => ({ offset, kind: kind === 1 ? "section" : "import", number }));
+        return table;
+    }
+
+    /** Returns the image of a section: its raw bytes, expanded if they are packed, or null if they can't be. */
+    image(section) {
+        if (section.kind !== 2) {
+            return section.slice;
+        }
+        return section.unpacked <= MOST_EXPANDED ? this.reader.expand(section.slice, section.unpacked) : null;
+    }
+}
+
+/** The largest image that the page expands. */
+const MOST_EXPANDED = 0x10000000;
+
+function entry(section, value) {
+    return { section: section | 0, value };
+}
+
+// JSON, by docs/INSPECT.md.
+
+/** Returns what is known of a file in the form of `pef inspect --json`. */
+export function fileObject(reader, file) {
+    reader.open(file.bytes);
+    const containers = [];
+    let budget = BUDGET + file.bytes.length;
+    let skipped = 0;
+    for (const place of file.places) {
+        const cost = costAt(file.bytes, place);
+        if (cost > budget) {
+            skipped += 1;
+        } else {
+            containers.push(containerObject(new Container(reader, place)));
+        }
+        budget = Math.max(budget - cost, 0);
+    }
+    return {
+        file: text.path(file.name),
+        size: file.bytes.length,
+        format: file.format,
+        forks: [],
+        fragments: [],
+        containers,
+        errors: [],
+        notes: skipped === 0 ? [] : [skippedObject(skipped)],
+    };
+}
+
+/** Returns what the inspection of the container at a place takes from the budget of its file. */
+export function costAt(bytes, place) {
+    const sections = bytes[place + 32] * 256 + bytes[place + 33];
+    return COST + CONTAINER_HEADER + SECTION_HEADER * sections;
+}
+
+function skippedObject(containers) {
+    return { number: 115, name: "ContainersUnverified", part: null, row: null, field: null, offset: null, containers };
+}
+
+export function containerObject(container) {
+    const [main, init, term] = container.loader === null ? [null, null, null] : container.loader.entries;
+    return {
+        offset: container.offset,
+        header: container.header === null ? null : headerObject(container.header),
+        sections: container.sections.map(sectionObject),
+        loader: container.loader === null ? null : loaderObject(container.loader),
+        libraries: container.libraries.map(libraryObject),
+        imports: container.imports.map(importObject),
+        relocations: container.relocations.map(({ offset, section, halfwords, first }) => ({ offset, section, halfwords, first })),
+        exports: container.exports.map(exportObject),
+        entries: {
+            main: entryObject(container, main, 0),
+            init: entryObject(container, init, 8),
+            term: entryObject(container, term, 16),
+        },
+        errors: container.findings.filter((it) => it.isError).map(findingObject),
+        notes: container.findings.filter((it) => !it.isError).map(findingObject),
+    };
+}
+
+function headerObject(header) {
+    return {
+        architecture: text.tag(header.architecture),
+        format_version: header.format,
+        current: header.current,
+        current_text: text.version(header.current),
+        olddef: header.oldDef,
+        olddef_text: text.version(header.oldDef),
+        oldimp: header.oldImp,
+        oldimp_text: text.version(header.oldImp),
+        date: header.date,
+        date_text: text.date(header.date),
+        sections: header.sections,
+        instantiated: header.instantiated,
+        reserved: header.reserved,
+    };
+}
+
+/** Returns the members of a name: its text, and its bytes if they aren't ASCII. */
+function named(name) {
+    if (name === null) {
+        return { name: null };
+    }
+    const members = { name: text.macRoman(name) };
+    if (name.some((byte) => byte >= 0x80)) {
+        members.name_hex = text.hexBytes(name);
+    }
+    return members;
+}
+
+function sectionObject(section) {
+    return {
+        offset: section.offset,
+        kind: section.kind,
+        share: section.share,
+        align: section.alignment,
+        total: section.total,
+        unpacked: section.unpacked,
+        packed: section.packed,
+        default: section.address,
+        raw: section.raw,
+        ...named(section.name),
+    };
+}
+
+function loaderObject(loader) {
+    const { offset, libraries, imports, relocations, programs, strings, hash, power, exports } = loader;
+    return { offset, libraries, imports, relocations, programs, strings, hash, power, exports };
+}
+
+function libraryObject(library) {
+    return {
+        offset: library.offset,
+        ...named(library.name),
+        current: library.current,
+        current_text: text.version(library.current),
+        oldimp: library.oldImp,
+        oldimp_text: text.version(library.oldImp),
+        options: library.options,
+        first: library.first,
+        count: library.count,
+    };
+}
+
+function importObject(it) {
+    return { offset: it.offset, ...named(it.name), library: it.library, class: it.kind, weak: it.weak };
+}
+
+function exportObject(it) {
+    return { offset: it.offset, ...named(it.name), class: it.kind, section: it.section, value: it.value };
+}
+
+function entryObject(container, entry, at) {
+    return entry === null || entry.section === -1 ? null : { offset: container.loader.offset + at, section: entry.section, value: entry.value };
+}
+
+/** The errors and notes that are about a container as a whole, and so about no field. */
+const WHOLE = [1, 10, 109, 113];
+
+function findingObject(finding) {
+    return {
+        number: finding.number,
+        name: finding.name,
+        part: finding.part,
+        row: finding.row,
+        field: WHOLE.includes(finding.number) ? null : finding.field,
+        offset: finding.offset,
+        ...(finding.word === undefined ? {} : { word: finding.word }),
+        ...(finding.length === undefined ? {} : { length: finding.length }),
+    };
+}
