@@ -21,7 +21,7 @@ use crate::options::Options;
 use crate::releasing::release;
 use crate::sections::Sections;
 use crate::users::{enter, leave, make_room, unshared_among};
-use cfm_closure::{Closure, Store, StoreFault, closure};
+use cfm_closure::{CachedStore, Closure, Store, StoreFault};
 use cfm_memory::MemoryFault;
 use pef_views::SectionHeader;
 use std::alloc::{AllocError, Global};
@@ -40,7 +40,7 @@ pub struct Connection(pub u32);
 pub struct Context<'a> {
     alloc: Global,
     options: Options,
-    store: Store<'a>,
+    store: CachedStore<'a>,
     connections: Connections<'a>,
     /// How many of them have a fragment in their closures, by its place in the store.
     users: Vec<usize>,
@@ -86,7 +86,7 @@ impl<'a> Context<'a> {
         Context {
             alloc,
             options,
-            store,
+            store: CachedStore::new(alloc, store),
             connections: Connections::new(alloc),
             users: Vec::new(alloc),
             fragments: Fragments::new(alloc, options.limit, options.granule),
@@ -170,7 +170,7 @@ impl<'a> Context<'a> {
     {
         make_room(&mut self.users, self.store.len())?;
         self.connections.reserve()?;
-        let closure = closure(self.alloc, &self.store, root)?;
+        let closure = self.store.closure(self.alloc, root)?;
         let placed = self.fragments.new_among(closure.init_order())?;
         self.fragments.test_bounds(&closure, &self.options)?;
         self.fragments.prepare(&closure)?;
@@ -312,7 +312,7 @@ impl<'a> Context<'a> {
     pub fn store(&self) -> &Store<'a>
         ensures { result.now ≡ self.now.pairs }
     {
-        &self.store
+        self.store.store()
     }
 
     /// Returns the address and the bytes of section `i` of the fragment in a place of the store. `None` if the

@@ -29,7 +29,7 @@ pub returns-in_err-closure-clause-refused : goal.returns-in_err-closure-clause-r
 returns-in_err-closure-clause-refused c = λ name is.
     let p = err_from_is_err_and c.from_residual-in_err-closure.result c.from_residual-in_err-closure.ensures.1 in
     let has : HasRoot c.args.self.now name = record { left = c.requires.left; root = c.args.root; is = is } in
-    let fails : FailsAs c.in_err-closure.field-0.0 (closed_of c.args.self.now.pairs c.args.root) = rw (← c.self.view_is) c.in_err-closure.ensures in
+    let fails : FailsAs c.in_err-closure.field-0.0 (closed_of c.args.self.now.pairs c.args.root) = rw (← c.self.view_is) c.in_err-closure.ensures.answer in
     rw (p.1, p.2) (has, fails)
 
 -- what was tested of a closure holds of the store
@@ -60,29 +60,29 @@ pub returns-in_err-test_bounds-clause-refused : goal.returns-in_err-test_bounds-
 returns-in_err-test_bounds-clause-refused c = λ name is.
     let p = err_from_is_err_and c.from_residual-in_err-test_bounds.result c.from_residual-in_err-test_bounds.ensures.1 in
     let closed = c.in_ok-closure.closure in
-    let of_store = closed-store c.self.inside.store c.args.root closed c.in_ok-closure.ensures in
+    let of_store = closed-store c.self.inside.store c.args.root closed c.in_ok-closure.ensures.answer in
     let Q : ContextState → Type 0 = λ s. place_of s.pairs name ≡ Some c.args.root in
     let R : ContextState → Type 0 = λ s. s.given < s.bounds.connections in
-    let why : MayNotPrepare c.args.self.now name c.in_err-test_bounds.field-0.0 = rw (← c.self.view_is) (past-of _ name (record { has = record { left = subst R (sym c.self.view_is) c.requires.left; root = c.args.root; is = subst Q (sym c.self.view_is) is }; closed = closed; is = c.in_ok-closure.ensures }) closed.pairs c.in_err-test_bounds.field-0.0 of_store c.in_err-test_bounds.ensures.refused) in
+    let why : MayNotPrepare c.args.self.now name c.in_err-test_bounds.field-0.0 = rw (← c.self.view_is) (past-of _ name (record { has = record { left = subst R (sym c.self.view_is) c.requires.left; root = c.args.root; is = subst Q (sym c.self.view_is) is }; closed = closed; is = c.in_ok-closure.ensures.answer }) closed.pairs c.in_err-test_bounds.field-0.0 of_store c.in_err-test_bounds.ensures.refused) in
     rw (p.1, p.2) why
 
 pub prepare-requires : goal.prepare-requires
 prepare-requires c =
     let closed = c.in_ok-closure.closure in
-    once-from-pairs closed.order (closed-complete c.self.inside.store c.args.root closed c.in_ok-closure.ensures).once
+    once-from-pairs closed.order (closed-complete c.self.inside.store c.args.root closed c.in_ok-closure.ensures.answer).once
 
 pub returns-in_err-prepare-clause-refused : goal.returns-in_err-prepare-clause-refused
 returns-in_err-prepare-clause-refused c = λ name is.
     let p = err_from_is_err_and c.from_residual-in_err-prepare.result c.from_residual-in_err-prepare.ensures.1 in
     let closed = c.in_ok-closure.closure in
-    let of_store = closed-store c.self.inside.store c.args.root closed c.in_ok-closure.ensures in
+    let of_store = closed-store c.self.inside.store c.args.root closed c.in_ok-closure.ensures.answer in
     let there = c.self.inside.fragments.present in
     let within = within-of c.self.inside.store closed.pairs there c.self.inside.fragments.memory c.self.inside.options closed.order of_store c.in_ok-test_bounds.ensures.bytes c.in_ok-test_bounds.ensures.steps in
     let P : List Pair → Type 0 = λ ps. MayNotPrepareNew ps there c.self.inside.fragments.memory (new_among there closed.order) c.in_err-prepare.field-0.0 in
     let Q : ContextState → Type 0 = λ s. place_of s.pairs name ≡ Some c.args.root in
     let R : ContextState → Type 0 = λ s. s.given < s.bounds.connections in
     let late : IsRefusedLate c.args.self.now name c.in_err-prepare.field-0.0 = rw (← c.self.view_is) (record {
-      closure = record { has = record { left = subst R (sym c.self.view_is) c.requires.left; root = c.args.root; is = subst Q (sym c.self.view_is) is }; closed = closed; is = c.in_ok-closure.ensures };
+      closure = record { has = record { left = subst R (sym c.self.view_is) c.requires.left; root = c.args.root; is = subst Q (sym c.self.view_is) is }; closed = closed; is = c.in_ok-closure.ensures.answer };
       within = record { bytes = within.0; steps = within.1 };
       why = subst P of_store c.in_err-prepare.ensures.refused;
     }) in
@@ -92,13 +92,13 @@ returns-in_err-prepare-clause-refused c = λ name is.
 pub enter-requires-clause-once : goal.enter-requires-clause-once
 enter-requires-clause-once c =
     let closed = c.in_ok-closure.closure in
-    subst IsOnce (sym c.order.ensures.order) (once-from-pairs closed.order (closed-complete c.self.inside.store c.args.root closed c.in_ok-closure.ensures).once)
+    subst IsOnce (sym c.order.ensures.order) (once-from-pairs closed.order (closed-complete c.self.inside.store c.args.root closed c.in_ok-closure.ensures.answer).once)
 
 pub enter-requires-clause-inside : goal.enter-requires-clause-inside
 enter-requires-clause-inside c = λ p there.
     let closed = c.in_ok-closure.closure in
     let here : has closed.order p ≡ true = ap (λ ps. has ps p) (sym c.order.ensures.order) ∙ there in
-    let member = (closed-complete c.self.inside.store c.args.root closed c.in_ok-closure.ensures).members p (has-contains closed.order p here) in
+    let member = (closed-complete c.self.inside.store c.args.root closed c.in_ok-closure.ensures.answer).members p (has-contains closed.order p here) in
     omega (arith, member.place, c.in_ok-make_room.ensures.room, c.len.ensures)
 
 pub enter-requires-clause-few : goal.enter-requires-clause-few
@@ -109,23 +109,23 @@ enter-requires-clause-few c = λ p.
 pub new-requires-clause-root : goal.new-requires-clause-root
 new-requires-clause-root c =
     let P : ContextState → Type 0 = λ s. c.args.root < length s.pairs in
-    ends-contains c.in_ok-closure.closure.order c.args.root (closed-root c.self.inside.store c.args.root c.in_ok-closure.closure (subst P (sym c.self.view_is) c.requires.root) c.in_ok-closure.ensures)
+    ends-contains c.in_ok-closure.closure.order c.args.root (closed-root c.self.inside.store c.args.root c.in_ok-closure.closure (subst P (sym c.self.view_is) c.requires.root) c.in_ok-closure.ensures.answer)
 
 pub new-requires-clause-once : goal.new-requires-clause-once
 new-requires-clause-once c =
     let closed = c.in_ok-closure.closure in
-    once-from-pairs closed.order (closed-complete c.self.inside.store c.args.root closed c.in_ok-closure.ensures).once
+    once-from-pairs closed.order (closed-complete c.self.inside.store c.args.root closed c.in_ok-closure.ensures.answer).once
 
 pub new-requires-clause-init : goal.new-requires-clause-init
 new-requires-clause-init c =
     let closed = c.in_ok-closure.closure in
-    of-closure c.self.inside.store c.args.root closed c.in_ok-closure.ensures
+    of-closure c.self.inside.store c.args.root closed c.in_ok-closure.ensures.answer
 
 pub returns-clause-prepared : goal.returns-clause-prepared
 returns-clause-prepared c = λ name is.
     let before = c.self.inside.connections in
     let closed = c.in_ok-closure.closure in
-    let of_store = closed-store c.self.inside.store c.args.root closed c.in_ok-closure.ensures in
+    let of_store = closed-store c.self.inside.store c.args.root closed c.in_ok-closure.ensures.answer in
     let number : c.given-number.result ≡ before.given = c.given-number.ensures ∙ c.in_ok-reserve.ensures.given in
     let o : Open = record { number = before.given; root = c.args.root; closed = closed; placed = new_among c.self.inside.fragments.present closed.init_order } in
     let placed : c.in_ok-placed.placed.items ≡ new_among c.self.inside.fragments.present closed.init_order = c.in_ok-placed.ensures ∙ ap (new_among c.self.inside.fragments.present) c.init_order.ensures in
@@ -138,13 +138,13 @@ returns-clause-prepared c = λ name is.
     let Q : ContextState → Type 0 = λ s. place_of s.pairs name ≡ Some c.args.root in
     let R : ContextState → Type 0 = λ s. s.given < s.bounds.connections in
     rw (← c.self.view_is) (record {
-      closure = record { has = record { left = subst R (sym c.self.view_is) c.requires.left; root = c.args.root; is = subst Q (sym c.self.view_is) is }; closed = closed; is = c.in_ok-closure.ensures };
+      closure = record { has = record { left = subst R (sym c.self.view_is) c.requires.left; root = c.args.root; is = subst Q (sym c.self.view_is) is }; closed = closed; is = c.in_ok-closure.ensures.answer };
       within = record { bytes = within.0; steps = within.1 };
       fresh = done.0;
       prepared = subst P of_store done.2;
       number = number;
       bounds = refl;
-      pairs = refl;
+      pairs = c.in_ok-closure.ensures.same;
       given = c.push.ensures.given ∙ ap (λ n. n + 1) c.in_ok-reserve.ensures.given;
       connections = c.push.ensures.items ∙ ap (λ (xs : List Open). xs ++ c.new.result ∷ []) c.in_ok-reserve.ensures.items ∙ ap (λ (x : Open). before.items ++ x ∷ []) made;
       present = done.1;
