@@ -1,20 +1,24 @@
 -- What is kept of a store stays right.
-use Rattle.std.proofs.Common.{◌≡◌, ℕ, ◌<◌, ◌≤◌, ◌-◌, List, [], ◌++◌, length, replicate, Option, None, Some, refl, sym, ap, subst, ◌∙◌, get_or, set, inl, inr, arith, Contains}
-use Rattle.std.specs.Prelude.{option_map, Result, Ok, Err, OnOk, OnErr}
+use Rattle.std.proofs.Common.{◌≡◌, ℕ, ◌+◌, ◌<◌, ◌≤◌, ◌-◌, List, [], ◌++◌, length, replicate, Option, None, Some, refl, sym, ap, subst, ◌∙◌, get_or, set, inl, inr, arith, Contains}
+use Rattle.std.specs.Prelude.{option_map, ◌⊎◌, IsSome, is_some, Result, Ok, Err, OnOk, OnErr}
+use Rattle.std.specs.Option.{option_and_then, option_map_or}
+use Rattle.std.specs.Result.{result_ok}
 use Rattle.std.proofs.lemmas.Bool.{cases_lt}
 use Rattle.std.proofs.lemmas.Bool.Decides.{eqb_tells}
-use Rattle.std.proofs.lemmas.List.{get_or-append_right, get_or-set_other, get_or-set_same, get_or_append_left, get_or_past, length-append, length-replicate, length_push}
+use Rattle.std.proofs.lemmas.List.{get_or-append_right, get_or-set_other, get_or-set_same, get_or_append_left, get_or_default, get_or_past, length-append, length-replicate, length-set, length_push}
 use Rattle.std.proofs.lemmas.List.Elements.{Contains-get_or}
-use Rattle.cfm_closure.specs.Additions.{with_pair}
-use Rattle.cfm_closure.specs.Stores.{Pair}
+use Rattle.pef_loader.specs.Loader.{Loaded, library_of}
+use Rattle.cfm_closure.specs.Additions.{MayBeAdded, NamesLibrary, with_pair}
+use Rattle.cfm_closure.specs.Stores.{Pair, place_of}
 use Rattle.cfm_closure.specs.declared.fragment.FragmentView.{FragmentView}
 use Rattle.cfm_closure.specs.Fragments.{Fragment}
-use Rattle.cfm_closure.specs.Kept.Caches.{AreCached, AreKeptRows, IsKeptRow}
+use Rattle.cfm_closure.specs.Kept.Caches.{AreCached, AreKeptRows, AreOfKept, IsKeptRow, IsOfKept, IsOrderOfClosure, KeepsFirst, NoneNames}
 use Rattle.cfm_closure.specs.Kept.Targets.{AreAllKnown, Row}
 use Rattle.cfm_closure.specs.Kept.Views.{AreRead, fragment_at}
 use Rattle.cfm_closure.specs.Orders.{IsComplete}
 use Rattle.cfm_closure.specs.Views.{fragment_seen}
-use Rattle.cfm_closure.proofs.AdditionLemmas.{fragment_of-with}
+use Rattle.cfm_closure.proofs.AdditionLemmas.{closed-with, fragment_of-with, target-with}
+use Rattle.cfm_closure.proofs.LeadLemmas.{led-target, target-led}
 use Rattle.cfm_closure.proofs.RowLemmas.{none-at}
 
 -- a fragment that a table has is in one of its places
@@ -25,14 +29,14 @@ fragment_at-below table p f here = elim (cases_lt p (length table)) [
 ]
 
 -- a table without places has no values
-none-in : {T : Type 0} (table : List (Option T)) (p : ℕ) (v : T) → table ≡ [] → get_or table p None ≡ Some v → ⊥
-none-in table p v none here =
-    let long : length table ≡ 0 = ap length none in
-    let e : None ≡ Some v = sym (get_or_past table p None (omega arith)) ∙ here in
-    absurd (cc)
+none-in : {T : Type 0} (table : List (Option T)) (p : ℕ) → table ≡ [] → get_or table p None ≡ None
+none-in table p none = let long : length table ≡ 0 = ap length none in get_or_past table p None (omega arith)
 
 rows-none : (pairs : List Pair) (rows : List (Option Row)) → rows ≡ [] → AreKeptRows pairs rows
-rows-none pairs rows none p row here = absurd (none-in rows p row none here)
+rows-none pairs rows none p row here = absurd (let e : None ≡ Some row = sym (none-in rows p none) ∙ here in cc)
+
+kept-none : (pairs : List Pair) (rows : List (Option Row)) → rows ≡ [] → AreOfKept pairs rows
+kept-none pairs rows none p some = absurd (let e = ap is_some (none-in rows p none) in cc)
 
 -- nothing is kept of a store at first
 pub cache_empty : (pairs : List Pair) (views : List (Option FragmentView)) (rows : List (Option Row)) → views ≡ [] → rows ≡ [] → AreCached pairs views rows
@@ -41,30 +45,28 @@ cache_empty pairs views rows none no_rows = record {
   read = λ p f here. absurd (let under = fragment_at-below views p f here in let e = ap length none in omega arith);
   few_rows = let e = ap length no_rows in omega arith;
   right = rows-none pairs rows no_rows;
+  closures = kept-none pairs rows no_rows;
 }
 
-module _ (pairs : List Pair) (views : List (Option FragmentView)) (rows : List (Option Row)) (is : AreCached pairs views rows) where
-  -- the fragments that were read stay what they are when a pair is added
-  pub cache_with : (n : Pair) (rows' : List (Option Row)) → rows' ≡ [] → AreCached (with_pair pairs n) views rows'
-  cache_with n rows' none = record {
-    few = let e = length_push pairs n in let few = is.few in omega arith;
-    read = λ p f here.
-        let under = fragment_at-below views p f here in
-        let few = is.few in
-        fragment_of-with pairs n p (omega arith) ∙ is.read p f here;
-    few_rows = let e = ap length none in omega arith;
-    right = rows-none (with_pair pairs n) rows' none;
-  }
+-- kept targets are all known
+pub rows_known : (pairs : List Pair) (rows : List (Option Row)) → AreKeptRows pairs rows → AreAllKnown rows
+rows_known pairs rows are p row here = (are p row here).known
 
-  -- .. also if it wasn't added
-  pub cache_added : {E : Type 0} (n : Pair) (rows' : List (Option Row)) (r : Result (Unit {0}) E) (new : List Pair) → rows' ≡ [] → OnOk r (new ≡ with_pair pairs n) → OnErr r (new ≡ pairs) → AreCached new views rows'
-  cache_added n rows' (Ok done) new none ok err = subst (λ (pairs : List Pair). AreCached pairs views rows') (sym ok) (cache_with n rows' none)
-  cache_added n rows' (Err e) new none ok err = subst (λ (pairs : List Pair). AreCached pairs views rows') (sym err) (record {
+-- a fragment that a store has more, or that it had
+some_is : {A : Type 0} (o : Option A) → IsSome o → (x : A) × (o ≡ Some x)
+some_is None some = absurd (cc)
+some_is (Some x) some = (x, refl)
+
+module _ (pairs : List Pair) (views : List (Option FragmentView)) (rows : List (Option Row)) (is : AreCached pairs views rows) where
+  -- no targets are kept
+  pub cache_forgotten : (rows' : List (Option Row)) → rows' ≡ [] → AreCached pairs views rows'
+  cache_forgotten rows' none = record {
     few = is.few;
     read = is.read;
     few_rows = let e = ap length none in omega arith;
     right = rows-none pairs rows' none;
-  })
+    closures = kept-none pairs rows' none;
+  }
 
   -- the fragments that a walk read are some of the store
   pub cache_of : (views' : List (Option FragmentView)) (rows' : List (Option Row)) → length views' ≡ length pairs → AreRead pairs views' → rows' ≡ rows → AreCached pairs views' rows'
@@ -73,18 +75,118 @@ module _ (pairs : List Pair) (views : List (Option FragmentView)) (rows : List (
     read = read;
     few_rows = subst (λ (rows : List (Option Row)). length rows ≤ length pairs) (sym same) is.few_rows;
     right = subst (AreKeptRows pairs) (sym same) is.right;
+    closures = subst (AreOfKept pairs) (sym same) is.closures;
   }
 
-  -- other rows of the same fragments
-  pub cache_kept : (rows' : List (Option Row)) → length rows' ≡ length pairs → AreKeptRows pairs rows' → AreCached pairs views rows'
-  cache_kept rows' size right = record { few = is.few; read = is.read; few_rows = omega arith; right = right }
+  -- the rows of a closure come to those that are kept
+  pub cache_more : (order : List ℕ) (rows' : List (Option Row)) → IsOrderOfClosure pairs order → KeepsFirst pairs order (length order) rows rows' → AreCached pairs views rows'
+  cache_more order rows' of keeps = record {
+    few = is.few;
+    read = is.read;
+    few_rows = let e = keeps.size in omega arith;
+    right = keeps.right;
+    closures = λ p some. elim (keeps.only p some) [
+      | inl was ↦ (
+          let o = is.closures p was in
+          record { root = o.root; inside = o.inside; closure = o.closure; is = o.is; member = o.member; all = λ q there. keeps.still q (o.all q there) })
+      | inr there ↦ record {
+        root = of.root;
+        inside = of.inside;
+        closure = of.closure;
+        is = of.is;
+        member = subst (λ order. Contains order p) (sym of.same) there;
+        all = λ q member. kept q (subst (λ order. Contains order q) of.same member);
+      }
+    ];
+  }
+    where
+      kept : (q : ℕ) → Contains order q → IsSome (get_or rows' q None)
+      kept q there = subst (λ q. IsSome (get_or rows' q None)) (get_or_default order there.0 0 q there.1 ∙ there.2) (keeps.all there.0 there.1)
+
+  module _ (n : Pair) where
+    read-with : AreRead (with_pair pairs n) views
+    read-with p f here =
+        let under = fragment_at-below views p f here in
+        let few = is.few in
+        fragment_of-with pairs n p (omega arith) ∙ is.read p f here
+
+    -- without targets, the fragments that were read stay what they are when a pair is added
+    pub cache_with : (rows' : List (Option Row)) → rows' ≡ [] → AreCached (with_pair pairs n) views rows'
+    cache_with rows' none = record {
+      few = let e = length_push pairs n in let few = is.few in omega arith;
+      read = read-with;
+      few_rows = let e = ap length none in omega arith;
+      right = rows-none (with_pair pairs n) rows' none;
+      closures = kept-none (with_pair pairs n) rows' none;
+    }
+
+    -- the targets do too, if the store has the name, or no fragment that is kept has a library entry with it
+    module _ (may : IsSome (place_of pairs n.name) ⊎ NoneNames pairs rows n.name) where
+      may-be : (p : ℕ) (o : IsOfKept pairs rows p) → MayBeAdded pairs o.closure.order n.name
+      may-be p o = elim may [
+        | inl has ↦ inl has
+        | inr none ↦ inr (λ (names : NamesLibrary pairs o.closure.order n.name). none names.fragment (o.all names.fragment names.member) names.index names.library (ap (option_and_then (λ x. library_of x names.index)) names.read ∙ names.entry) names.named)
+      ]
+
+      kept-with : AreOfKept (with_pair pairs n) rows
+      kept-with p some =
+          let o = is.closures p some in
+          record {
+            root = o.root;
+            inside = let e = length_push pairs n in let inside = o.inside in omega arith;
+            closure = record { pairs = with_pair pairs n; order = o.closure.order; init_order = o.closure.init_order };
+            is = closed-with pairs n o.root o.closure o.inside o.is (may-be p o);
+            member = o.member;
+            all = o.all;
+          }
+
+      right-with : AreKeptRows (with_pair pairs n) rows
+      right-with p row here =
+          let o = is.closures p (ap is_some here) in
+          let k = is.right p row here in
+          let inside = p-below p row here in
+          record {
+            count = k.count ∙ sym (ap (λ r. option_map_or (λ (l : Loaded). l.header.import_count) (option_map (λ (f : Fragment). f.loader) (result_ok r)) 0) (fragment_of-with pairs n p inside));
+            known = k.known;
+            right = λ j t known.
+                led-target (with_pair pairs n) p j t
+                (target-with pairs n o.root o.closure o.inside o.is (may-be p o) p j o.member ∙ target-led pairs p j (Ok t) (k.right j t known));
+          }
+        where
+          p-below : (p : ℕ) (row : Row) → get_or rows p None ≡ Some row → p < length pairs
+          p-below p row here = elim (cases_lt p (length rows)) [
+            | inl under ↦ (let few = is.few_rows in omega arith)
+            | inr past ↦ absurd (let e : None ≡ Some row = sym (get_or_past rows p None past) ∙ here in cc)
+          ]
+
+      pub cache_stays : AreCached (with_pair pairs n) views rows
+      cache_stays = record {
+        few = let e = length_push pairs n in let few = is.few in omega arith;
+        read = read-with;
+        few_rows = let e = length_push pairs n in let few = is.few_rows in omega arith;
+        right = right-with;
+        closures = kept-with;
+      }
+
+-- with the pair, and if it wasn't added
+pub cache_added : {E : Type 0} (pairs : List Pair) (n : Pair) (views : List (Option FragmentView)) (rows : List (Option Row)) (r : Result (Unit {0}) E) (new : List Pair) → OnOk r (new ≡ with_pair pairs n) → OnErr r (new ≡ pairs) → AreCached (with_pair pairs n) views rows → AreCached pairs views rows
+    → AreCached new views rows
+cache_added pairs n views rows (Ok done) new ok err with without = subst (λ (pairs : List Pair). AreCached pairs views rows) (sym ok) with
+cache_added pairs n views rows (Err e) new ok err with without = subst (λ (pairs : List Pair). AreCached pairs views rows) (sym err) without
 
 -- a table that grew has as many places as the store
-pub rows_size : (rows : List (Option Row)) (n places : ℕ) → length rows ≤ n → places ≡ n → length (rows ++ replicate (places - length rows) None) ≡ n
+rows_size : (rows : List (Option Row)) (n places : ℕ) → length rows ≤ n → places ≡ n → length (rows ++ replicate (places - length rows) None) ≡ n
 rows_size rows n places few is =
     let both = length-append rows (replicate (places - length rows) None) in
     let more : length (replicate {A = Option Row} (places - length rows) None) ≡ places - length rows = length-replicate (places - length rows) None in
     omega arith
+
+-- and the same values
+grown-at : (rows : List (Option Row)) (k p : ℕ) → get_or (rows ++ replicate k None) p None ≡ get_or rows p None
+grown-at rows k p = elim (cases_lt p (length rows)) [
+  | inl under ↦ get_or_append_left rows (replicate k None) None p under
+  | inr past ↦ get_or-append_right rows (replicate k None) (length rows) p None refl past ∙ none-at {T = Row} k (p - length rows) ∙ sym (get_or_past rows p None past)
+]
 
 -- a fragment of an order has a place in it
 pub order_below : (pairs : List Pair) (order ps : List ℕ) (i places : ℕ) → IsComplete pairs order → ps ≡ order → i < length ps → places ≡ length pairs → get_or ps i 0 < places
@@ -93,28 +195,50 @@ order_below pairs order ps i places complete same under is =
     let place = (complete.members (get_or ps i 0) there).place in
     omega arith
 
-module _ (pairs : List Pair) (rows : List (Option Row)) (are : AreKeptRows pairs rows) where
-  -- kept targets are all known
-  pub rows_known : AreAllKnown rows
-  rows_known p row here = (are p row here).known
+module _ (pairs : List Pair) (order : List ℕ) where
+  -- at first no row of the order is kept
+  pub keeps_start : (rows : List (Option Row)) (places : ℕ) → length rows ≤ length pairs → places ≡ length pairs → AreKeptRows pairs rows → KeepsFirst pairs order 0 rows (rows ++ replicate (places - length rows) None)
+  keeps_start rows places few is are = record {
+    size = rows_size rows (length pairs) places few is;
+    right = λ p row here. are p row (sym (grown-at rows (places - length rows) p) ∙ here);
+    still = λ q some. ap is_some (grown-at rows (places - length rows) q) ∙ some;
+    all = λ k under. absurd (omega arith);
+    only = λ q some. inl (sym (ap is_some (grown-at rows (places - length rows) q)) ∙ some);
+  }
 
-  -- one more row
-  pub rows_put : (p : ℕ) (row : Row) → p < length rows → IsKeptRow pairs p row → AreKeptRows pairs (set rows p (Some row))
-  rows_put p row inside is q row' here = elim (eqb_tells q p) [
-    | inl same ↦ (
-        let P : ℕ → Type 0 = λ q. get_or (set rows p (Some row)) q None ≡ Some row' in
-        let Q : ℕ → Type 0 = λ q. IsKeptRow pairs q row' in
-        let e : Some row ≡ Some row' = sym (get_or-set_same rows p (Some row) None inside) ∙ subst P same.1 here in
-        let f : row ≡ row' = cc in
-        subst Q (sym same.1) (subst (IsKeptRow pairs p) f is))
-    | inr other ↦ are q row' (sym (get_or-set_other rows p q (Some row) None other.1) ∙ here)
-  ]
+  -- then one row more
+  module _ (n : ℕ) (old rows : List (Option Row)) (keeps : KeepsFirst pairs order n old rows) (p : ℕ) (row : Row) (under : n < length order) (at : get_or order n 0 ≡ p) (inside : p < length rows) (is : IsKeptRow pairs p row) where
+    here-now : get_or (set rows p (Some row)) p None ≡ Some row
+    here-now = get_or-set_same rows p (Some row) None inside
 
-  -- more places
-  pub rows_grown : (k : ℕ) → AreKeptRows pairs (rows ++ replicate k None)
-  rows_grown k p row here = elim (cases_lt p (length rows)) [
-    | inl under ↦ are p row (sym (get_or_append_left rows (replicate k None) None p under) ∙ here)
-    | inr past ↦ absurd (
-        let e : None ≡ Some row = sym (get_or-append_right rows (replicate k None) (length rows) p None refl past ∙ none-at {T = Row} k (p - length rows)) ∙ here in
-        cc)
-  ]
+    some-now : (q : ℕ) → IsSome (get_or rows q None) → IsSome (get_or (set rows p (Some row)) q None)
+    some-now q some = elim (eqb_tells q p) [
+      | inl same ↦ subst (λ q. IsSome (get_or (set rows p (Some row)) q None)) (sym same.1) (ap is_some here-now)
+      | inr other ↦ ap is_some (get_or-set_other rows p q (Some row) None other.1) ∙ some
+    ]
+
+    pub keeps_more_rows : KeepsFirst pairs order (n + 1) old (set rows p (Some row))
+    keeps_more_rows = record {
+      size = length-set rows p (Some row) ∙ keeps.size;
+      right = λ q row' here. elim (eqb_tells q p) [
+        | inl same ↦ (
+            let P : ℕ → Type 0 = λ q. get_or (set rows p (Some row)) q None ≡ Some row' in
+            let Q : ℕ → Type 0 = λ q. IsKeptRow pairs q row' in
+            let e : Some row ≡ Some row' = sym here-now ∙ subst P same.1 here in
+            let f : row ≡ row' = cc in
+            subst Q (sym same.1) (subst (IsKeptRow pairs p) f is))
+        | inr other ↦ keeps.right q row' (sym (get_or-set_other rows p q (Some row) None other.1) ∙ here)
+      ];
+      still = λ q some. some-now q (keeps.still q some);
+      all = λ k below. elim (eqb_tells k n) [
+        | inl same ↦ (
+            let P : ℕ → Type 0 = λ k. IsSome (get_or (set rows p (Some row)) (get_or order k 0) None) in
+            let Q : ℕ → Type 0 = λ p'. IsSome (get_or (set rows p (Some row)) p' None) in
+            subst P (sym same.1) (subst Q (sym at) (ap is_some here-now)))
+        | inr other ↦ (let apart = other.1 in some-now (get_or order k 0) (keeps.all k (omega arith)))
+      ];
+      only = λ q some. elim (eqb_tells q p) [
+        | inl same ↦ inr (subst (Contains order) (at ∙ sym same.1) (Contains-get_or order n 0 under))
+        | inr other ↦ keeps.only q (sym (ap is_some (get_or-set_other rows p q (Some row) None other.1)) ∙ some)
+      ];
+    }

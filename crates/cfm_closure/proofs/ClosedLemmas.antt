@@ -39,6 +39,14 @@ is_closed pairs root c is =
     let same = same_ok (Ok whole) whole c refl d.leads in
     subst (IsClosed pairs root) same (record { store = refl; order = a.is; passes = b.0; init_order = d.is })
 
+-- the parts of a closure make it
+pub closed-made : (pairs : List Pair) (root : ℕ) (order init_order : List ℕ) → order_of pairs root ≡ Ok order → first_refused pairs order ≡ None → init_order_of pairs order ≡ Ok init_order → closed_of pairs root ≡ Ok (record { pairs = pairs; order = order; init_order = init_order })
+unfolding closed_of
+closed-made pairs root order init_order walked passes taken =
+    ap (λ r. r >>= (λ order. unless (first_refused pairs order) (init_order_of pairs order >>= (λ init_order. Ok (record { pairs = pairs; order = order; init_order = init_order }))))) walked
+    ∙ ap (λ o. unless o (init_order_of pairs order >>= (λ init_order. Ok (record { pairs = pairs; order = order; init_order = init_order })))) passes
+    ∙ ap (λ r. r >>= (λ init_order. Ok (record { pairs = pairs; order = order; init_order = init_order }))) taken
+
 pub closed-order : (pairs : List Pair) (root : ℕ) (c : Closed) → closed_of pairs root ≡ Ok c → order_of pairs root ≡ Ok c.order
 closed-order pairs root c is = (is_closed pairs root c is).order
 

@@ -1,6 +1,7 @@
 -- Definitions for private contracts and proofs. No public clause cites them.
 pub mod Bindings
 pub mod Caches
+pub mod Entries
 pub mod Found
 pub mod Hops
 pub mod Imports

@@ -1,7 +1,13 @@
-ghost use Rattle.std.specs.Prelude.{◌≡◌, [], length, IfOk};
-ghost use Rattle.cfm_closure.specs.Kept.Caches.{IsCache};
+ghost use Rattle.std.specs.Prelude.{◌≡◌, ◌≢◌, ◌≤◌, ℕ, List, [], false, length, IfOk, OnOk, Some};
+ghost use Rattle.std.specs.Option.{option_and_then};
+ghost use Rattle.pef_loader.specs.Library.{Library};
+ghost use Rattle.pef_loader.specs.Loader.{library_of};
+ghost use Rattle.cfm_closure.specs.Additions.{with_pair};
+ghost use Rattle.cfm_closure.specs.Fragments.{loader_at};
+ghost use Rattle.cfm_closure.specs.Kept.Caches.{AreKeptRows, IsCache, IsOrderOfClosure, KeepsFirst, NoneNames};
 ghost use Rattle.cfm_closure.specs.Kept.Targets.{AreResolved};
 ghost use Rattle.cfm_closure.specs.Kept.Views.{AreRead};
+ghost use Rattle.cfm_closure.specs.Stores.{Pair};
 
 use crate::bindings::Bindings;
 use crate::fragment::FragmentView;
@@ -58,11 +64,34 @@ impl<'a> Cache<'a> {
     }
 
     /// Keeps the targets of a closure's fragments, which are all known.
+    ///
+    /// # Errors
+    ///
+    /// `AllocError` if an allocation fails. No targets are kept then.
     pub fn keep_targets(&mut self, bindings: &mut Bindings<'a>) -> Result<(), AllocError>
         requires resolved { AreResolved bindings.old }
+        requires closure { IsOrderOfClosure bindings.old.pairs bindings.old.order }
         requires cache { IsCache bindings.old.pairs self.old }
         ensures same { bindings.new ≡ bindings.old }
         ensures cache { IsCache bindings.old.pairs self.new }
+    {
+        match self.keep_rows(bindings) {
+            Ok(()) => Ok(()),
+            Err(error) => {
+                self.forget_targets();
+                Err(error)
+            }
+        }
+    }
+
+    /// Keeps the targets of a closure's fragments. If an allocation fails, those of some.
+    fn keep_rows(&mut self, bindings: &mut Bindings<'a>) -> Result<(), AllocError>
+        requires resolved { AreResolved bindings.old }
+        requires few { length self.old.rows ≤ length bindings.old.pairs }
+        requires right { AreKeptRows bindings.old.pairs self.old.rows }
+        ensures same { bindings.new ≡ bindings.old }
+        ensures views { self.new.views ≡ self.old.views }
+        ensures rows { OnOk result (KeepsFirst bindings.old.pairs bindings.old.order (length bindings.old.order) self.old.rows self.new.rows) }
     {
         self.rows.grow(bindings.places())?;
         for i in 0..bindings.order().len() {
@@ -73,8 +102,42 @@ impl<'a> Cache<'a> {
         Ok(())
     }
 
-    /// Drops all targets, which a new pair may change.
-    pub fn forget_targets(&mut self)
+    /// Drops the targets that a new pair with a name may change.
+    pub fn forget_changed(&mut self, store: &Store<'a>, name: &[u8])
+        requires { IsCache store.now self.old }
+        ensures without { IsCache store.now self.new }
+        ensures with { (bytes : List ℕ) → IsCache (with_pair store.now (record { name = name.now; bytes = bytes })) self.new }
+    {
+        if store.find(name).is_none() && self.names_library(name) {
+            self.forget_targets();
+        }
+    }
+
+    /// Returns whether a fragment whose targets are kept has a library entry with a name. If such a fragment was read,
+    /// but isn't kept, the answer is yes.
+    fn names_library(&self, name: &[u8]) -> bool
+        ensures { result ≡ false → (pairs : List Pair) → AreRead pairs self.now.views → NoneNames pairs self.now.rows name.now }
+    {
+        for p in 0..self.rows.len() {
+            if self.rows.get(p).is_some() && self.may_name(p, name) {
+                return true;
+            }
+        }
+        false
+    }
+
+    /// Returns whether the fragment in a place has a library entry with a name, or isn't kept.
+    fn may_name(&self, p: usize, name: &[u8]) -> bool
+        ensures { result ≡ false → (pairs : List Pair) → AreRead pairs self.now.views → (l : ℕ) (library : Library) → option_and_then (λ x. library_of x l) (loader_at pairs p) ≡ Some library → library.name ≢ name.now }
+    {
+        match self.views.get(p) {
+            Some(view) => view.names_library(name),
+            None => true,
+        }
+    }
+
+    /// Drops all targets.
+    fn forget_targets(&mut self)
         ensures views { self.new.views ≡ self.old.views }
         ensures rows { self.new.rows ≡ [] }
     {

@@ -15,7 +15,8 @@ use std::alloc::Global;
 use std::fmt;
 use std::marker::Model;
 
-/// A store that keeps what its closures read, so that a fragment of several closures is read once.
+/// A store that keeps what its closures read and resolved. A fragment of several closures is read once, and its imports
+/// are resolved once.
 ///
 /// Its closures are those of the [`Store`]. Only their cost differs.
 #[derive(Drop)]
@@ -63,7 +64,8 @@ impl<'a> CachedStore<'a> {
         &self.store
     }
 
-    /// Appends a pair, as [`Store::add`] does. What was read stays.
+    /// Appends a pair, as [`Store::add`] does. What was read stays. So do the targets that were found, unless the pair may
+    /// change them: if a fragment of a closure has a library entry with its name, which the store lacked.
     ///
     /// # Errors
     ///
@@ -73,7 +75,7 @@ impl<'a> CachedStore<'a> {
         ensures ok { OnOk result (self.new ≡ self.old ++ (record { name = name.now; bytes = bytes.now }) ∷ []) }
         ensures err { OnErr result (self.new ≡ self.old) }
     {
-        self.cache.forget_targets();
+        self.cache.forget_changed(&self.store, name);
         self.store.add(name, bytes)
     }
 

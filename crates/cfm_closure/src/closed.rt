@@ -137,14 +137,6 @@ impl<'a> Closure<'a> {
         ensures yes { result ≡ true → NamesLibrary self.now.pairs self.now.order name.now }
         ensures no { result ≡ false → (l : ℕ) (library : Library) → option_and_then (λ x. library_of x l) (loader_at self.now.pairs p) ≡ Some library → library.name ≢ name.now }
     {
-        let loader = self.bindings.fragment(p).loader;
-        for l in 0..loader.libraries() {
-            if let Some(library) = loader.library(l) {
-                if library.name == name {
-                    return true;
-                }
-            }
-        }
-        false
+        self.bindings.fragment(p).names_library(name)
     }
 }

@@ -1,7 +1,11 @@
-ghost use Rattle.std.specs.Prelude.{◌≡◌, ◌<◌, ◌≤◌, length, IfOk, Some};
+ghost use Rattle.std.specs.Prelude.{◌≡◌, ◌≢◌, ◌<◌, ◌≤◌, ℕ, true, false, length, IfOk, Some};
+ghost use Rattle.pef_loader.specs.Library.{Library};
+ghost use Rattle.pef_loader.specs.Loader.{library_of};
+ghost use Rattle.pef_loader.specs.Views.{loaded};
 ghost use Rattle.pef_format.specs.declared.place.Part.TheVariants.{Import as ImportPart, Library as LibraryPart};
 ghost use Rattle.cfm_closure.specs.Faults.{Answers};
 ghost use Rattle.cfm_closure.specs.Fragments.{fragment_of, part_place};
+ghost use Rattle.cfm_closure.specs.Kept.Entries.{HasEntry};
 ghost use Rattle.cfm_closure.specs.Kept.Views.{AreKept, AreRead, fragment_at};
 ghost use Rattle.cfm_closure.specs.Views.{fragment_seen};
 
@@ -56,6 +60,21 @@ impl<'a> FragmentView<'a> {
                 place: fault.place(&container),
             }),
         }
+    }
+
+    /// Returns whether it has a library entry with a name.
+    pub fn names_library(&self, name: &[u8]) -> bool
+        ensures yes { result ≡ true → HasEntry (loaded self.now.loader) name.now }
+        ensures no { result ≡ false → (l : ℕ) (library : Library) → library_of (loaded self.now.loader) l ≡ Some library → library.name ≢ name.now }
+    {
+        for l in 0..self.loader.libraries() {
+            if let Some(library) = self.loader.library(l) {
+                if library.name == name {
+                    return true;
+                }
+            }
+        }
+        false
     }
 
     /// Returns the place of a field of library entry `l`.

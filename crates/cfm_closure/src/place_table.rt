@@ -69,6 +69,13 @@ impl<T: Drop> PlaceTable<T> {
         Ok(())
     }
 
+    /// Returns how many places there are.
+    pub fn len(&self) -> usize
+        ensures { result ≡ length self.now }
+    {
+        self.numbers.len()
+    }
+
     /// Returns the value at place `p`, or `None` if there is none.
     pub fn get(&self, p: usize) -> Option<&T>
         ensures { option_copied result ≡ slice_index_or self.now p None }

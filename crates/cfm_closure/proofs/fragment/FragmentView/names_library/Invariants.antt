@@ -3,7 +3,7 @@ use Rattle.std.proofs.Common.{◌≡◌, ◌≢◌, ◌<◌, ℕ, Some}
 use Rattle.pef_loader.specs.Library.{Library}
 use Rattle.pef_loader.specs.Loader.{library_of}
 use Rattle.pef_loader.specs.Views.{loaded}
-use Rattle.cfm_closure.proofs.closed.Closure.fragment_names.Given as goal
+use Rattle.cfm_closure.proofs.fragment.FragmentView.names_library.Given as goal
 
 abbrev pub invariant-loop-l : goal.invariant-loop-l
-invariant-loop-l l = (k : ℕ) → k < l.l → (library : Library) → library_of (loaded l.loader) k ≡ Some library → library.name ≢ l.name
+invariant-loop-l l = (k : ℕ) → k < l.l → (library : Library) → library_of (loaded l.self.loader) k ≡ Some library → library.name ≢ l.name
