@@ -21,7 +21,7 @@ use crate::library::{library_table, read_library};
 use crate::names::names_end;
 use crate::owners::Owners;
 use crate::place::partial_place;
-use crate::ranges::are_in_order;
+use crate::ranges::are_whole_and_in_order;
 use crate::reloc::{instructions, read_reloc, reloc_table};
 use crate::tables::entry_table;
 use pef_format::layout::{
@@ -134,7 +134,7 @@ impl<'a> PartialLoader<'a> {
             container: *container,
             tables,
             names_end: names_end(cut),
-            in_order: are_in_order(tables),
+            in_order: are_whole_and_in_order(tables),
             exports: exports_in(tables),
         })
     }

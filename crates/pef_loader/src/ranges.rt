@@ -52,3 +52,11 @@ pub(crate) fn are_in_order(tables: LoaderTables<'_>) -> bool
     }
     true
 }
+
+/// Returns whether all libraries are in the loader section, and in order. No more of them are looked at than the section has
+/// bytes for, whatever their number is said to be.
+pub(crate) fn are_whole_and_in_order(tables: LoaderTables<'_>) -> bool
+    ensures { IsTrue result → AreInOrder tables.entry.cut.bytes.now tables.entry.header.library_count }
+{
+    tables.header.import(0) <= tables.cut.len() && are_in_order(tables)
+}
