@@ -1,5 +1,5 @@
 -- The rows of a container that may be damaged.
-use Rattle.std.specs.Prelude.{ℕ, List, [], ◌∷◌, Option, None, Some, Result, Ok, Err, option_map}
+use Rattle.std.specs.Prelude.{ℕ, List, [], ◌∷◌, Option, None, Some, Result, Ok, Err}
 use Rattle.pef_views.specs.Container.{Contained}
 use Rattle.pef_views.specs.Faults.{fault_number}
 use Rattle.pef_views.specs.Partial.{header_in, name_of_section, partial_of}
