@@ -214,7 +214,7 @@ export class ContainerView {
             return "none";
         }
         const found = this.container.libraries[library];
-        return found === undefined ? `library ${library}` : name(found.name);
+        return found === undefined || found.name === null ? `library ${library}` : name(found.name);
     }
 
     exports() {

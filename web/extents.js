@@ -34,7 +34,8 @@ export function moreNotes(container, bytes) {
     return notes;
 }
 
-function isPadding(gap) {
+/** Returns whether bytes between two parts only align the second one. */
+export function isPadding(gap) {
     return gap.length < ALIGNED && gap.every((byte) => byte === 0);
 }
 
@@ -60,9 +61,14 @@ function extents(container, bytes) {
     return found.sort((a, b) => a.from - b.from || a.to - b.to || (a.section ?? -1) - (b.section ?? -1));
 }
 
+/** Returns where the section headers end, and the section name table may begin. */
+export function namesStart(container) {
+    return CONTAINER_HEADER + SECTION_HEADER * container.header.sections;
+}
+
 /** Returns where the section name table ends: after the name that begins last. */
-function namesEnd(container, bytes) {
-    const start = CONTAINER_HEADER + SECTION_HEADER * container.header.sections;
+export function namesEnd(container, bytes) {
+    const start = namesStart(container);
     const view = new DataView(bytes.buffer, bytes.byteOffset, bytes.byteLength);
     let last = -1;
     container.sections.forEach((section) => {

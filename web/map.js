@@ -1,5 +1,6 @@
 // A map of a container: which bytes of the file are which part, with the errors marked.
 import { el, svg } from "./dom.js";
+import { isPadding, namesEnd, namesStart } from "./extents.js";
 import { DataTable } from "./table.js";
 import { at } from "./text.js";
 
@@ -15,19 +16,25 @@ export function partsOf(container) {
     const { sections, loader, offset } = container;
     const end = offset + container.slice.length;
     const found = [];
+    const bytes = container.reader.bytes(container.slice);
     if (container.header !== null) {
-        found.push(part("container header", "header", offset, 40, null));
+        found.push(part("container header", "header", offset, 40));
+        const names = namesStart(container);
+        const past = namesEnd(container, bytes);
+        if (past > names) {
+            found.push(part("section names", "header", offset + names, past - names));
+        }
     }
     sections.forEach((section, i) => {
-        found.push(part(`section header ${i}`, "header", section.offset, 28, { table: "Sections", row: i }));
+        found.push(part(`section header ${i}`, "header", section.offset, 28));
         if (section.packed > 0 && section.raw < end) {
             const kind = loader !== null && section.raw === loader.offset ? "loader" : "section";
             const length = Math.min(section.packed, end - section.raw);
-            found.push(part(kind === "loader" ? `section ${i}, loader` : `section ${i}`, kind, section.raw, length, { table: "Sections", row: i }));
+            found.push(part(kind === "loader" ? `section ${i}, loader` : `section ${i}`, kind, section.raw, length));
         }
     });
     found.sort((a, b) => a.from - b.from || b.to - a.to);
-    return withGaps(found, offset, end);
+    return withGaps(found, offset, end, bytes);
 }
 
 /** Returns the parts of a loader section. */
@@ -39,6 +46,7 @@ export function loaderParts(container) {
     const imports = 56 + 24 * loader.libraries;
     const relocations = imports + 4 * loader.imports;
     const programs = loader.programs;
+    const programsEnd = Math.max(programs, ...container.relocations.slice(0, 1000).map((it) => programs + it.first + 2 * it.halfwords));
     const slots = 4 * 2 ** Math.min(loader.power, 30);
     const exports = loader.hash + slots + 4 * loader.exports;
     const all = [
@@ -46,33 +54,34 @@ export function loaderParts(container) {
         ["libraries", 56, imports],
         ["imports", imports, relocations],
         ["relocation headers", relocations, relocations + 12 * loader.relocations],
-        ["relocation programs", programs, Math.max(programs, loader.strings)],
+        ["relocation programs", programs, programsEnd],
         ["strings", loader.strings, Math.max(loader.strings, loader.hash)],
         ["export hash slots", loader.hash, loader.hash + slots],
         ["export keys", loader.hash + slots, exports],
         ["exports", exports, exports + 10 * loader.exports],
     ];
-    const found = all.map(([name, from, to]) => part(name, "loader", loader.offset + from, Math.max(0, Math.min(to, loader.length) - from), null));
+    const found = all.map(([name, from, to]) => part(name, "loader", loader.offset + from, Math.max(0, Math.min(to, loader.length) - from)));
     return found.filter((it) => it.to > it.from).sort((a, b) => a.from - b.from);
 }
 
-function part(name, kind, from, length, row) {
-    return { name, kind, from, to: from + length, row };
+function part(name, kind, from, length) {
+    return { name, kind, from, to: from + length };
 }
 
 /** Adds the bytes that no part has. */
-function withGaps(parts, from, end) {
+function withGaps(parts, from, end, bytes) {
     const all = [];
     let reached = from;
     for (const it of parts) {
         if (it.from > reached) {
-            all.push(part("bytes of no part", "gap", reached, it.from - reached, null));
+            const padding = isPadding(bytes.subarray(reached - from, it.from - from));
+            all.push(part(padding ? "alignment" : "bytes of no part", "gap", reached, it.from - reached));
         }
         all.push(it);
         reached = Math.max(reached, it.to);
     }
     if (reached < end) {
-        all.push(part("bytes of no part", "gap", reached, end - reached, null));
+        all.push(part("bytes of no part", "gap", reached, end - reached));
     }
     return all;
 }
@@ -96,7 +105,7 @@ export function mapOf(container, go) {
 
 /** Returns what the colors of the bars mean. */
 function legend() {
-    const colors = { header: "headers", section: "sections", loader: "loader section", gap: "bytes of no part", error: "an error" };
+    const colors = { header: "headers", section: "sections", loader: "loader section", gap: "bytes of no part, or that align", error: "an error" };
     const items = Object.entries(colors).map(([kind, label]) => el("li", {}, svg("svg", { viewBox: "0 0 10 10", "aria-hidden": "true" }, svg("rect", { width: 10, height: 10, class: kind })), label));
     return el("ul", { class: "legend" }, ...items);
 }

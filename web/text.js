@@ -20,9 +20,9 @@ export function macRoman(bytes) {
     return text;
 }
 
-/** Returns a name to be shown: control characters become the pictures that Unicode has of them. */
+/** Returns a name to be shown. A control character becomes `%` and two hexadecimal digits, and so does `%` itself. */
 export function shownName(bytes) {
-    return macRoman(bytes).replace(/[\x00-\x1F\x7F]/g, (c) => (c === "\x7F" ? "\u2421" : String.fromCharCode(0x2400 + c.charCodeAt(0))));
+    return macRoman(bytes).replace(/[\x00-\x1F%\x7F]/g, (it) => `%${hex(it.charCodeAt(0), 2)}`);
 }
 
 /** Returns a number in `digits` hexadecimal digits. */
