@@ -7,11 +7,14 @@ pub mod Options
 pub mod Packed
 pub mod Loaders
 pub mod Rows
+pub mod Partial
 pub mod Fixups
 pub mod Handles
 pub mod Contexts
 pub mod Reading
 pub mod Places
+pub mod Kept
+pub mod Findings
 pub mod MacForks
 pub mod MacParts
 pub mod MacRows

@@ -1,4 +1,4 @@
--- The names and the help of refusals, and of the numbers that only this library returns (docs/ERRORS.md).
+-- The names and the help of refusals, of notes, and of the numbers that only this library returns (docs/ERRORS.md).
 use Rattle.std.specs.Prelude.{◌≡◌, ◌==◌, ℕ, List, Option, None, Some, MatchBool, codes, if◌then◌else◌, nat_le}
 use Rattle.pef_refusals.specs.Help.{help_of as refusal_help}
 use Rattle.pef_refusals.specs.Names.{name_of as refusal_name}
@@ -27,13 +27,13 @@ library_help number =
     else if number == 206 then Some (codes "The size of the options isn't that of this library's struct. Set it to sizeof, and build with the header of this library.")
     else None
 
--- all names; refusals have numbers up to 99
+-- all names; refusals and notes have numbers below 200
 abbrev pub name_of : ℕ → Option (List ℕ)
-name_of number = if nat_le number 99 then refusal_name number else library_name number
+name_of number = if nat_le number 199 then refusal_name number else library_name number
 
 -- all help
 abbrev pub help_of : ℕ → Option (List ℕ)
-help_of number = if nat_le number 99 then refusal_help number else library_help number
+help_of number = if nat_le number 199 then refusal_help number else library_help number
 
 -- what a call returns and writes that reads the text of a number: 0 and the text, or 201 if the number has none
 abbrev pub TextAnswers : Option (List ℕ) → List ℕ → List ℕ → ℕ → Type 0

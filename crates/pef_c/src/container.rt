@@ -1,9 +1,10 @@
 //! Containers. Each call reads them anew from their bytes, and allocates nothing.
-ghost use Rattle.pef_c.specs.Containers.{HeaderAnswers, SectionAnswers, SectionNameAnswers};
+ghost use Rattle.std.specs.Prelude.{◌≡◌};
+ghost use Rattle.pef_c.specs.Containers.{HeaderAnswers, SectionAnswers, SectionNameAnswers, header_given, section_given};
 
 use crate::answers::{NOT_THERE, view_number};
 use crate::structs::{PefHeader, PefSection};
-use pef_views::Container;
+use pef_views::{Container, Header, SectionHeader};
 
 /// Reads a container's header.
 ///
@@ -16,14 +17,7 @@ pub extern "C" fn pef_header(container: &[u8], header: &mut PefHeader) -> u32
         Ok(container) => container.header(),
         Err(fault) => return view_number(fault),
     };
-    *header = PefHeader {
-        date_time_stamp: found.date_time_stamp,
-        old_def_version: found.old_def_version,
-        old_imp_version: found.old_imp_version,
-        current_version: found.current_version,
-        section_count: found.section_count,
-        instantiated_section_count: found.instantiated_section_count,
-    };
+    *header = header_given(found);
     0
 }
 
@@ -46,17 +40,7 @@ pub extern "C" fn pef_section<'a>(
     let Some(found) = container.section(index) else {
         return NOT_THERE;
     };
-    let header = found.header;
-    *section = PefSection {
-        default_address: header.default_address,
-        total_size: header.total_size,
-        unpacked_size: header.unpacked_size,
-        packed_size: header.packed_size,
-        container_offset: header.container_offset,
-        kind: header.section_kind,
-        share: header.share_kind,
-        alignment: header.alignment,
-    };
+    *section = section_given(found.header);
     *raw = found.raw;
     0
 }
@@ -82,5 +66,35 @@ pub extern "C" fn pef_section_name<'a>(
             0
         }
         None => NOT_THERE,
+    }
+}
+
+/// Returns a container header as C sees it.
+pub(crate) fn header_given(header: Header) -> PefHeader
+    ensures { result ≡ header_given header }
+{
+    PefHeader {
+        date_time_stamp: header.date_time_stamp,
+        old_def_version: header.old_def_version,
+        old_imp_version: header.old_imp_version,
+        current_version: header.current_version,
+        section_count: header.section_count,
+        instantiated_section_count: header.instantiated_section_count,
+    }
+}
+
+/// Returns a section's header as C sees it.
+pub(crate) fn section_given(header: SectionHeader) -> PefSection
+    ensures { result ≡ section_given header }
+{
+    PefSection {
+        default_address: header.default_address,
+        total_size: header.total_size,
+        unpacked_size: header.unpacked_size,
+        packed_size: header.packed_size,
+        container_offset: header.container_offset,
+        kind: header.section_kind,
+        share: header.share_kind,
+        alignment: header.alignment,
     }
 }

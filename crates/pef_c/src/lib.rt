@@ -11,6 +11,9 @@ mod context;
 #[cfg(test)]
 mod context_tests;
 mod expand;
+mod findings;
+#[cfg(test)]
+mod findings_tests;
 mod fixups;
 mod fragments;
 mod handle;
@@ -19,6 +22,7 @@ mod large_tests;
 mod link;
 mod list;
 mod loader;
+mod log;
 mod loose;
 mod mac_errors;
 mod mac_file;
@@ -30,6 +34,8 @@ mod names;
 mod options;
 #[cfg(test)]
 mod options_tests;
+mod partial;
+mod partial_rows;
 mod place;
 #[cfg(test)]
 mod place_tests;
@@ -50,6 +56,7 @@ pub use context::{
     pef_add, pef_close, pef_free, pef_open, pef_prepare, pef_prepare_with_place, pef_reserve,
 };
 pub use expand::pef_expand;
+pub use findings::pef_findings;
 pub use fixups::pef_fixups;
 pub use fragments::{
     pef_fragment_bytes, pef_fragment_entries, pef_fragment_name, pef_fragment_section,
@@ -66,11 +73,19 @@ pub use mac_structs::{PefFinder, PefForks, PefMember, PefPart, PefResource, PefR
 pub use members::{pef_find_containers, pef_members};
 pub use names::{pef_help, pef_name};
 pub use options::{PefOptions, pef_open_with, pef_version};
+pub use partial::{
+    pef_partial_header, pef_partial_loader, pef_partial_section, pef_partial_section_name,
+};
+pub use partial_rows::{
+    pef_partial_exports, pef_partial_imports, pef_partial_libraries, pef_partial_relocations,
+};
 pub use place::{pef_container_place, pef_script_place};
 pub use resources::{pef_find_resource, pef_resource_map, pef_resources};
 pub use rows::{pef_export_named, pef_exports, pef_imports, pef_libraries, pef_relocations};
 pub use structs::{
-    PefEntries, PefExport, PefFixup, PefFragmentSection, PefHeader, PefImport, PefLibrary,
-    PefLoader, PefNames, PefPlace, PefRelocation, PefSection, PefTarget,
+    PefEntries, PefExport, PefFinding, PefFixup, PefFragmentSection, PefHeader, PefImport,
+    PefLibrary, PefLoader, PefNames, PefPlace, PefRelocation, PefSection, PefTarget,
 };
-pub use theorems::{container_names, listing_names, loader_names, packed_names, script_names};
+pub use theorems::{
+    container_names, finding_names, listing_names, loader_names, packed_names, script_names,
+};

@@ -40,7 +40,7 @@ pub extern "C" fn pef_loader(container: &[u8], loader: &mut PefLoader) -> u32
 }
 
 /// Returns a loader header as C sees it.
-fn loader_given(header: LoaderHeader) -> PefLoader
+pub(crate) fn loader_given(header: LoaderHeader) -> PefLoader
     ensures { result ≡ loader_given header }
 {
     PefLoader {

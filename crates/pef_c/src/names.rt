@@ -1,14 +1,14 @@
-//! The names of refusals and of this library's own answers, and a sentence or two of help on each.
+//! The names of refusals, of notes and of this library's own answers, and a sentence or two of help on each.
 ghost use Rattle.std.specs.Prelude.{◌≡◌, option_map};
 ghost use Rattle.pef_c.specs.Names.{TextAnswers, help_of, library_help, library_name, name_of};
 
 use crate::answers::NOT_THERE;
 use pef_refusals::{help, name};
 
-/// The greatest number of a refusal. Numbers above it are this library's own.
-const LAST_REFUSAL: u32 = 99;
+/// The greatest number that a refusal or a note may have. Numbers above it are this library's own.
+const LAST_SHARED: u32 = 199;
 
-/// Gives the name of a refusal, or of an answer of this library, by its number.
+/// Gives the name of a refusal, of a note, or of an answer of this library, by its number.
 ///
 /// Returns 0; or 201 if nothing has the number, and leaves `name` unchanged.
 #[unsafe(no_mangle)]
@@ -18,7 +18,7 @@ pub extern "C" fn pef_name(number: u32, name: &mut &'static [u8]) -> u32
     give(name_of(number), name)
 }
 
-/// Gives one or two sentences on a refusal, or on an answer of this library, by its number: what it means, and what to do.
+/// Gives one or two sentences on a refusal, a note, or an answer of this library, by its number: what it means, and what to do.
 ///
 /// Returns 0; or 201 if nothing has the number, and leaves `help` unchanged.
 #[unsafe(no_mangle)]
@@ -45,7 +45,7 @@ fn give(text: Option<&'static str>, place: &mut &'static [u8]) -> u32
 fn name_of(number: u32) -> Option<&'static str>
     ensures { option_map (λ text. text.now) result ≡ name_of number }
 {
-    if number <= LAST_REFUSAL {
+    if number <= LAST_SHARED {
         name(number)
     } else {
         library_name(number)
@@ -56,7 +56,7 @@ fn name_of(number: u32) -> Option<&'static str>
 fn help_of(number: u32) -> Option<&'static str>
     ensures { option_map (λ text. text.now) result ≡ help_of number }
 {
-    if number <= LAST_REFUSAL {
+    if number <= LAST_SHARED {
         help(number)
     } else {
         library_help(number)

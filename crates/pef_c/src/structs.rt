@@ -23,6 +23,17 @@ pub struct PefPlace {
     pub offset: usize,
 }
 
+/// An error of a container, or a note on it.
+#[repr(C)]
+#[derive(Clone, Copy, Debug, PartialEq, Eq)]
+pub struct PefFinding {
+    pub place: PefPlace,
+    /// The offset of a word in its section, or a count of bytes. 0 if the error or the note is about neither.
+    pub detail: u64,
+    pub number: u32,
+    pub is_error: bool,
+}
+
 /// A section's header, without its name.
 #[repr(C)]
 #[derive(Clone, Copy, Debug, PartialEq, Eq)]

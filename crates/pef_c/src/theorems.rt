@@ -1,5 +1,6 @@
-//! Laws: the number of each refusal has its name. The functions do nothing.
+//! Laws: the number of each refusal and of each note has its name. The functions do nothing.
 ghost use Rattle.std.specs.Prelude.{◌≡◌, Some};
+ghost use Rattle.pef_inspect.specs.Findings.{finding_name, finding_number};
 ghost use Rattle.pef_listing.specs.Faults as listing;
 ghost use Rattle.pef_loader.specs.Faults as loader;
 ghost use Rattle.pef_pidata.specs.Faults as pidata;
@@ -7,6 +8,7 @@ ghost use Rattle.pef_script.specs.Text.Faults as script;
 ghost use Rattle.pef_views.specs.Faults as views;
 ghost use Rattle.pef_c.specs.Names.{name_of};
 
+use pef_inspect::Finding;
 use pef_listing::ListFault;
 use pef_loader::LoaderFault;
 use pef_pidata::PackFault;
@@ -41,4 +43,10 @@ pub fn listing_names(fault: ListFault)
 #[tactic(auto, unfolding(pef_refusals::specs::Names::script_name))]
 pub fn script_names(fault: LineFault)
     ensures { name_of (script.fault_number fault) ≡ Some (script.fault_name fault) }
+{}
+
+/// The number of each finding has its name.
+#[tactic(auto, unfolding(pef_refusals::specs::Names::container_name, pef_refusals::specs::Names::loader_name, pef_refusals::specs::Names::packed_name, pef_refusals::specs::Names::relocation_name, pef_refusals::specs::Names::port_name, pef_refusals::specs::Names::note_name))]
+pub fn finding_names(finding: Finding)
+    ensures { name_of (finding_number finding) ≡ Some (finding_name finding) }
 {}

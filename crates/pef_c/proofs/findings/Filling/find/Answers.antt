@@ -1,0 +1,39 @@
+-- What was taken begins with what is kept.
+use Rattle.pef_inspect.specs.Errors.{errors_of}
+use Rattle.pef_inspect.specs.Oddities.{notes_of}
+use Rattle.pef_c.proofs.KeptLemmas.{took_more}
+use Rattle.pef_c.proofs.findings.Filling.find.Goals as goal
+
+pub returns-clause-same_reference : goal.returns-clause-same_reference
+returns-clause-same_reference c =
+    let old = c.args.self.now in
+    let new = c.find_notes.new.sink in
+    let notes = c.in-Ok-find_notes.ensures in
+    (took_more old.places.ghost_name new.places.ghost_name old.from new.from old.start.items new.start.items old.taken.items new.taken.items _
+    (errors_of c.args.bytes.now) (notes_of c.args.bytes.now notes.0) c.in-Ok.ensures notes.1).name_is
+
+pub returns-clause-from : goal.returns-clause-from
+returns-clause-from c =
+    let old = c.args.self.now in
+    let new = c.find_notes.new.sink in
+    let notes = c.in-Ok-find_notes.ensures in
+    (took_more old.places.ghost_name new.places.ghost_name old.from new.from old.start.items new.start.items old.taken.items new.taken.items _
+    (errors_of c.args.bytes.now) (notes_of c.args.bytes.now notes.0) c.in-Ok.ensures notes.1).from_is
+
+pub returns-clause-start : goal.returns-clause-start
+returns-clause-start c =
+    let old = c.args.self.now in
+    let new = c.find_notes.new.sink in
+    let notes = c.in-Ok-find_notes.ensures in
+    (took_more old.places.ghost_name new.places.ghost_name old.from new.from old.start.items new.start.items old.taken.items new.taken.items _
+    (errors_of c.args.bytes.now) (notes_of c.args.bytes.now notes.0) c.in-Ok.ensures notes.1).old_is
+
+pub returns-clause-found : goal.returns-clause-found
+returns-clause-found c =
+    let old = c.args.self.now in
+    let new = c.find_notes.new.sink in
+    let notes = c.in-Ok-find_notes.ensures in (
+      notes.0,
+      (took_more old.places.ghost_name new.places.ghost_name old.from new.from old.start.items new.start.items old.taken.items new.taken.items _
+          (errors_of c.args.bytes.now) (notes_of c.args.bytes.now notes.0) c.in-Ok.ensures notes.1).items_are,
+    )

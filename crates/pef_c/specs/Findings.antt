@@ -1,0 +1,45 @@
+-- The errors of a container and the notes on it as C sees them, and what `pef_findings` returns and writes.
+use Rattle.std.specs.Prelude.{◌≡◌, ℕ, Bool, List, ◌++◌, Some, map}
+use Rattle.std.specs.Option.{unwrap_or}
+use Rattle.pef_inspect.specs.Errors.{errors_of}
+use Rattle.pef_inspect.specs.Findings.{finding_number, is_error}
+use Rattle.pef_inspect.specs.Oddities.{notes_of}
+use Rattle.pef_inspect.specs.declared.finding.Cause.{Cause}
+use Rattle.pef_inspect.specs.declared.finding.Cause.TheVariants as cause
+use Rattle.pef_inspect.specs.declared.finding.Finding.{Finding}
+use Rattle.pef_inspect.specs.declared.note.Note.{Note}
+use Rattle.pef_inspect.specs.declared.note.Note.TheVariants as note
+use Rattle.pef_reloc.specs.Faults.{fault_word}
+use Rattle.pef_c.specs.Buffers.{FillsPart}
+use Rattle.pef_c.specs.Places.{place_or_nowhere}
+use Rattle.pef_c.specs.declared.structs.PefFinding.{PefFinding}
+
+-- the number that a note is about: the offset of a word in its section, or a count of bytes; 0 if there is none
+abbrev pub note_detail : Note → ℕ
+note_detail (note.WordOutsideImage word) = word
+note_detail (note.TrailingBytes len) = len
+note_detail (note.Overlap len) = len
+note_detail (note.UnownedBytes len) = len
+note_detail (note.WordRelocatedTwice word) = word
+note_detail other = 0
+
+-- the same of an error: only some of relocation programs have one
+abbrev pub cause_detail : Cause → ℕ
+cause_detail (cause.View fault) = 0
+cause_detail (cause.Loader fault) = 0
+cause_detail (cause.Pack fault) = 0
+cause_detail (cause.Reloc fault) = unwrap_or (fault_word fault) 0
+cause_detail (cause.Note n) = note_detail n
+
+abbrev pub finding_row : Finding → PefFinding
+finding_row f = record { place = place_or_nowhere (Some f.place); detail = cause_detail f.cause; number = finding_number f; is_error = is_error f }
+
+-- all errors of some bytes as a container, and all notes that need no memory. Whether its exports are noted as irregular is open
+abbrev pub rows_of : List ℕ → Bool → List PefFinding
+rows_of bytes irregular = map finding_row (errors_of bytes ++ notes_of bytes irregular)
+
+-- `pef_findings`: 0, and the rows from a number on are in the first places, and counted
+pub record FindingsAnswer (bytes : List ℕ) (from : ℕ) (old new : List PefFinding) (after answer : ℕ) : Type 0 where
+  pub irregular : Bool
+  pub filled : FillsPart (rows_of bytes irregular) from old new after
+  pub number_is : answer ≡ 0
