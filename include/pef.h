@@ -5,7 +5,7 @@
  *
  * Every call returns a number: PEF_OK; or that of a refusal, below 200; or one of the library's own, from 200 on.
  * docs/ERRORS.md explains the refusals; pef_name() gives their names, and pef_help() a sentence or two on each. Only the
- * first refusal is reported.
+ * first refusal is reported, except by pef_findings().
  *
  * What every call asks of its caller:
  *
@@ -151,6 +151,18 @@ struct pef_bytes {
 /* An allocation failed. */
 #define PEF_OUT_OF_MEMORY 99
 
+/* Notes on a container: oddities that break no rule. No call returns them; findings have them. */
+#define PEF_NOTE_RESERVED_NOT_ZERO 101
+#define PEF_NOTE_UNKNOWN_KIND 102
+#define PEF_NOTE_UNKNOWN_SHARE 103
+#define PEF_NOTE_VERSION_BELOW_OLDEST 104
+#define PEF_NOTE_ENTRY_OUTSIDE 105
+#define PEF_NOTE_EXPORT_OUTSIDE 106
+#define PEF_NOTE_WORD_OUTSIDE_IMAGE 107
+#define PEF_NOTE_IRREGULAR_EXPORTS 108
+#define PEF_NOTE_PROGRAMS_UNVERIFIED 110
+#define PEF_NOTE_IMAGES_UNVERIFIED 111
+
 /* Only this library returns these: the caller's buffer is too small; there is no such thing; the context isn't open; a
  * fragment is added after a connection was given; the context has as many fragments as it may; the granule is none; the
  * options have another size. */
@@ -234,7 +246,7 @@ uint32_t pef_list(const uint8_t *container, size_t container_length, uint8_t *bu
 uint32_t pef_list_part(const uint8_t *container, size_t container_length, size_t from, uint8_t *buffer, size_t buffer_length, size_t *written);
 
 /*
- * Gives the name of a number that a call returned, as "BadTag". PEF_OK has none.
+ * Gives the name of a number that a call returned or of a note, as "BadTag". PEF_OK has none.
  *
  * Returns PEF_OK, and stores the name in `*name`: it is valid until the program ends. Or returns PEF_NOT_THERE, if nothing
  * has the number, and leaves `*name` unchanged.
@@ -242,7 +254,7 @@ uint32_t pef_list_part(const uint8_t *container, size_t container_length, size_t
 uint32_t pef_name(uint32_t number, struct pef_bytes *name);
 
 /*
- * Gives one or two sentences of ASCII on a number that a call returned: what it means, and what to do.
+ * Gives one or two sentences of ASCII on a number that a call returned or on a note: what it means, and what to do.
  *
  * Returns and stores as pef_name() does: each number that has a name has help.
  */
@@ -301,6 +313,32 @@ uint32_t pef_container_place(const uint8_t *container, size_t container_length, 
  * nearly the name. Or returns PEF_OUT_OF_MEMORY. In all other cases it stores no place, and 0.
  */
 uint32_t pef_script_place(const uint8_t *script, size_t script_length, struct pef_place *place, size_t *earlier);
+
+/*
+ * An error of a container, or a note on it, and where it is. Errors have numbers below 100, notes from 101 on. `detail` is an offset
+ * in a section for errors and notes that are about a relocated word, PEF_RELOC_WORD_OUTSIDE to PEF_RELOC_SECTION_OUTSIDE and
+ * PEF_NOTE_WORD_OUTSIDE_IMAGE; for the others it is 0.
+ */
+struct pef_finding {
+    struct pef_place place;
+    uint64_t detail;
+    uint32_t number;
+    bool is_error;
+};
+
+/*
+ * Finds all errors of a container, 1 to 39, and then what is odd about it: it reads them from number `from` on into the first of
+ * `places`, and stores how many they were in `*count`, as many as there are from there on, or as there are places. The other places
+ * are left unchanged. Returns PEF_OK. It allocates nothing.
+ *
+ * Packed data is expanded and relocation programs are run, without keeping what they make. So a container without errors is refused
+ * by no preparation, as far as its own bytes are concerned. If its programs or its packed data ask for too much, a note says
+ * from which one on they weren't verified. Errors come in the order in which pef_list() and pef_prepare() find the first one. An error
+ * that is about no field is at the beginning of the container.
+ *
+ * Each call reads the whole container, so read many at once.
+ */
+uint32_t pef_findings(const uint8_t *container, size_t container_length, size_t from, struct pef_finding *places, size_t place_count, size_t *count);
 
 /*
  * The calls below read a container anew from its bytes each time, and allocate nothing. They return PEF_OK; or the first
@@ -446,6 +484,43 @@ uint32_t pef_fixups(const uint8_t *container, size_t container_length, size_t he
  * all exports once.
  */
 uint32_t pef_export_named(const uint8_t *container, size_t container_length, const uint8_t *name, size_t name_length, size_t *number, struct pef_export *found);
+
+/*
+ * The calls below read a container that may be damaged, as far as it can be read, with the structs of the calls above. An error in
+ * one part hides no other part; pef_findings() has the errors. They allocate nothing. If they don't return PEF_OK, they leave all
+ * that they would write unchanged.
+ */
+
+/* Reads the header of a container. Returns PEF_TOO_SHORT or PEF_BAD_TAG if the bytes have none, in this call and in those below. */
+uint32_t pef_partial_header(const uint8_t *container, size_t container_length, struct pef_header *header);
+
+/*
+ * Reads a section, and stores its raw bytes in `*raw`, as far as they are in the container: they are fewer than `packed_size` if the
+ * section extends past the end. Returns PEF_NOT_THERE past the last section, and if the section's header isn't in the bytes.
+ */
+uint32_t pef_partial_section(const uint8_t *container, size_t container_length, size_t number, struct pef_section *section, struct pef_bytes *raw);
+
+/* Gives a section's name. Returns PEF_NOT_THERE as pef_partial_section() does, and if the section has no name. */
+uint32_t pef_partial_section_name(const uint8_t *container, size_t container_length, size_t number, struct pef_bytes *name);
+
+/*
+ * Reads the header of a loader section. Its counts are those that it declares, however many rows are there. Returns PEF_LOADER_SHORT if
+ * there is no loader section, or it has no header, in this call and in those below.
+ */
+uint32_t pef_partial_loader(const uint8_t *container, size_t container_length, struct pef_loader *loader);
+
+/* The library of an import that is in no library's range. */
+#define PEF_NO_LIBRARY SIZE_MAX
+
+/*
+ * Read the libraries, imports, relocation headers and exports that are in the bytes, as pef_libraries() and the others do. A name that
+ * can't be read has no bytes, and so have instructions that extend past the loader section. Exports are there if the slots, keys and
+ * rows of their table are.
+ */
+uint32_t pef_partial_libraries(const uint8_t *container, size_t container_length, size_t from, struct pef_library *places, size_t place_count, size_t *count);
+uint32_t pef_partial_imports(const uint8_t *container, size_t container_length, size_t from, struct pef_import *places, size_t place_count, size_t *count);
+uint32_t pef_partial_relocations(const uint8_t *container, size_t container_length, size_t from, struct pef_relocation *places, size_t place_count, size_t *count);
+uint32_t pef_partial_exports(const uint8_t *container, size_t container_length, size_t from, struct pef_export *places, size_t place_count, size_t *count);
 
 /*
  * Files of the classic Mac OS (docs/FORMATS.md, section 10). The calls below read them anew from their bytes, and allocate nothing.
