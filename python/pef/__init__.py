@@ -21,7 +21,7 @@ for an installed libpef.so.0.
 Names of fragments, libraries and symbols are `str`. In a container they are bytes, and here each byte is the character that it
 is in Mac Roman, so nothing is lost. Where a name is asked for, `bytes` are taken too.
 
-A refusal is a PefError, with the number and the name of docs/ERRORS.md.
+A refusal is a PefError, with the number and the name of docs/ERRORS.md. inspect() finds all errors of a container that may be damaged.
 """
 from __future__ import annotations
 
@@ -40,12 +40,14 @@ __all__ = [
     "Context",
     "Entry",
     "Export",
+    "Finding",
     "Fixup",
     "Fragment",
     "Header",
     "Import",
     "ImportTarget",
     "Library",
+    "Part",
     "PefError",
     "PlacedSection",
     "Relocation",
@@ -54,6 +56,7 @@ __all__ = [
     "Share",
     "SymbolClass",
     "help_of",
+    "inspect",
     "library",
     "link",
     "name_of",
@@ -116,6 +119,23 @@ class SymbolClass(_Code):
     TVECTOR = 2
     TOC = 3
     GLUE = 4
+
+
+class Part(_Code):
+    """A part of a container that a finding can be about."""
+
+    CONTAINER_HEADER = 1
+    SECTION = 2
+    LOADER_HEADER = 3
+    LIBRARY = 4
+    IMPORT = 5
+    MAIN = 6
+    INIT = 7
+    TERM = 8
+    RELOCATION = 9
+    EXPORT = 10
+    PACKED_DATA = 11
+    PROGRAM = 12
 
 
 def _code(kind: Type[_Code], number: int) -> int:
@@ -232,6 +252,10 @@ class _Place(ctypes.Structure):
     _fields_ = _fields(uint32="part", size_t="row field offset")
 
 
+class _Finding(ctypes.Structure):
+    _fields_ = [("place", _Place), *_fields(uint64="detail", uint32="number", bool="is_error")]
+
+
 class _Header(ctypes.Structure):
     _fields_ = _fields(
         uint32="date_time_stamp old_def_version old_imp_version current_version",
@@ -329,6 +353,7 @@ _CALLS: Dict[str, List[Any]] = {
     "pef_help": [ctypes.c_uint32, ctypes.POINTER(_Bytes)],
     "pef_container_place": _IN + [ctypes.POINTER(_Place)],
     "pef_script_place": _IN + [ctypes.POINTER(_Place)] + _SIZE,
+    "pef_findings": _IN + [ctypes.c_size_t, ctypes.POINTER(_Finding), ctypes.c_size_t] + _SIZE,
     "pef_header": _IN + [ctypes.POINTER(_Header)],
     "pef_section": _IN + [ctypes.c_size_t, ctypes.POINTER(_Section), ctypes.POINTER(_Bytes)],
     "pef_section_name": _IN + [ctypes.c_size_t, ctypes.POINTER(_Bytes)],
@@ -340,6 +365,14 @@ _CALLS: Dict[str, List[Any]] = {
     "pef_fixups": _IN + [ctypes.c_size_t] * 2 + [ctypes.POINTER(_Fixup), ctypes.c_size_t] + _SIZE,
     "pef_exports": _IN + [ctypes.c_size_t, ctypes.POINTER(_Export), ctypes.c_size_t] + _SIZE,
     "pef_export_named": _IN * 2 + _SIZE + [ctypes.POINTER(_Export)],
+    "pef_partial_header": _IN + [ctypes.POINTER(_Header)],
+    "pef_partial_section": _IN + [ctypes.c_size_t, ctypes.POINTER(_Section), ctypes.POINTER(_Bytes)],
+    "pef_partial_section_name": _IN + [ctypes.c_size_t, ctypes.POINTER(_Bytes)],
+    "pef_partial_loader": _IN + [ctypes.POINTER(_Loader)],
+    "pef_partial_libraries": _IN + [ctypes.c_size_t, ctypes.POINTER(_Library), ctypes.c_size_t] + _SIZE,
+    "pef_partial_imports": _IN + [ctypes.c_size_t, ctypes.POINTER(_Import), ctypes.c_size_t] + _SIZE,
+    "pef_partial_relocations": _IN + [ctypes.c_size_t, ctypes.POINTER(_Relocation), ctypes.c_size_t] + _SIZE,
+    "pef_partial_exports": _IN + [ctypes.c_size_t, ctypes.POINTER(_Export), ctypes.c_size_t] + _SIZE,
     "pef_open": _IN_CONTEXT + [ctypes.c_uint32],
     "pef_open_with": _IN_CONTEXT + [ctypes.POINTER(_Options)],
     "pef_version": [],
@@ -405,7 +438,7 @@ def _script_place(text: bytes) -> Tuple[Optional[_Place], int]:
 
 
 def name_of(number: int) -> Optional[str]:
-    """The name of a number that a call gave, as "BadTag"; None if nothing has the number.
+    """The name of a number that a call gave or of a note, as "BadTag"; None if nothing has the number.
 
     >>> name_of(2)
     'BadTag'
@@ -415,7 +448,7 @@ def name_of(number: int) -> Optional[str]:
 
 
 def help_of(number: int) -> Optional[str]:
-    """A sentence or two on a number that a call gave: what it means, and what to do."""
+    """A sentence or two on a number that a call gave or on a note: what it means, and what to do."""
     text = _no_bytes()
     return text.text() if library().pef_help(number, ctypes.byref(text)) == OK else None
 
@@ -446,6 +479,84 @@ def link(script: Text) -> bytes:
                 _check(answer, *_script_place(text), line=line.value)
             return ctypes.string_at(room, written.value)
         length = written.value
+
+
+# --- what is wrong with a container ---
+
+#: The errors and notes that are about a relocated word.
+_ABOUT_A_WORD = {37, 38, 39, 107}
+
+
+@dataclasses.dataclass(frozen=True)
+class Finding:
+    """An error of a container, or a note on it: something odd that breaks no rule.
+
+    `part` is the kind of part that it is about, `row` the number of the part among those of its kind, `field` the offset in the part,
+    and `offset` that in the container, or None. `detail` is the offset in its section of a relocated word, or None if it is about none.
+
+    >>> damaged = bytearray(link("section d data process 4 4\\nbytes d 0000002A\\n"))
+    >>> damaged[15] = 2
+    >>> for finding in inspect(bytes(damaged)):
+    ...     print(finding)
+    4 BadFormatVersion in container header at 0xC
+    """
+
+    number: int
+    name: str
+    is_error: bool
+    part: Part
+    row: int
+    field: int
+    offset: Optional[int]
+    detail: Optional[int] = None
+
+    @property
+    def help(self) -> str:
+        """What it means, and what to do, in a sentence or two."""
+        return help_of(self.number) or ""
+
+    def __str__(self) -> str:
+        word = PARTS[self.part]
+        row = f" {self.row}" if word in _NUMBERED else ""
+        at = f" at 0x{self.offset:X}" if self.offset is not None else ""
+        return f"{self.number} {self.name} in {word}{row}{at}"
+
+
+def _finding(row: _Finding) -> Finding:
+    offset = None if row.place.offset == _NO_OFFSET else row.place.offset
+    detail = row.detail if row.number in _ABOUT_A_WORD else None
+    return Finding(row.number, name_of(row.number) or "Unknown", row.is_error, Part(row.place.part), row.place.row, row.place.field, offset, detail)
+
+
+def inspect(contents: bytes) -> List[Finding]:
+    """All errors of a container, and then what is odd about it.
+
+    Nothing is raised: bytes that are no container have one error. A container without errors is refused by no preparation, as
+    far as its own bytes are concerned.
+
+    >>> inspect(link("section d data process 4 4\\nbytes d 0000002A\\n"))
+    []
+    >>> [(finding.number, finding.name) for finding in inspect(b"Joy!")]
+    [(1, 'TooShort')]
+    """
+    raw = bytes(contents)
+    return [_finding(row) for row in _all_rows("pef_findings", raw, _Finding)]
+
+
+def _all_rows(call: str, contents: bytes, row: Any, slice_name: Optional[str] = None) -> List[Any]:
+    """All rows of a table, however many there are. Each call reads the whole container, so each asks for twice as many."""
+    found: List[Any] = []
+    room = 256
+    while True:
+        rows, count = (row * room)(), ctypes.c_size_t()
+        if slice_name is not None:
+            for it in rows:
+                setattr(it, slice_name, _no_bytes())
+        _check(getattr(library(), call)(contents, len(contents), len(found), rows, room, ctypes.byref(count)))
+        found += rows[: count.value]
+        if count.value < room:
+            return found
+        room = min(2 * room, 1 << 20)
 
 
 # --- containers ---
@@ -563,13 +674,23 @@ class Container:
     <pef.Container: 2 sections, 0 libraries, 0 imports, 0 exports>
     >>> container.sections[0].kind, container.expand(container.sections[0]), container.entries
     (<SectionKind.DATA: 1>, b'\\x00\\x00\\x00*', {'main': Entry(section=0, offset=0)})
+
+    With `damaged`, a container is read as far as it can be, and `findings` has what is wrong with it. PefError is raised only if nothing
+    can be read of it (1 or 2). What is missing is left out: sections whose headers aren't in the bytes, rows that aren't in the loader
+    section, and all rows if that has no header. The raw bytes of a section are those that there are. A name that can't be read is "",
+    and so is the library of an import that is in no library's range.
+
+    >>> cut = Container(container.contents[:-1], damaged=True)
+    >>> cut, cut.findings[0].name
+    (<pef.Container: 2 sections, 0 libraries, 0 imports, 0 exports, damaged>, 'SectionOutside')
     """
 
-    def __init__(self, contents: bytes):
+    def __init__(self, contents: bytes, *, damaged: bool = False):
         self.contents = bytes(contents)
         self._bytes = (self.contents, len(self.contents))
+        self._damaged = damaged
         row = _Header()
-        self._read(library().pef_header(*self._bytes, ctypes.byref(row)))
+        self._read(library().pef_partial_header(*self._bytes, ctypes.byref(row)) if damaged else library().pef_header(*self._bytes, ctypes.byref(row)))
         #: The container's header.
         self.header = Header(
             row.date_time_stamp,
@@ -579,18 +700,29 @@ class Container:
             row.section_count,
             row.instantiated_section_count,
         )
-        self._loader = _Loader()
-        self._read(library().pef_loader(*self._bytes, ctypes.byref(self._loader)))
+        self._loader = _Loader(main_section=-1, init_section=-1, term_section=-1)
+        if damaged:
+            self._has_loader = library().pef_partial_loader(*self._bytes, ctypes.byref(self._loader)) == OK
+        else:
+            self._read(library().pef_loader(*self._bytes, ctypes.byref(self._loader)))
 
     @classmethod
-    def from_file(cls, path: Union[str, os.PathLike[str]]) -> Container:
+    def from_file(cls, path: Union[str, os.PathLike[str]], *, damaged: bool = False) -> Container:
         """The container in a file. Raises PefError as Container does, and OSError."""
-        return cls(pathlib.Path(path).read_bytes())
+        return cls(pathlib.Path(path).read_bytes(), damaged=damaged)
 
     def __repr__(self) -> str:
         loader = self._loader
+        if self._damaged:
+            rows = f"{len(self.libraries)} libraries, {len(self.imports)} imports, {len(self.exports)} exports, damaged"
+            return f"<pef.Container: {len(self.sections)} sections, {rows}>"
         rows = f"{loader.library_count} libraries, {loader.import_count} imports, {loader.export_count} exports"
         return f"<pef.Container: {self.header.section_count} sections, {rows}>"
+
+    @functools.cached_property
+    def findings(self) -> List[Finding]:
+        """The errors of the container, and the notes on it: what inspect() gives."""
+        return inspect(self.contents)
 
     def _read(self, answer: int) -> None:
         if answer != OK:
@@ -599,12 +731,17 @@ class Container:
     @functools.cached_property
     def sections(self) -> List[Section]:
         """All sections, by their numbers."""
-        return [self._section(number) for number in range(self.header.section_count)]
+        found = (self._section(number) for number in range(self.header.section_count))
+        return [section for section in found if section is not None]
 
-    def _section(self, number: int) -> Section:
+    def _section(self, number: int) -> Optional[Section]:
         row, raw, name = _Section(), _no_bytes(), _no_bytes()
-        _check(library().pef_section(*self._bytes, number, ctypes.byref(row), ctypes.byref(raw)))
-        answer = library().pef_section_name(*self._bytes, number, ctypes.byref(name))
+        part = "pef_partial_section" if self._damaged else "pef_section"
+        answer = getattr(library(), part)(*self._bytes, number, ctypes.byref(row), ctypes.byref(raw))
+        if answer == NOT_THERE and self._damaged:
+            return None
+        _check(answer)
+        answer = getattr(library(), f"{part}_name")(*self._bytes, number, ctypes.byref(name))
         if answer != NOT_THERE:
             _check(answer)
         return Section(
@@ -632,35 +769,41 @@ class Container:
         _check(library().pef_expand(section.raw, len(section.raw), room, section.unpacked_size))
         return ctypes.string_at(room, section.unpacked_size)
 
-    def _rows(self, call: str, row: Any, count: int, slice_name: str = "name") -> List[Any]:
+    def _rows(self, table: str, row: Any, count: int, slice_name: str = "name") -> List[Any]:
+        if self._damaged:
+            return _all_rows(f"pef_partial_{table}", self.contents, row, slice_name) if self._has_loader else []
         rows, found = (row * max(1, count))(), ctypes.c_size_t()
         for it in rows:
             setattr(it, slice_name, _no_bytes())
-        _check(getattr(library(), call)(*self._bytes, 0, rows, count, ctypes.byref(found)))
+        _check(getattr(library(), f"pef_{table}")(*self._bytes, 0, rows, count, ctypes.byref(found)))
         return list(rows[: found.value])
 
     @functools.cached_property
     def libraries(self) -> List[Library]:
         """The libraries that the fragment imports from."""
-        rows = self._rows("pef_libraries", _Library, self._loader.library_count)
+        rows = self._rows("libraries", _Library, self._loader.library_count)
         return [Library(it.name.text(), it.current_version, it.old_imp_version, bool(it.options & 0x40), bool(it.options & 0x80)) for it in rows]
 
     @functools.cached_property
     def imports(self) -> List[Import]:
         """The imported symbols, by their numbers."""
-        rows = self._rows("pef_imports", _Import, self._loader.import_count)
-        return [Import(it.name.text(), self.libraries[it.library].name, _code(SymbolClass, it.symbol_class), it.weak) for it in rows]
+        rows = self._rows("imports", _Import, self._loader.import_count)
+        return [Import(it.name.text(), self._library_name(it.library), _code(SymbolClass, it.symbol_class), it.weak) for it in rows]
+
+    def _library_name(self, number: int) -> str:
+        return "" if number == _NO_OFFSET else self.libraries[number].name
 
     @functools.cached_property
     def relocations(self) -> List[Relocation]:
         """The relocation headers, with their instructions (docs/FORMATS.md)."""
-        rows = self._rows("pef_relocations", _Relocation, self._loader.relocation_count, "instructions")
+        rows = self._rows("relocations", _Relocation, self._loader.relocation_count, "instructions")
         return [Relocation(it.section, it.instructions.value()) for it in rows]
 
     def fixups(self, header: int) -> Iterator[Fixup]:
         """The additions of the program that has this place in `relocations`, in the order in which it makes them.
 
-        Words, sections and imports needn't exist. Raises PefError: 31 to 36, for a damaged program, or 201 past the last header.
+        Words, sections and imports needn't exist. Raises PefError: 31 to 36, for a damaged program, or 201 past the last header; and
+        1 to 20 for a damaged container.
         """
         start, room = 0, 1024
         while True:
@@ -676,7 +819,7 @@ class Container:
     @functools.cached_property
     def exports(self) -> List[Export]:
         """The exported symbols, in the order of the container's keys."""
-        rows = self._rows("pef_exports", _Export, self._loader.export_count)
+        rows = self._rows("exports", _Export, self._loader.export_count)
         return [_export(it) for it in rows]
 
     def find_export(self, name: Text) -> Optional[Tuple[int, Export]]:
@@ -685,6 +828,8 @@ class Container:
         Each call reads the loader section anew. To look up many names, make a dictionary of `exports`.
         """
         raw, number, row = _raw(name), ctypes.c_size_t(), _Export(_no_bytes())
+        if self._damaged:
+            return next(((place, it) for place, it in enumerate(self.exports) if _raw(it.name) == raw), None)
         answer = library().pef_export_named(*self._bytes, raw, len(raw), ctypes.byref(number), ctypes.byref(row))
         if answer == NOT_THERE:
             return None
@@ -702,7 +847,7 @@ class Container:
         return found
 
     def listing(self) -> str:
-        """The lines of `pef list`. Raises PefError: 31 to 36, for a damaged relocation program."""
+        """The lines of `pef list`. Raises PefError: 31 to 36, for a damaged relocation program, and 1 to 20 for a damaged container."""
         length = 4096
         while True:
             room, written = _room(length), ctypes.c_size_t()
