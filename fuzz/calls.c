@@ -17,7 +17,7 @@
 #include <string.h>
 #include <sys/mman.h>
 
-enum { ROOM = 1 << 20, PLACES = 64, CONTAINERS = 256 };
+enum { ROOM = 1 << 20, PLACES = 64, FINDINGS = 1024, CONTAINERS = 256 };
 
 /* --- what the calls are handed --- */
 
@@ -160,6 +160,77 @@ static void list(const uint8_t *bytes, size_t length)
     free(part);
 }
 
+/* Finds what is wrong with a container, in two parts, and compares it with what the other calls reported: `read` is what reading the
+ * container answered, and `prepared` what its preparation alone did. */
+static void find(const uint8_t *bytes, size_t length, uint32_t read, uint32_t prepared)
+{
+    static struct pef_finding all[FINDINGS], some[FINDINGS];
+    size_t count = 0, first = 0, others = 0;
+    memset(all, 0, sizeof all);
+    memset(some, 0, sizeof some);
+    if (pef_findings(bytes, length, 0, all, FINDINGS, &count) != PEF_OK || pef_findings(bytes, length, 0, some, PLACES, &first) != PEF_OK
+        || pef_findings(bytes, length, first, some + first, FINDINGS - first, &others) != PEF_OK)
+        fails("pef_findings", (uint32_t)count);
+    if (first + others != count || memcmp(some, all, sizeof all) != 0)
+        fails("pef_findings, in parts", (uint32_t)count);
+    uint32_t error = PEF_OK;
+    bool is_among = count == FINDINGS;
+    for (size_t i = 0; i < count; i++) {
+        struct pef_bytes name = PEF_NO_BYTES;
+        if (pef_name(all[i].number, &name) != PEF_OK || name.length == 0 || all[i].is_error != (all[i].number < 100))
+            fails("a finding", all[i].number);
+        if (error == PEF_OK && all[i].is_error)
+            error = all[i].number;
+        if (all[i].number == prepared || all[i].number == PEF_NOTE_PROGRAMS_UNVERIFIED || all[i].number == PEF_NOTE_IMAGES_UNVERIFIED)
+            is_among = true;
+    }
+    if (read == PEF_OK ? error != PEF_OK && error <= PEF_BAD_EXPORT_SECTION : error != read)
+        fails("the first error", error);
+    if (prepared != PEF_OK && prepared <= PEF_RELOC_SECTION_OUTSIDE && !is_among)
+        fails("an error of a preparation that isn't found", prepared);
+}
+
+/* Reads a container that may be damaged as far as it can be read. */
+static void read_partly(const uint8_t *bytes, size_t length)
+{
+    struct pef_header header = {0};
+    struct pef_section section = {0};
+    struct pef_loader loader = {0};
+    struct pef_bytes raw = PEF_NO_BYTES, name = PEF_NO_BYTES;
+    if (!is_ok("pef_partial_header", pef_partial_header(bytes, length, &header)))
+        return;
+    for (size_t i = 0; i <= header.section_count && i < PLACES; i++) {
+        if (!is_ok("pef_partial_section", pef_partial_section(bytes, length, i, &section, &raw)))
+            break;
+        check_part(raw, bytes, length);
+        if (is_ok("pef_partial_section_name", pef_partial_section_name(bytes, length, i, &name)))
+            check_part(name, bytes, length);
+    }
+    is_ok("pef_partial_loader", pef_partial_loader(bytes, length, &loader));
+    READ_TABLE(pef_partial_libraries, pef_library, name);
+    READ_TABLE(pef_partial_imports, pef_import, name);
+    READ_TABLE(pef_partial_relocations, pef_relocation, instructions);
+    READ_TABLE(pef_partial_exports, pef_export, name);
+}
+
+/* What the preparation of a container alone answers. */
+static uint32_t prepare(const uint8_t *bytes, size_t length)
+{
+    struct pef_context context = {0};
+    struct pef_names names = PEF_NO_NAMES;
+    struct pef_options options = PEF_USUAL_OPTIONS;
+    uint32_t connection = 0;
+    options.steps = 1 << 20;
+    options.bytes = 1 << 26;
+    uint32_t answer = pef_open_with(&context, &options);
+    if (answer == PEF_OK)
+        answer = pef_add(&context, (const uint8_t *)"it", 2, bytes, length);
+    if (answer == PEF_OK)
+        answer = pef_prepare(&context, (const uint8_t *)"it", 2, &connection, &names);
+    pef_free(&context);
+    return answer;
+}
+
 /* --- files of the classic Mac OS --- */
 
 /* An error of a part: 0, 201 or one that has a name. Returns whether the part is there. */
@@ -251,11 +322,14 @@ static bool read_container(const uint8_t *bytes, size_t length)
 {
     struct pef_header header = {0};
     struct pef_loader loader = {0};
+    uint32_t read = pef_loader(bytes, length, &loader);
+    find(bytes, length, read, prepare(bytes, length));
+    read_partly(bytes, length);
     if (!is_ok("pef_header", pef_header(bytes, length, &header)))
         return false;
     for (size_t number = 0; number <= header.section_count && number < 32; number++)
         read_section(bytes, length, number);
-    bool is_loaded = is_ok("pef_loader", pef_loader(bytes, length, &loader));
+    bool is_loaded = is_ok("pef_loader", read);
     READ_TABLE(pef_libraries, pef_library, name);
     READ_TABLE(pef_imports, pef_import, name);
     READ_TABLE(pef_relocations, pef_relocation, instructions);

@@ -20,6 +20,8 @@ struct number {
 static const struct number places[] = {
     SIZE(pef_bytes, 16), AT(pef_bytes, at, 0), AT(pef_bytes, length, 8),
     SIZE(pef_place, 32), AT(pef_place, part, 0), AT(pef_place, row, 8), AT(pef_place, field, 16), AT(pef_place, offset, 24),
+    SIZE(pef_finding, 48), AT(pef_finding, place, 0), AT(pef_finding, detail, 32), AT(pef_finding, number, 40),
+    AT(pef_finding, is_error, 44),
     SIZE(pef_header, 20), AT(pef_header, date_time_stamp, 0), AT(pef_header, old_def_version, 4),
     AT(pef_header, old_imp_version, 8), AT(pef_header, current_version, 12), AT(pef_header, section_count, 16),
     AT(pef_header, instantiated_section_count, 18),

@@ -44,6 +44,7 @@ static void test_null_slices(void)
     struct pef_loader loader;
     struct pef_place place;
     struct pef_export export;
+    struct pef_finding finding;
     size_t count = 7, number = 7, line = 7;
     expect(pef_header(NULL, 0, &header) == PEF_TOO_SHORT, "pef_header of null");
     expect(pef_section(NULL, 0, 0, &section, &bytes) == PEF_TOO_SHORT, "pef_section of null");
@@ -52,6 +53,14 @@ static void test_null_slices(void)
     expect(pef_list(NULL, 0, NULL, 0, &count) == PEF_TOO_SHORT && count == 7, "pef_list of null");
     expect(pef_list_part(NULL, 0, 0, NULL, 0, &count) == PEF_TOO_SHORT && count == 7, "pef_list_part of null");
     expect(pef_container_place(NULL, 0, &place) == PEF_TOO_SHORT && place.part == PEF_NOWHERE, "pef_container_place of null");
+    expect(pef_findings(NULL, 0, 0, NULL, 0, &count) == PEF_OK && count == 0, "pef_findings of null to no places");
+    expect(pef_findings(NULL, 0, 0, &finding, 1, &count) == PEF_OK && count == 1 && finding.number == PEF_TOO_SHORT, "pef_findings of null");
+    count = 7;
+    expect(pef_partial_header(NULL, 0, &header) == PEF_TOO_SHORT, "pef_partial_header of null");
+    expect(pef_partial_section(NULL, 0, 0, &section, &bytes) == PEF_TOO_SHORT, "pef_partial_section of null");
+    expect(pef_partial_section_name(NULL, 0, 0, &bytes) == PEF_TOO_SHORT, "pef_partial_section_name of null");
+    expect(pef_partial_loader(NULL, 0, &loader) == PEF_TOO_SHORT, "pef_partial_loader of null");
+    expect(pef_partial_libraries(NULL, 0, 0, NULL, 0, &count) == PEF_TOO_SHORT && count == 7, "pef_partial_libraries of null");
     expect(pef_script_place(NULL, 0, &place, &line) == PEF_OK && place.part == PEF_NOWHERE && line == 0, "pef_script_place of null");
     expect(pef_libraries(NULL, 0, 0, NULL, 0, &count) == PEF_TOO_SHORT, "pef_libraries of null");
     expect(pef_fixups(NULL, 0, 0, 0, NULL, 0, &count) == PEF_TOO_SHORT, "pef_fixups of null");
@@ -62,6 +71,8 @@ static void test_null_slices(void)
     number = 7;
     count = 7;
     expect(pef_libraries(container, container_length, 0, NULL, 0, &count) == PEF_OK && count == 0, "pef_libraries to no places");
+    count = 7;
+    expect(pef_partial_imports(container, container_length, 0, NULL, 0, &count) == PEF_OK && count == 0, "pef_partial_imports to no places");
     count = 7;
     expect(pef_fixups(container, container_length, 0, 0, NULL, 0, &count) == PEF_OK && count == 0, "pef_fixups to no places");
     expect(pef_export_named(container, container_length, NULL, 0, &number, &export) == PEF_NOT_THERE && number == 7, "an export without a name");
@@ -99,6 +110,7 @@ static void test_filled(int byte)
     struct pef_relocation relocation;
     struct pef_fixup fixups[3];
     struct pef_export exports[2], found;
+    struct pef_finding finding;
     size_t count = 0, number = 7;
     memset(&section, byte, sizeof section);
     memset(&raw, byte, sizeof raw);
@@ -109,8 +121,15 @@ static void test_filled(int byte)
     memset(fixups, byte, sizeof fixups);
     memset(exports, byte, sizeof exports);
     memset(&found, byte, sizeof found);
+    memset(&finding, byte, sizeof finding);
     expect(pef_section(container, container_length, 0, &section, &raw) == PEF_OK && section.total_size == 16, "a section");
     expect(raw.length >= 4 && raw.at == container + section.container_offset && raw.at[3] == 4, "its bytes");
+    expect(pef_findings(container, container_length - 1, 0, &finding, 1, &count) == PEF_OK && count == 1 && finding.number == PEF_SECTION_OUTSIDE && finding.is_error, "an error");
+    memset(&section, byte, sizeof section);
+    expect(pef_partial_section(container, container_length - 1, 0, &section, &raw) == PEF_OK && section.total_size == 16, "a section of a damaged container");
+    memset(&library, byte, sizeof library);
+    expect(pef_partial_libraries(container, container_length, 0, &library, 1, &count) == PEF_OK && count == 1 && is_named(library.name, "L"), "a library, as far as it can be read");
+    memset(&library, byte, sizeof library);
     expect(pef_name(PEF_BAD_TAG, &name) == PEF_OK && is_named(name, "BadTag"), "the name of a number");
     expect(pef_libraries(container, container_length, 0, &library, 1, &count) == PEF_OK && count == 1 && is_named(library.name, "L"), "a library");
     expect(pef_imports(container, container_length, 0, &import, 1, &count) == PEF_OK && count == 1 && import.weak && is_named(import.name, "i"), "an import");

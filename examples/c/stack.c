@@ -140,6 +140,31 @@ static void call_exports(void)
     answer = pef_export_named(it.at, it.length, (const uint8_t *)"x", 1, &count, &found);
 }
 
+static void call_findings(void)
+{
+    static struct pef_finding rows[PLACES];
+    answer = pef_findings(it.at, it.length, 0, rows, PLACES, &count);
+}
+
+static void call_partial(void)
+{
+    static struct pef_header header;
+    static struct pef_section section;
+    static struct pef_loader loader;
+    static struct pef_library libraries[PLACES];
+    static struct pef_import imports[PLACES];
+    static struct pef_relocation relocations[PLACES];
+    static struct pef_export exports[PLACES];
+    answer = pef_partial_header(it.at, it.length, &header);
+    answer = pef_partial_section(it.at, it.length, 0, &section, &bytes);
+    answer = pef_partial_section_name(it.at, it.length, 0, &bytes);
+    answer = pef_partial_loader(it.at, it.length, &loader);
+    answer = pef_partial_libraries(it.at, it.length, 0, libraries, PLACES, &count);
+    answer = pef_partial_imports(it.at, it.length, 0, imports, PLACES, &count);
+    answer = pef_partial_relocations(it.at, it.length, 0, relocations, PLACES, &count);
+    answer = pef_partial_exports(it.at, it.length, 0, exports, PLACES, &count);
+}
+
 static void call_prepare(void)
 {
     static struct pef_names names;
@@ -203,6 +228,8 @@ static void measure_container(const char *what)
     measure("pef_relocations", what, call_relocations);
     measure("pef_fixups", what, call_fixups);
     measure("pef_exports", what, call_exports);
+    measure("pef_findings", what, call_findings);
+    measure("a call that reads damaged containers", what, call_partial);
     measure("pef_open", what, call_open);
     if (pef_add(&context, (const uint8_t *)"0", 1, it.at, it.length) != PEF_OK)
         exit(2);
