@@ -4,3 +4,5 @@
 pub use Rattle.pef_pidata.proofs.Packings.{packed-expands}
 -- there are at most twice as many packed bytes as the image has
 pub use Rattle.pef_pidata.proofs.Packings.{length-packed_of}
+-- what packed bytes spell has the length that they are expanded to
+pub use Rattle.pef_pidata.proofs.Lengths.{pattern_text-length}

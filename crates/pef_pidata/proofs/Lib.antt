@@ -1,5 +1,6 @@
 pub mod Laws
 mod Arguments
+mod Lengths
 mod Packings
 mod Parts
 mod Repeats
