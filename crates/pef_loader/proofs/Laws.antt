@@ -12,3 +12,5 @@ pub use Rattle.pef_loader.proofs.Loaders.{named_is}
 pub use Rattle.pef_loader.proofs.FindingLemmas.{first_is_reported, unrefused_loader, whole_loader}
 -- a relocation header is the same, whether it is read of a whole loader section or of one that may be damaged
 pub use Rattle.pef_loader.proofs.FindingLemmas.{reloc_row}
+-- each relocation header is one of an instantiated section
+pub use Rattle.pef_loader.proofs.Loaders.{reloc_section}

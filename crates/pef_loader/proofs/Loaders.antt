@@ -1,11 +1,11 @@
 -- What the acceptance of a loader section says, and what it takes.
-use Rattle.std.proofs.Common.{◌≡◌, ℕ, ◌+◌, ◌*◌, ◌<◌, ◌≤◌, Bool, true, false, not, List, Option, None, Some, length, drop, take, refl, sym, ◌∙◌, ap, subst, arith}
+use Rattle.std.proofs.Common.{◌≡◌, ℕ, ◌+◌, ◌*◌, ◌<◌, ◌≤◌, Bool, true, false, cond, not, List, Option, None, Some, length, drop, take, refl, sym, ◌∙◌, ap, subst, arith}
 use Rattle.std.specs.Prelude.{◌||◌, Ok, Err, IsTrue, IfSome, nat_lt, nat_le}
 use Rattle.std.specs.Option.{is_none, option_map_or}
 use Rattle.std.proofs.lemmas.Option.{cond_some, same_Some}
-use Rattle.std.proofs.lemmas.Bool.{not-false, le-leb, leb-false, ltb-false}
+use Rattle.std.proofs.lemmas.Bool.{not-false, le-leb, leb-false, ltb-false, ltb-true}
 use Rattle.pef_words.specs.Bytes.{name_at, part_of}
-use Rattle.pef_words.specs.Refusals.{first_among, first_met}
+use Rattle.pef_words.specs.Refusals.{◌>>=◌, first_among, first_met}
 use Rattle.pef_words.proofs.Laws.Refusals.{first_unmet, none_among, some_among, unless_ok}
 use Rattle.pef_hash.specs.Exports.{entry_of, name_of}
 use Rattle.pef_hash.proofs.Laws.{IsFirstNamed, export_named-some}
@@ -20,11 +20,11 @@ use Rattle.pef_loader.specs.declared.fault.LoaderFault.TheVariants.{LoaderShort,
 use Rattle.pef_loader.specs.Header.{header_of, is_entry, tables_end}
 use Rattle.pef_loader.specs.Library.{library_at, library_refusal, library_tests, owns}
 use Rattle.pef_loader.specs.Import.{import_at, import_refusal, import_tests, owner_at, owner_of}
-use Rattle.pef_loader.specs.Reloc.{instructions_of, reloc_at, reloc_refusal, reloc_tests}
+use Rattle.pef_loader.specs.Reloc.{instructions_of, reloc_at, reloc_in, reloc_refusal, reloc_tests}
 use Rattle.pef_format.specs.Exports.{Export}
 use Rattle.pef_loader.specs.Export.{export_in, export_refusal, export_table, export_tests, has_exports, has_section}
 use Rattle.pef_loader.specs.Kept.Accepted.{IsAccepted}
-use Rattle.pef_loader.specs.Loader.{IsLoader, Loaded, entry_tests, export_of, fault_if, judged, loaded_of, named_of}
+use Rattle.pef_loader.specs.Loader.{IsLoader, Loaded, entry_tests, export_of, fault_if, judged, loaded_of, named_of, reloc_of}
 
 judged_ok : (l : Loaded) (h : LoaderHeader) → header_of l.bytes ≡ Some h → judged l.sections l.bytes h ≡ Ok l → IsAccepted l
 judged_ok l h there ok =
@@ -243,3 +243,26 @@ named_there l name i ok found =
       refl,
       is.2.section,
     )
+
+-- each relocation header is one of an instantiated section
+abbrev pair : ℕ → List ℕ → ℕ × List ℕ
+pair section program = (section, program)
+
+abbrev header_and : Loaded → RelocEntry → Option (ℕ × List ℕ)
+header_and l e = instructions_of l.bytes l.header e >>= (λ instructions. Some (pair e.section instructions))
+
+pub reloc_section : (l : Loaded) (k section : ℕ) (program : List ℕ) → IsLoader l → reloc_of l k ≡ Some (section, program) → section < l.sections
+unfolding reloc_of reloc_in
+reloc_section l k section program ok is = by (nat_lt k l.header.reloc_count) refl is
+  where
+    there : (o : Option RelocEntry) (e : RelocEntry) (instructions : List ℕ) → o ≡ Some e → instructions_of l.bytes l.header e ≡ Some instructions → (o >>= header_and l) ≡ Some (pair e.section instructions)
+    there o e instructions is are = rw (is, are) refl
+
+    by : (b : Bool) → nat_lt k l.header.reloc_count ≡ b → cond b (reloc_at l.bytes l.header k >>= header_and l) None ≡ Some (pair section program) → section < l.sections
+    by true was is =
+        let r = reloc_is l k ok (ltb-true k l.header.reloc_count was) in
+        let same = same_Some (pair r.0.section r.2.instructions) (pair section program) (sym (there (reloc_at l.bytes l.header k) r.0 r.2.instructions r.1 r.2.are) ∙ is) in
+        let sections = ap (λ (h : ℕ × List ℕ). h.0) same in
+        let under = r.2.section in
+        omega (arith, sections, under)
+    by false was is = absurd (cc is)

@@ -2,6 +2,8 @@
 
 -- no more sections are instantiated than there are
 pub use Rattle.pef_views.proofs.Containers.{counts}
+-- the header of each section is there, with as many raw bytes as it says; an instantiated section is one that can be
+pub use Rattle.pef_views.proofs.Containers.{instantiable, raw_whole, section_header_is}
 -- bytes that were written by the grammar are read as that container
 pub use Rattle.pef_views.proofs.Written.{IsWritten, container_of-written}
 -- for a written header, and for a written section, no test holds
