@@ -1,5 +1,5 @@
 -- A fragment's container and its loader section, and how they are prepared.
-use Rattle.std.proofs.Common.{◌≡◌, ℕ, suc, ◌+◌, ◌-◌, ◌<◌, List, [], ◌∷◌, ◌++◌, Option, None, Some, Result, Ok, Err, length, option_map, refl, sym, ap, subst, ◌∙◌, arith}
+use Rattle.std.proofs.Common.{◌≡◌, ℕ, zero, suc, ◌+◌, ◌-◌, ◌<◌, List, [], ◌∷◌, ◌++◌, Option, None, Some, Result, Ok, Err, length, option_map, refl, sym, ap, subst, ◌∙◌, arith}
 use Rattle.std.specs.Option.{option_and_then, option_map_or}
 use Rattle.std.specs.Result.{result_ok, result_unwrap_or}
 use Rattle.pef_views.specs.Container.{Contained, container_of}
@@ -76,6 +76,11 @@ pub program-there : (pairs : List Pair) (p : ℕ) (c : Contained) (l : Loaded) (
 program-there pairs p c l a is loader =
     ap (λ o. option_and_then (λ (d : Contained). option_and_then (λ (e : Loaded). first_reloc_refusal d e a) (loader_at pairs p)) o) is
     ∙ ap (λ o. option_and_then (λ (e : Loaded). first_reloc_refusal c e a) o) loader
+
+-- there is an address for each import
+pub length-addresses : (pairs : List Pair) (all : List Present) (p j n : ℕ) → length (addresses_from pairs all p j n) ≡ n
+length-addresses pairs all p j zero = refl
+length-addresses pairs all p j (suc n) = ap suc (length-addresses pairs all p (j + 1) n)
 
 -- the address of one import more
 pub imports-next : (pairs : List Pair) (all : List Present) (p : ℕ) (items next whole : List ℕ) (j n : ℕ) (target : Option Target) (address : ℕ) → j < n → target_of pairs p j ≡ Ok target → address ≡ target_address all target

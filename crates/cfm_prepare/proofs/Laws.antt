@@ -21,3 +21,9 @@ pub use Rattle.cfm_prepare.proofs.PlacingLemmas.{lacks-room}
 -- a fragment that was placed has a place for each instantiated section of its container, as its loader section knows
 -- their number
 pub use Rattle.cfm_prepare.proofs.FragmentLemmas.{container-of, length-there}
+-- there is an address for each import
+pub use Rattle.cfm_prepare.proofs.FragmentLemmas.{length-addresses}
+-- if some fragments are refused for an image or a relocation header, one with the reported name is
+pub use Rattle.cfm_prepare.proofs.BadLemmas.{HasRefusedHeader, HasRefusedImage, bad-image, bad-program}
+-- the new fragments of a closure are of it
+pub use Rattle.cfm_prepare.proofs.BegunLemmas.{new-members}

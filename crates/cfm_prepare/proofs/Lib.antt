@@ -1,4 +1,5 @@
 mod AddLemmas
+mod BadLemmas
 mod BegunLemmas
 mod BoundLemmas
 mod ConnectionLemmas

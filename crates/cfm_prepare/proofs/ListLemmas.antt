@@ -19,7 +19,8 @@ has-get [] i under = absurd (omega (arith, under))
 has-get (q ∷ qs) zero under = has-first q qs
 has-get (q ∷ qs) (suc i) under = has-later q qs (get_or qs i 0) (has-get qs i (omega (arith, under)))
 
-pub contains-next : (q p : ℕ) (qs : List ℕ) → Contains qs p → Contains (q ∷ qs) p
+-- what a list has, a longer one has
+pub contains-next : {X : Type 0} (q p : X) (qs : List X) → Contains qs p → Contains (q ∷ qs) p
 contains-next q p qs there = (suc there.0, omega (arith, there.1), there.2)
 
 -- a number that a list has is in it

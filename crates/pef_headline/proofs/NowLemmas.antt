@@ -17,7 +17,7 @@ use Rattle.cfm_prepare.specs.Contexts.{ContextState, made_state}
 use Rattle.cfm_prepare.specs.Now.{IsPreparedNow}
 use Rattle.cfm_prepare.specs.Runs.{Runs, Step}
 use Rattle.cfm_prepare.specs.Steps.{Prepares}
-use Rattle.cfm_prepare.proofs.Laws.{run-now, run-prepares}
+use Rattle.cfm_prepare.proofs.Laws.{length-addresses, run-now, run-prepares}
 use Rattle.pef_loader.specs.Loader.{Loaded}
 use Rattle.pef_reloc.specs.Applied.{Addresses, address_of}
 use Rattle.pef_script.specs.Described.{described_at}
@@ -29,11 +29,6 @@ use Rattle.pef_headline.specs.Placed.{IsPlacedAnew, IsPlacedOrKept, WasPlaced}
 use Rattle.pef_headline.proofs.DescribedLemmas.{AreAddresses, addresses_are, extents_are, headers_sound, images_sound, length-extents, prepared_is}
 use Rattle.pef_headline.proofs.LinkedLemmas.{FragmentLinked, fragment_linked, read_fragment}
 use Rattle.pef_headline.proofs.PlacedLemmas.{FoundPlaces, begun, still, was-found}
-
--- there is an address for each import
-length-from : (pairs : List Pair) (all : List Present) (p j n : ℕ) → length (addresses_from pairs all p j n) ≡ n
-length-from pairs all p j zero = refl
-length-from pairs all p j (suc n) = ap suc (length-from pairs all p (j + 1) n)
 
 module _ (script : DescribedScript) (k : LinkedContainer) (linked : IsLinked script k) (pairs : List Pair) (p : ℕ) (holds : (pair_of pairs p).bytes ≡ k.bytes) where
   -- it is read as the script's container
@@ -64,7 +59,7 @@ module _ (script : DescribedScript) (k : LinkedContainer) (linked : IsLinked scr
   -- with places, its sections and its imports have addresses
   addressed : (all : List Present) (before empty : Layout) (places : List Place) → ArePlaced before (extents_in pairs p) places empty → AreAddresses script (addresses_at places (addresses_from pairs all p 0 (import_count pairs p)))
   addressed all before empty places placed =
-      addresses_are script k linked linked_fragment.container linked_fragment.loader read_as_linked.of before empty (addresses_from pairs all p 0 (import_count pairs p)) places (length-from pairs all p 0 (import_count pairs p) ∙ count-is)
+      addresses_are script k linked linked_fragment.container linked_fragment.loader read_as_linked.of before empty (addresses_from pairs all p 0 (import_count pairs p)) places (length-addresses pairs all p 0 (import_count pairs p) ∙ count-is)
       (subst (λ es. ArePlaced before es places empty) extents-in placed)
 
   -- so it is described, in the memory that it was placed in

@@ -16,7 +16,7 @@ use Rattle.cfm_prepare.specs.Fragments.{Present, extents_in, first_bad_image, im
 use Rattle.cfm_prepare.specs.Placing.{AllPlaced, LacksRoom}
 use Rattle.cfm_prepare.specs.Refusals.{HasBadImage, HasBadProgram}
 use Rattle.cfm_prepare.specs.declared.fragment_fault.FragmentFault.TheVariants as fragment
-use Rattle.cfm_prepare.proofs.Laws.{lacks-room, not-past}
+use Rattle.cfm_prepare.proofs.Laws.{HasRefusedHeader, HasRefusedImage, bad-image, bad-program, lacks-room, not-past}
 use Rattle.cfm_prepare.specs.Contexts.{ContextState}
 use Rattle.cfm_prepare.specs.Faults.{fault_number}
 use Rattle.cfm_prepare.specs.Bounds.{PassesAt, bytes_in, steps_in}
@@ -31,79 +31,6 @@ use Rattle.pef_views.specs.declared.fault.ViewFault.{ViewFault}
 use Rattle.pef_headline.specs.Headline.{IsForeign, OthersAreSound}
 use Rattle.pef_headline.specs.Others.{HasForeign, NamesForeign}
 use Rattle.pef_headline.proofs.NowLemmas.{linked-filled, linked-read, linked-relocated}
-
-contains-later : {X : Type 0} (x y : X) (xs : List X) → Contains xs x → Contains (y ∷ xs) x
-contains-later x y xs there = (suc there.0, omega (arith, there.1), there.2)
-
--- the name of a refusal
-abbrev named-by : {F : Type 0} → List ℕ → Option (List ℕ × F) → List ℕ
-named-by name None = name
-named-by name (Some refusal) = refusal.0
-
-told : {F : Type 0} (name here : List ℕ) (k e : F) → ◌≡◌ {A = Option (List ℕ × F)} (Some (here, e)) (Some (name, k)) → name ≡ here
-told name here k e same = sym (ap (named-by name) same)
-
--- among some fragments one with a name has an image that is refused
-record HasRefusedImage (pairs : List Pair) (ps : List ℕ) (name : List ℕ) : Type 0 where
-  position : ℕ
-  member : Contains ps position
-  is : name ≡ (pair_of pairs position).name
-  fault : ImageFault
-  refused : image_refusal_in pairs position ≡ Some fault
-
-bad-image : (pairs : List Pair) (fs : List Present) (name : List ℕ) (k : ImageFault) → first_bad_image pairs fs ≡ Some (name, k) → HasRefusedImage pairs (positions fs) name
-bad-image pairs [] name k is = absurd (cc)
-bad-image pairs (f ∷ fs) name k is = by (image_refusal_in pairs f.position) refl is (bad-image pairs fs name k)
-  where
-    by : (o : Option ImageFault) → image_refusal_in pairs f.position ≡ o → option_or (named pairs f.position o) (first_bad_image pairs fs) ≡ Some (name, k) → (first_bad_image pairs fs ≡ Some (name, k) → HasRefusedImage pairs (positions fs) name)
-        → HasRefusedImage pairs (positions (f ∷ fs)) name
-    by None was is later =
-        let one = later is in
-        record { position = one.position; member = contains-later one.position f.position (positions fs) one.member; is = one.is; fault = one.fault; refused = one.refused }
-    by (Some e) was is later = record { position = f.position; member = (0, omega arith, refl); is = told name (pair_of pairs f.position).name k e is; fault = e; refused = was }
-
--- among some fragments one with a name, which was placed, has a relocation header that is refused
-record HasRefusedHeader (pairs : List Pair) (all fs : List Present) (name : List ℕ) : Type 0 where
-  one : Present
-  member : Contains fs one
-  position : Contains (positions fs) one.position
-  is : name ≡ (pair_of pairs one.position).name
-  before : Layout
-  after : Layout
-  placed : ArePlaced before (extents_in pairs one.position) one.places after
-  fault : ProgramFault
-  refused : reloc_refusal_in pairs (addresses_of pairs all one) one.position ≡ Some fault
-
-bad-program : (pairs : List Pair) (all : List Present) (m after : Layout) (fs : List Present) (name : List ℕ) (k : ProgramFault) → AllPlaced pairs m fs after → first_bad_program pairs all fs ≡ Some (name, k) → HasRefusedHeader pairs all fs name
-bad-program pairs all m after [] name k placed is = absurd (cc)
-bad-program pairs all m after (f ∷ fs) name k placed is = by (reloc_refusal_in pairs (addresses_of pairs all f) f.position) refl is (bad-program pairs all placed.0 after fs name k placed.2)
-  where
-    by : (o : Option ProgramFault) → reloc_refusal_in pairs (addresses_of pairs all f) f.position ≡ o → option_or (named pairs f.position o) (first_bad_program pairs all fs) ≡ Some (name, k)
-        → (first_bad_program pairs all fs ≡ Some (name, k) → HasRefusedHeader pairs all fs name) → HasRefusedHeader pairs all (f ∷ fs) name
-    by None was is later =
-        let r = later is in
-        record {
-          one = r.one;
-          member = contains-later r.one f fs r.member;
-          position = contains-later r.one.position f.position (positions fs) r.position;
-          is = r.is;
-          before = r.before;
-          after = r.after;
-          placed = r.placed;
-          fault = r.fault;
-          refused = r.refused;
-        }
-    by (Some e) was is later = record {
-      one = f;
-      member = (0, omega arith, refl);
-      position = (0, omega arith, refl);
-      is = told name (pair_of pairs f.position).name k e is;
-      before = m;
-      after = placed.0;
-      placed = placed.1;
-      fault = e;
-      refused = was;
-    }
 
 -- a fragment that is refused isn't linked
 image-foreign : (pairs : List Pair) (ps : List ℕ) (name : List ℕ) (r : HasRefusedImage pairs ps name) → IsForeign pairs r.position
