@@ -1,0 +1,2 @@
+mod NamedLemmas
+mod SoundLemmas
