@@ -49,8 +49,8 @@ impl<'a> Model for Bindings<'a> {
 }
 
 impl<'a> Bindings<'a> {
-    /// Returns the closure order of the fragment in a place of a store, with no target known. What was read of the
-    /// store's fragments is taken from a cache, and goes there.
+    /// Returns the closure order of the fragment in a place of a store. What a cache has of the store's fragments is taken
+    /// from there, and what is read goes there, also if the order is refused.
     ///
     /// # Errors
     ///
@@ -69,7 +69,8 @@ impl<'a> Bindings<'a> {
         ensures cache { IsCache store.now cache.new }
     {
         let views = cache.take_views(store)?;
-        let walk = Walk::from_root(alloc, store, &cache.rows, views, root)?;
+        let mut walk = Walk::new(alloc, store, views)?;
+        let walked = walk.visit_all(store, &cache.rows, root);
         let Walk {
             fragments,
             closed,
@@ -77,6 +78,7 @@ impl<'a> Bindings<'a> {
             ..
         } = walk;
         cache.put_views(fragments);
+        walked?;
         let pairs = Vec::from_slice(alloc, store.pairs())?;
         Ok(Bindings {
             pairs,

@@ -6,7 +6,7 @@ ghost use Rattle.cfm_closure.specs.Additions.{with_pair};
 ghost use Rattle.cfm_closure.specs.Fragments.{loader_at};
 ghost use Rattle.cfm_closure.specs.Kept.Caches.{AreKeptRows, IsCache, IsOrderOfClosure, KeepsFirst, NoneNames};
 ghost use Rattle.cfm_closure.specs.Kept.Targets.{AreResolved};
-ghost use Rattle.cfm_closure.specs.Kept.Views.{AreRead};
+ghost use Rattle.cfm_closure.specs.Kept.Views.{AreRead, AreViews};
 ghost use Rattle.cfm_closure.specs.Stores.{Pair};
 
 use crate::bindings::Bindings;
@@ -46,8 +46,7 @@ impl<'a> Cache<'a> {
         store: &Store<'a>,
     ) -> Result<PlaceTable<FragmentView<'a>>, AllocError>
         requires { IsCache store.now self.old }
-        ensures size { IfOk result (λ views. length views ≡ length store.now) }
-        ensures read { IfOk result (λ views. AreRead store.now views) }
+        ensures views { IfOk result (λ views. AreViews store.now views) }
         ensures cache { IsCache store.now self.new }
     {
         self.views.grow(store.len())?;
@@ -113,8 +112,8 @@ impl<'a> Cache<'a> {
         }
     }
 
-    /// Returns whether a fragment whose targets are kept has a library entry with a name. If such a fragment was read,
-    /// but isn't kept, the answer is yes.
+    /// Returns whether a fragment whose targets are kept has a library entry with a name. If what was read of it isn't
+    /// kept, the answer is yes.
     fn names_library(&self, name: &[u8]) -> bool
         ensures { result ≡ false → (pairs : List Pair) → AreRead pairs self.now.views → NoneNames pairs self.now.rows name.now }
     {
@@ -126,7 +125,7 @@ impl<'a> Cache<'a> {
         false
     }
 
-    /// Returns whether the fragment in a place has a library entry with a name, or isn't kept.
+    /// Returns whether the fragment in a place has a library entry with a name, or what was read of it isn't kept.
     fn may_name(&self, p: usize, name: &[u8]) -> bool
         ensures { result ≡ false → (pairs : List Pair) → AreRead pairs self.now.views → (l : ℕ) (library : Library) → option_and_then (λ x. library_of x l) (loader_at pairs p) ≡ Some library → library.name ≢ name.now }
     {

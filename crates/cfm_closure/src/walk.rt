@@ -7,7 +7,7 @@ ghost use Rattle.cfm_closure.specs.Fragments.{import_count};
 ghost use Rattle.cfm_closure.specs.Kept.Caches.{AreKeptRows};
 ghost use Rattle.cfm_closure.specs.Kept.Targets.{AreAllKnown, AreRight};
 ghost use Rattle.cfm_closure.specs.Kept.Paths.{Continues, IsFrame, IsSameFrame, IsWalk, Next, count_of, frame_and_rest, rest_of_path, state_of, steps_left, visit_and_rest};
-ghost use Rattle.cfm_closure.specs.Kept.Views.{AreKept, AreRead};
+ghost use Rattle.cfm_closure.specs.Kept.Views.{AreKept, AreRead, AreViews};
 ghost use Rattle.cfm_closure.specs.Kept.Walks.{unmet_of};
 
 use crate::binding::bind;
@@ -103,13 +103,12 @@ fn kept_or_unknown(
 
 impl<'a> Walk<'a> {
     /// Returns a walk that visited no fragment yet, with the fragments that were read before.
-    fn new(
+    pub fn new(
         alloc: Global,
         store: &Store<'a>,
         fragments: PlaceTable<FragmentView<'a>>,
     ) -> Result<Walk<'a>, AllocError>
-        requires size { length fragments ≡ length store.now }
-        requires read { AreRead store.now fragments }
+        requires { AreViews store.now fragments }
         ensures walk { IfOk result (λ w. IsWalk store.now w) }
         ensures state { IfOk result (λ w. state_of w ≡ unwalked store.now) }
         ensures path { IfOk result (λ w. w.path.items ≡ []) }
@@ -127,26 +126,26 @@ impl<'a> Walk<'a> {
         })
     }
 
-    /// Returns the completed walk from a fragment. Fragments that were read before aren't read again, and those with kept
+    /// Visits a fragment and all that it needs. Fragments that were read before aren't read again, and those with kept
     /// targets have them.
-    pub fn from_root(
-        alloc: Global,
+    pub fn visit_all(
+        &mut self,
         store: &Store<'a>,
         rows: &PlaceTable<SharedTargets>,
-        fragments: PlaceTable<FragmentView<'a>>,
         root: usize,
-    ) -> Result<Walk<'a>, BindFault<'a>>
+    ) -> Result<(), BindFault<'a>>
         requires root { root < length store.now }
         requires rows { AreKeptRows store.now rows.now }
-        requires size { length fragments ≡ length store.now }
-        requires read { AreRead store.now fragments }
-        ensures walk { IfOk result (λ w. IsWalk store.now w) }
-        ensures answer { Answers (λ w. w.order.items) result (order_of store.now root) }
+        requires walk { IsWalk store.now self.old }
+        requires state { state_of self.old ≡ unwalked store.now }
+        requires path { self.old.path.items ≡ [] }
+        ensures walk { OnOk result (IsWalk store.now self.new) }
+        ensures views { AreViews store.now self.new.fragments }
+        ensures answer { Answers (λ done. self.new.order.items) result (order_of store.now root) }
     {
-        let mut walk = Walk::new(alloc, store, fragments)?;
-        walk.enter(store, root)?;
-        walk.run(store, rows)?;
-        Ok(walk)
+        self.enter(store, root)?;
+        self.run(store, rows)?;
+        Ok(())
     }
 
     /// Visits a new fragment: it is read, and put onto the path.
@@ -155,6 +154,7 @@ impl<'a> Walk<'a> {
         requires unmet { is_marked (state_of self.old) p ≡ false }
         requires walk { IsWalk store.now self.old }
         ensures walk { OnOk result (IsWalk store.now self.new) }
+        ensures views { AreViews store.now self.new.fragments }
         ensures continues { Continues result (rest_of_path store.now self.new.path.items (state_of self.new)) (visit_and_rest store.now p self.old.path.items (state_of self.old)) }
         ensures fewer { OnOk result (steps_left self.new < steps_left self.old) }
     {
@@ -180,6 +180,7 @@ impl<'a> Walk<'a> {
         requires frame { IsFrame store.now self.old.fragments frame }
         requires all { length frame.libraries ≡ count_of frame }
         ensures walk { OnOk result (IsWalk store.now self.new) }
+        ensures views { AreViews store.now self.new.fragments }
         ensures continues { Continues result (rest_of_path store.now self.new.path.items (state_of self.new)) (rest_of_path store.now self.old.path.items (joining frame.entry.p (state_of self.old))) }
         ensures fewer { OnOk result (steps_left self.new < steps_left self.old + 1) }
     {
@@ -207,6 +208,7 @@ impl<'a> Walk<'a> {
         requires walk { IsWalk store.now self.old }
         requires frame { IsFrame store.now self.old.fragments frame }
         ensures walk { OnOk result (IsWalk store.now self.new) }
+        ensures views { AreViews store.now self.new.fragments }
         ensures continues { Continues result (rest_of_path store.now self.new.path.items (state_of self.new)) (frame_and_rest store.now frame.entry self.old.path.items (state_of self.old)) }
         ensures fewer { OnOk result (steps_left self.new < steps_left self.old + 1) }
     {
@@ -229,6 +231,7 @@ impl<'a> Walk<'a> {
         requires rows { AreKeptRows store.now rows.now }
         requires walk { IsWalk store.now self.old }
         ensures walk { OnOk result (IsWalk store.now self.new) }
+        ensures views { AreViews store.now self.new.fragments }
         ensures answer { Answers (λ done. state_of self.new) result (rest_of_path store.now self.old.path.items (state_of self.old)) }
     {
         while let Some(frame) = self.path.pop() {

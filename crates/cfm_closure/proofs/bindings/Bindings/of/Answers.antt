@@ -9,11 +9,11 @@ use Rattle.cfm_closure.proofs.bindings.Bindings.of.Goals as goal
 pub invariant_of-result : goal.invariant_of-result
 invariant_of-result c =
     let pairs = ap (map pair_seen) c.in_ok-pairs.ensures.items ∙ c.pairs.ensures.pairs in
-    let tables = c.in_ok-walk.ensures.walk in
-    subst (λ pairs. AreBindings pairs c.in_ok-walk.walk.closed c.in_ok-walk.walk.order.items) (sym pairs) (record {
+    let tables = c.in_ok-walked.ensures.walk in
+    subst (λ pairs. AreBindings pairs c.visit_all-walked.new.self.closed c.visit_all-walked.new.self.order.items) (sym pairs) (record {
       size = tables.closed_size;
       walked = tables.walked;
-      complete = order-complete c.args.store.now c.args.root c.in_ok-walk.walk.order.items c.in_ok-walk.ensures.answer;
+      complete = order-complete c.args.store.now c.args.root c.visit_all-walked.new.self.order.items c.in_ok-walked.ensures.answer;
       few = c.pairs.ensures.few;
     })
 
@@ -23,14 +23,20 @@ returns-in_err-walk-clause-answer c = search rules
 pub returns-clause-answer : goal.returns-clause-answer
 returns-clause-answer c = search rules
 
+pub returns-in_err-walked-clause-cache : goal.returns-in_err-walked-clause-cache
+returns-in_err-walked-clause-cache c =
+    let views = c.visit_all-walked.ensures.views in
+    rw c.put_views.ensures.views
+    (cache_of c.args.store.now c.take_views.new.self.views c.take_views.new.self.rows c.in_ok-views.ensures.cache c.visit_all-walked.new.self.fragments c.put_views.new.self.rows views.size views.read c.put_views.ensures.rows)
+
 pub returns-in_err-pairs-clause-cache : goal.returns-in_err-pairs-clause-cache
 returns-in_err-pairs-clause-cache c =
-    let tables = c.in_ok-walk.ensures.walk in
+    let views = c.visit_all-walked.ensures.views in
     rw c.put_views.ensures.views
-    (cache_of c.args.store.now c.take_views.new.self.views c.take_views.new.self.rows c.in_ok-views.ensures.cache c.in_ok-walk.walk.fragments c.put_views.new.self.rows tables.fragments_size tables.read c.put_views.ensures.rows)
+    (cache_of c.args.store.now c.take_views.new.self.views c.take_views.new.self.rows c.in_ok-views.ensures.cache c.visit_all-walked.new.self.fragments c.put_views.new.self.rows views.size views.read c.put_views.ensures.rows)
 
 pub returns-clause-cache : goal.returns-clause-cache
 returns-clause-cache c =
-    let tables = c.in_ok-walk.ensures.walk in
+    let views = c.visit_all-walked.ensures.views in
     rw c.put_views.ensures.views
-    (cache_of c.args.store.now c.take_views.new.self.views c.take_views.new.self.rows c.in_ok-views.ensures.cache c.in_ok-walk.walk.fragments c.put_views.new.self.rows tables.fragments_size tables.read c.put_views.ensures.rows)
+    (cache_of c.args.store.now c.take_views.new.self.views c.take_views.new.self.rows c.in_ok-views.ensures.cache c.visit_all-walked.new.self.fragments c.put_views.new.self.rows views.size views.read c.put_views.ensures.rows)
