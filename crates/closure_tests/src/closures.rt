@@ -34,7 +34,16 @@ fn store_of_pairs<'a>(rt: &impl Abort, alloc: Global, pairs: &[(&'a str, &'a [u8
 /// Returns the same for a store.
 fn reported_of(rt: &impl Abort, alloc: Global, store: &Store<'_>) -> String {
     assert!(rt; !store.is_empty());
-    match closure(alloc, store, 0) {
+    reported(rt, alloc, closure(alloc, store, 0))
+}
+
+/// Returns the same for the answer of a call.
+pub(crate) fn reported(
+    rt: &impl Abort,
+    alloc: Global,
+    answer: Result<Closure<'_>, BindFault<'_>>,
+) -> String {
+    match answer {
         Ok(closure) => reported_closure(rt, alloc, &closure),
         Err(fault) => reported_fault(rt, alloc, fault),
     }

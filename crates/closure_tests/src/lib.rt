@@ -5,6 +5,8 @@
 #[cfg(test)]
 mod bound;
 #[cfg(test)]
+mod cached;
+#[cfg(test)]
 mod closures;
 #[cfg(test)]
 mod pairs;
