@@ -1,1 +1,2 @@
+mod Merging
 mod TokenLemmas

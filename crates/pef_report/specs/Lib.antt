@@ -1,8 +1,15 @@
 pub mod Dates
 pub mod Findings
 pub mod Frames
+pub mod Inspection
 pub mod Lines
+pub mod Members
 pub mod Objects
+pub mod Order
+pub mod Readable
+pub mod RowViews
 pub mod Strings
 pub mod Tokens
 pub mod Versions
+pub mod Views
+pub mod Walks

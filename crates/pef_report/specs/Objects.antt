@@ -85,11 +85,11 @@ entry_object label at section offset =
     (label ++ codes "{\"offset\":" ++ decimal at ++ codes ",\"section\":" ++ sign_text section
     ++ decimal (magnitude section) ++ codes ",\"value\":" ++ decimal offset ++ codes "}")
 
--- the beginning of a relocation header. Its instructions follow
+-- a relocation header
 unfoldable pub relocation_object : ℕ → ℕ → ℕ → ℕ → List ℕ
 relocation_object at section count first =
     codes "{\"offset\":" ++ decimal at ++ codes ",\"section\":" ++ decimal section ++ codes ",\"halfwords\":"
-    ++ decimal count ++ codes ",\"first\":" ++ decimal first ++ codes ",\"instructions\":["
+    ++ decimal count ++ codes ",\"first\":" ++ decimal first ++ codes "}"
 
 -- an export
 unfoldable pub export_object : ℕ → Option (List ℕ) → ℕ → ℤ → ℕ → List ℕ

@@ -269,7 +269,7 @@ fn export_field(field: usize) -> &'static [u8]
 }
 
 /// Returns the offset in the file of a place in a container that begins at `base`.
-fn offset_in_file(base: u64, offset: Option<usize>) -> Option<u64>
+pub(crate) fn offset_in_file(base: u64, offset: Option<usize>) -> Option<u64>
     ensures { result ≡ offset_in_file base offset }
 {
     match offset {

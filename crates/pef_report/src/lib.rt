@@ -3,20 +3,27 @@
 
 mod dates;
 mod finding;
+mod found;
 mod frames;
+mod inspection;
 mod lines;
+mod members;
 mod objects;
 mod optional;
+mod order;
+mod reading;
 mod rows;
 mod strings;
 mod tokens;
 mod versions;
+mod walk;
 
 pub use finding::{print_finding, print_finding_object};
 pub use frames::{
     Counts, print_counts, print_error_end, print_file_error, print_file_line, print_file_object,
     print_unread_line, print_unread_object,
 };
+pub use inspection::Inspection;
 pub use lines::{
     print_entry, print_export, print_header, print_import, print_library, print_loader,
     print_relocation, print_section,

@@ -285,7 +285,7 @@ pub fn print_entry_object<W: Sink>(
     )
 }
 
-/// Prints the beginning of a relocation header. Its instructions and `]}` follow.
+/// Prints a relocation header.
 #[tactic(auto, unfolding(crate::specs::Objects::relocation_object))]
 pub fn print_relocation_object<W: Sink>(
     out: &mut W,
@@ -306,7 +306,7 @@ pub fn print_relocation_object<W: Sink>(
             Token::Number(u64::from(row.count)),
             Token::Text(b",\"first\":"),
             Token::Number(u64::from(row.first)),
-            Token::Text(b",\"instructions\":["),
+            Token::Text(b"}"),
         ],
     )
 }

@@ -1,0 +1,69 @@
+-- Rows and findings that are printed in turn.
+use Rattle.std.proofs.Common.{◌≡◌, ◌∙◌, ℕ, suc, ◌+◌, ◌-◌, ◌<◌, ◌≤◌, Bool, true, false, cond, List, [], ◌∷◌, ◌++◌, None, refl, sym, ap, arith, append_assoc}
+use Rattle.pef_format.specs.declared.place.Part.{Part}
+use Rattle.pef_format.specs.declared.place.Part.TheVariants.{Header}
+use Rattle.pef_inspect.specs.declared.finding.Cause.TheVariants.{View}
+use Rattle.pef_inspect.specs.declared.finding.Finding.{Finding}
+use Rattle.pef_views.specs.declared.fault.ViewFault.TheVariants.{TooShort}
+use Rattle.pef_report.specs.Inspection.{Row, element, elements, finding_json, findings_json, findings_text, is_chosen, merged_left, merged_text, row_at, rows_among, separator}
+use Rattle.pef_report.specs.Order.{after, before}
+use Rattle.pef_report.specs.Readable.{Readable}
+use Rattle.pef_report.specs.declared.members.Member.{Member}
+
+-- a finding in place of those past the last one
+abbrev pub no_finding : Finding
+no_finding = record { cause = View TooShort; place = record { part = Header; row = 0; field = 0; offset = None } }
+
+-- the first of the rows that are left
+pub rows_among-next : (r : Readable) (kind : Part) (i n : ℕ) → i < n → rows_among r kind i (n - i) ≡ row_at r kind i ∷ rows_among r kind (i + 1) (n - (i + 1))
+rows_among-next r kind i n under =
+    let e : n - i ≡ suc (n - (i + 1)) = omega arith in
+    rw e refl
+
+pub rows_among-none : (r : Readable) (kind : Part) (i n : ℕ) → n ≤ i → rows_among r kind i (n - i) ≡ []
+rows_among-none r kind i n past =
+    let e : n - i ≡ 0 = omega arith in
+    rw e refl
+
+-- the first of the elements that are left
+pub elements-next : (r : Readable) (kind : Part) (i n : ℕ) → i < n → elements r kind i (n - i) ≡ element r kind i ++ elements r kind (i + 1) (n - (i + 1))
+elements-next r kind i n under =
+    let e : n - i ≡ suc (n - (i + 1)) = omega arith in
+    rw e refl
+
+pub elements-none : (r : Readable) (kind : Part) (i n : ℕ) → n ≤ i → elements r kind i (n - i) ≡ []
+elements-none r kind i n past =
+    let e : n - i ≡ 0 = omega arith in
+    rw e refl
+
+-- rows after rows
+pub merged_text-append : (base : ℕ) (xs ys : List Row) (left : List Finding) → merged_text base (xs ++ ys) left ≡ merged_text base xs left ++ merged_text base ys (merged_left xs left)
+merged_text-append base [] ys left = refl
+merged_text-append base (row ∷ xs) ys left =
+    let here = findings_text base (before row.rank left) ++ row.text in
+    let rest = after row.rank left in
+    ap (λ t. here ++ t) (merged_text-append base xs ys rest) ∙ sym (append_assoc here (merged_text base xs rest) (merged_text base ys (merged_left xs rest)))
+
+pub merged_left-append : (xs ys : List Row) (left : List Finding) → merged_left (xs ++ ys) left ≡ merged_left ys (merged_left xs left)
+merged_left-append [] ys left = refl
+merged_left-append (row ∷ xs) ys left = merged_left-append xs ys (after row.rank left)
+
+-- a finding that is printed in a list
+pub chosen-next : (base : ℕ) (errors is_first : Bool) (f : Finding) (fs : List Finding) → is_chosen errors f ≡ true → findings_json base errors is_first (f ∷ fs) ≡ (separator is_first ++ finding_json base f) ++ findings_json base errors false fs
+chosen-next base errors is_first f fs chosen = by (is_chosen errors f) chosen
+  where
+    by : (b : Bool) → b ≡ true → cond b ((separator is_first ++ finding_json base f) ++ findings_json base errors false fs) (findings_json base errors is_first fs) ≡ (separator is_first ++ finding_json base f) ++ findings_json base errors false fs
+    by true same = refl
+    by false same = absurd (cc same)
+
+-- a member in place of those past the last one
+abbrev pub no_member : Member
+no_member = record { key = record { ref_ptr = (0, 0); now = [] }; part = Header }
+
+-- one that isn't
+pub unchosen-next : (base : ℕ) (errors is_first : Bool) (f : Finding) (fs : List Finding) → is_chosen errors f ≡ false → findings_json base errors is_first (f ∷ fs) ≡ findings_json base errors is_first fs
+unchosen-next base errors is_first f fs chosen = by (is_chosen errors f) chosen
+  where
+    by : (b : Bool) → b ≡ false → cond b ((separator is_first ++ finding_json base f) ++ findings_json base errors false fs) (findings_json base errors is_first fs) ≡ findings_json base errors is_first fs
+    by true same = absurd (cc same)
+    by false same = refl

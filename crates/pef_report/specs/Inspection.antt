@@ -1,0 +1,176 @@
+-- The inspection of a container as text and as JSON.
+use Rattle.std.specs.Prelude.{◌≡◌, ℕ, zero, suc, ◌+◌, ◌==◌, Bool, true, false, not, List, [], ◌∷◌, ◌++◌, codes, decimal, if◌then◌else◌}
+use Rattle.std.specs.Option.{unwrap_or}
+use Rattle.pef_format.specs.declared.place.Part.{Part}
+use Rattle.pef_format.specs.declared.place.Part.TheVariants as part
+use Rattle.pef_inspect.specs.Errors.{errors_of}
+use Rattle.pef_inspect.specs.Findings.{finding_name, finding_number, is_error}
+use Rattle.pef_inspect.specs.Oddities.{notes_of}
+use Rattle.pef_inspect.specs.declared.finding.Cause.{Cause}
+use Rattle.pef_inspect.specs.declared.finding.Cause.TheVariants as cause
+use Rattle.pef_inspect.specs.declared.finding.Finding.{Finding}
+use Rattle.pef_inspect.specs.declared.note.Note.{Note}
+use Rattle.pef_inspect.specs.declared.note.Note.TheVariants.{ReservedNotZero, UnknownKind, UnknownShare, VersionBelowOldest, EntryOutside, ExportOutside, WordOutsideImage, IrregularExports, TrailingBytes, ProgramsUnverified, ImagesUnverified, Overlap, UnownedBytes, WordRelocatedTwice}
+use Rattle.pef_report.specs.Findings.{finding_line, finding_object}
+use Rattle.pef_report.specs.Order.{IsInOrder, after, before, rank}
+use Rattle.pef_report.specs.Readable.{Readable, line_at, object_at, readable_at, row_count}
+use Rattle.pef_report.specs.declared.rows.Detail.{Detail}
+use Rattle.pef_report.specs.declared.rows.Detail.TheVariants as detail
+
+-- the bytes of a container, their offset in the file, and all errors and notes in the order of their rows
+pub record Inspected : Type 0 where
+  pub base : ℕ
+  pub bytes : List ℕ
+  pub findings : List Finding
+
+-- the inspection of some bytes: errors, notes, and notes that need memory, in the order of their rows
+pub record Inspects (base : ℕ) (bytes : List ℕ) (i : Inspected) : Type 0 where
+  pub base_is : i.base ≡ base
+  pub bytes_are : i.bytes ≡ bytes
+  pub irregular : Bool
+  pub more : List Finding
+  pub findings_are : IsInOrder (errors_of bytes ++ (notes_of bytes irregular ++ more)) i.findings
+
+-- the errors among findings, or the notes
+abbrev pub is_chosen : Bool → Finding → Bool
+is_chosen errors f = if errors then is_error f else not (is_error f)
+
+-- how many they are
+abbrev pub count_chosen : Bool → List Finding → ℕ
+count_chosen errors [] = 0
+count_chosen errors (f ∷ fs) = if is_chosen errors f then suc (count_chosen errors fs) else count_chosen errors fs
+
+-- the number that a note has beside its place
+abbrev pub note_detail : Note → Detail
+note_detail (WordOutsideImage word) = detail.Word word
+note_detail (WordRelocatedTwice word) = detail.Word word
+note_detail (TrailingBytes len) = detail.Length len
+note_detail (Overlap len) = detail.Length len
+note_detail (UnownedBytes len) = detail.Length len
+note_detail ReservedNotZero = detail.None
+note_detail UnknownKind = detail.None
+note_detail UnknownShare = detail.None
+note_detail VersionBelowOldest = detail.None
+note_detail EntryOutside = detail.None
+note_detail ExportOutside = detail.None
+note_detail IrregularExports = detail.None
+note_detail ProgramsUnverified = detail.None
+note_detail ImagesUnverified = detail.None
+
+abbrev pub detail_of : Cause → Detail
+detail_of (cause.Note n) = note_detail n
+detail_of (cause.View f) = detail.None
+detail_of (cause.Loader f) = detail.None
+detail_of (cause.Pack f) = detail.None
+detail_of (cause.Reloc f) = detail.None
+
+-- the line of an error or a note, and its object
+unfoldable pub finding_text : ℕ → Finding → List ℕ
+finding_text base f = finding_line base (finding_number f) (finding_name f) (is_error f) f.place (detail_of f.cause)
+
+unfoldable pub finding_json : ℕ → Finding → List ℕ
+finding_json base f = finding_object base (finding_number f) (finding_name f) f.place (detail_of f.cause)
+
+-- the lines of errors and notes
+abbrev pub findings_text : ℕ → List Finding → List ℕ
+findings_text base [] = []
+findings_text base (f ∷ fs) = finding_text base f ++ findings_text base fs
+
+-- a row: its place in the order, and its line, which is empty if it can't be read
+pub record Row : Type 0 where
+  pub rank : ℕ
+  pub text : List ℕ
+
+abbrev pub row_at : Readable → Part → ℕ → Row
+row_at r kind i = record { rank = rank kind i; text = unwrap_or (line_at r kind i) [] }
+
+-- n rows of a kind
+abbrev pub rows_among : Readable → Part → ℕ → ℕ → List Row
+rows_among r kind from zero = []
+rows_among r kind from (suc n) = row_at r kind from ∷ rows_among r kind (from + 1) n
+
+-- all rows of some kinds
+abbrev pub rows_of : Readable → List Part → List Row
+rows_of r [] = []
+rows_of r (kind ∷ kinds) = rows_among r kind 0 (row_count r kind) ++ rows_of r kinds
+
+-- the kinds of rows, in the order in which they are printed
+abbrev pub row_parts : List Part
+row_parts = part.Header ∷ part.Section ∷ part.LoaderHeader ∷ part.Library ∷ part.Import ∷ part.Main ∷ part.Init ∷ part.Term
+    ∷ part.Relocation ∷ part.Export ∷ []
+
+-- the lines of rows. Before each row are the lines of those errors and notes that are about rows before it
+abbrev pub merged_text : ℕ → List Row → List Finding → List ℕ
+merged_text base [] left = []
+merged_text base (row ∷ rows) left = (findings_text base (before row.rank left) ++ row.text) ++ merged_text base rows (after row.rank left)
+
+-- the errors and notes that are left after the last row
+abbrev pub merged_left : List Row → List Finding → List Finding
+merged_left [] left = left
+merged_left (row ∷ rows) left = merged_left rows (after row.rank left)
+
+-- the text of an inspection: the rows that can be read, each with the errors and notes about it below it
+unfoldable pub inspection_text : Inspected → List ℕ
+inspection_text i =
+    let rows = rows_of (readable_at i.base i.bytes) row_parts in
+    merged_text i.base rows i.findings ++ findings_text i.base (merged_left rows i.findings)
+
+-- what is between the members of a list
+abbrev pub separator : Bool → List ℕ
+separator is_first = if is_first then [] else codes ","
+
+-- the objects of the errors among findings, or of the notes, with commas between them
+abbrev pub findings_json : ℕ → Bool → Bool → List Finding → List ℕ
+findings_json base errors is_first [] = []
+findings_json base errors is_first (f ∷ fs) =
+    if is_chosen errors f
+    then (separator is_first ++ finding_json base f) ++ findings_json base errors false fs
+    else findings_json base errors is_first fs
+
+-- how many objects there are of a kind of row: one if a container can't have several of them
+abbrev pub object_count : Readable → Part → ℕ
+object_count r part.Header = 1
+object_count r part.LoaderHeader = 1
+object_count r part.Main = 1
+object_count r part.Init = 1
+object_count r part.Term = 1
+object_count r kind = row_count r kind
+
+-- the object of row i of a kind, or `null` if it can't be read, after a comma
+abbrev pub element : Readable → Part → ℕ → List ℕ
+element r kind i = separator (i == 0) ++ unwrap_or (object_at r kind i) (codes "null")
+
+abbrev pub elements : Readable → Part → ℕ → ℕ → List ℕ
+elements r kind from zero = []
+elements r kind from (suc n) = element r kind from ++ elements r kind (from + 1) n
+
+-- members of an object: what is before the elements of each, and their kind
+abbrev pub members_text : Readable → List (List ℕ × Part) → List ℕ
+members_text r [] = []
+members_text r (m ∷ members) = (m.0 ++ elements r m.1 0 (object_count r m.1)) ++ members_text r members
+
+abbrev pub row_members : List (List ℕ × Part)
+row_members = (codes ",\"header\":", part.Header)
+    ∷ (codes ",\"sections\":[", part.Section)
+    ∷ (codes "],\"loader\":", part.LoaderHeader)
+    ∷ (codes ",\"libraries\":[", part.Library)
+    ∷ (codes "],\"imports\":[", part.Import)
+    ∷ (codes "],\"relocations\":[", part.Relocation)
+    ∷ (codes "],\"exports\":[", part.Export)
+    ∷ (codes "],\"entries\":{\"main\":", part.Main)
+    ∷ (codes ",\"init\":", part.Init)
+    ∷ (codes ",\"term\":", part.Term)
+    ∷ []
+
+-- the rows of a container as members of its object
+unfoldable pub rows_json : Inspected → List ℕ
+rows_json i = (codes "{\"offset\":" ++ decimal i.base) ++ members_text (readable_at i.base i.bytes) row_members
+
+-- the list of errors, or of notes
+unfoldable pub list_json : List ℕ → Inspected → Bool → List ℕ
+list_json key i errors = key ++ findings_json i.base errors true i.findings
+
+-- the object of JSON of an inspection, on one line
+unfoldable pub inspection_object : Inspected → List ℕ
+inspection_object i =
+    rows_json i ++ (list_json (codes "},\"errors\":[") i true ++ (list_json (codes "],\"notes\":[") i false ++ codes "]}"))

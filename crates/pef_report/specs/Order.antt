@@ -1,0 +1,50 @@
+-- The order in which rows are printed, and errors and notes among them.
+use Rattle.std.specs.Prelude.{ℕ, suc, ◌+◌, ◌*◌, ◌^◌, List, [], ◌∷◌, drop, take, nat_lt, if◌then◌else◌}
+use Rattle.std.specs.List.Sorted.{IsNonDecreasingBy, IsPermutation, IsStableByKey}
+use Rattle.std.specs.Ordering.{nat_cmp}
+use Rattle.pef_format.specs.Places.{part_code}
+use Rattle.pef_format.specs.declared.place.Part.{Part}
+use Rattle.pef_format.specs.declared.place.Part.TheVariants as part
+use Rattle.pef_inspect.specs.declared.finding.Finding.{Finding}
+
+-- the kind of the row that a part is printed with: packed data with its section, a program with its relocation header
+abbrev pub row_part : Part → Part
+row_part part.PackedData = part.Section
+row_part part.Program = part.Relocation
+row_part part.Header = part.Header
+row_part part.Section = part.Section
+row_part part.LoaderHeader = part.LoaderHeader
+row_part part.Library = part.Library
+row_part part.Import = part.Import
+row_part part.Main = part.Main
+row_part part.Init = part.Init
+row_part part.Term = part.Term
+row_part part.Relocation = part.Relocation
+row_part part.Export = part.Export
+row_part part.Line = part.Line
+
+-- the place of a row in the order: by the kind of its part, then by its number, which is below 2^64
+unfoldable pub rank : Part → ℕ → ℕ
+rank kind row = part_code (row_part kind) * 2 ^ 64 + row
+
+-- the place of the row that an error or a note is about
+abbrev pub finding_rank : Finding → ℕ
+finding_rank f = rank f.place.part f.place.row
+
+-- how many of the first findings are about rows before the one with a rank
+abbrev pub count_before : ℕ → List Finding → ℕ
+count_before rank [] = 0
+count_before rank (f ∷ fs) = if nat_lt (finding_rank f) rank then suc (count_before rank fs) else 0
+
+-- these findings, and those after them
+abbrev pub before : ℕ → List Finding → List Finding
+before rank fs = take (count_before rank fs) fs
+
+abbrev pub after : ℕ → List Finding → List Finding
+after rank fs = drop (count_before rank fs) fs
+
+-- findings in the order of their rows: those about one row are in the order in which they were found
+pub record IsInOrder (found ordered : List Finding) : Type 0 where
+  pub permutation : IsPermutation found ordered
+  pub rises : IsNonDecreasingBy finding_rank ordered
+  pub stable : IsStableByKey finding_rank nat_cmp found ordered

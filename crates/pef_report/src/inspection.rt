@@ -1,0 +1,155 @@
+ghost use Rattle.std.specs.Prelude.{◌≡◌, ◌++◌, Bool, IfOk, List, OnOk, true, false};
+ghost use Rattle.pef_inspect.specs.Errors.{errors_of};
+ghost use Rattle.pef_inspect.specs.Oddities.{notes_of};
+ghost use Rattle.pef_inspect.specs.declared.finding.Finding.{Finding};
+ghost use Rattle.pef_ports.specs.Sent.{Sends};
+ghost use Rattle.pef_report.specs.Inspection.{Inspects, count_chosen, inspection_object, inspection_text, list_json, rows_json};
+ghost use Rattle.pef_report.specs.Order.{IsInOrder};
+
+use crate::found::{Chosen, count_chosen, print_chosen, print_findings};
+use crate::members::{print_members, row_members};
+use crate::order::finding_rank;
+use crate::reading::Reading;
+use crate::tokens::{Token, print_tokens};
+use crate::walk::Walk;
+use pef_format::Part;
+use pef_inspect::{Finding, find_errors, find_more_notes, find_notes};
+use pef_ports::{Page, Sink, StreamFault, send};
+use std::alloc::{AllocError, Global};
+
+/// The kinds of rows, in the order in which they are printed.
+const ROW_PARTS: [Part; 10] = [
+    Part::Header,
+    Part::Section,
+    Part::LoaderHeader,
+    Part::Library,
+    Part::Import,
+    Part::Main,
+    Part::Init,
+    Part::Term,
+    Part::Relocation,
+    Part::Export,
+];
+
+/// A container with everything that is known of it: what can be read, and all errors and notes.
+#[derive(Drop)]
+pub struct Inspection<'a> {
+    base: u64,
+    bytes: &'a [u8],
+    findings: Vec<Finding>,
+}
+
+impl<'a> Inspection<'a> {
+    ghost use Rattle.pef_report.specs.Views.{inspected};
+
+    /// Inspects the container `bytes`, which begins at the offset `base` of its file.
+    ///
+    /// # Errors
+    ///
+    /// Only want of memory.
+    pub fn read(alloc: Global, base: u64, bytes: &'a [u8]) -> Result<Inspection<'a>, AllocError>
+        ensures { IfOk result (λ i. Inspects base bytes.entry.now (inspected i)) }
+    {
+        let mut findings = find_all(alloc, bytes)?;
+        put_in_order(&mut findings)?;
+        Ok(Inspection {
+            base,
+            bytes,
+            findings,
+        })
+    }
+
+    /// Returns how many errors there are.
+    pub fn error_count(&self) -> u64
+        ensures { result ≡ count_chosen true (inspected self.now).findings }
+    {
+        count_chosen(&self.findings, true)
+    }
+
+    /// Returns how many notes there are.
+    pub fn note_count(&self) -> u64
+        ensures { result ≡ count_chosen false (inspected self.now).findings }
+    {
+        count_chosen(&self.findings, false)
+    }
+
+    /// Prints a line for each row that can be read. Below a row are the errors and notes about it.
+    pub fn print<W: Sink>(&self, out: &mut W, page: &mut Page) -> Result<(), StreamFault>
+        ensures { Sends result (W.stream out.old) (W.stream out.new) page.old.items page.new.items (inspection_text (inspected self.now)) }
+    {
+        let mut walk = Walk {
+            base: self.base,
+            reading: Reading::new(self.base, self.bytes),
+            left: &self.findings,
+        };
+        walk.print_parts(out, page, &ROW_PARTS)?;
+        print_findings(out, page, self.base, walk.left)
+    }
+
+    /// Prints an object of JSON, on one line without its end.
+    pub fn print_object<W: Sink>(&self, out: &mut W, page: &mut Page) -> Result<(), StreamFault>
+        ensures { Sends result (W.stream out.old) (W.stream out.new) page.old.items page.new.items (inspection_object (inspected self.now)) }
+    {
+        self.print_rows(out, page)?;
+        self.print_list(out, page, b"},\"errors\":[", true)?;
+        self.print_list(out, page, b"],\"notes\":[", false)?;
+        send(out, page, b"]}")
+    }
+
+    /// Prints the beginning of the object, up to its errors.
+    #[tactic(auto, unfolding(crate::specs::Inspection::rows_json))]
+    fn print_rows<W: Sink>(&self, out: &mut W, page: &mut Page) -> Result<(), StreamFault>
+        ensures { Sends result (W.stream out.old) (W.stream out.new) page.old.items page.new.items (rows_json (inspected self.now)) }
+    {
+        let mut reading = Reading::new(self.base, self.bytes);
+        print_tokens(
+            out,
+            page,
+            &[Token::Text(b"{\"offset\":"), Token::Number(self.base)],
+        )?;
+        print_members(out, page, &mut reading, &row_members())
+    }
+
+    /// Prints the list of errors, or of notes, after its key.
+    #[tactic(auto, unfolding(crate::specs::Inspection::list_json))]
+    fn print_list<W: Sink>(
+        &self,
+        out: &mut W,
+        page: &mut Page,
+        key: &[u8],
+        errors: bool,
+    ) -> Result<(), StreamFault>
+        ensures { Sends result (W.stream out.old) (W.stream out.new) page.old.items page.new.items (list_json key.now (inspected self.now) errors) }
+    {
+        send(out, page, key)?;
+        print_chosen(
+            out,
+            page,
+            Chosen {
+                base: self.base,
+                findings: &self.findings,
+                errors,
+            },
+        )
+    }
+}
+
+/// Returns all errors and notes of a container: errors, notes, and then the notes that need memory.
+fn find_all(alloc: Global, bytes: &[u8]) -> Result<Vec<Finding>, AllocError>
+    ensures { IfOk result (λ found. (irregular : Bool) × (more : List Finding) × (found.items ≡ errors_of bytes.now ++ (notes_of bytes.now irregular ++ more))) }
+{
+    let mut findings = Vec::new(alloc);
+    find_errors(bytes, &mut findings)?;
+    find_notes(bytes, &mut findings)?;
+    let mut more = find_more_notes(alloc, bytes)?;
+    findings.append(&mut more)?;
+    Ok(findings)
+}
+
+/// Puts errors and notes into the order of their rows.
+fn put_in_order(findings: &mut Vec<Finding>) -> Result<(), AllocError>
+    ensures { OnOk result (IsInOrder findings.old.items findings.new.items) }
+{
+    findings.sort_by_key(|finding| finding_rank(finding))?;
+    Ok(())
+}

@@ -1,0 +1,162 @@
+//! The rows of a container as members of its object of JSON.
+ghost use Rattle.std.specs.Prelude.{◌≡◌, ◌==◌, ◌++◌, codes, map};
+ghost use Rattle.std.specs.Option.{unwrap_or};
+ghost use Rattle.pef_ports.specs.Sent.{Sends};
+ghost use Rattle.pef_report.specs.Inspection.{element, elements, members_text, object_count, row_members};
+ghost use Rattle.pef_report.specs.Members.{member_seen};
+ghost use Rattle.pef_report.specs.Readable.{object_at};
+ghost use Rattle.pef_report.specs.RowViews.{object_of};
+ghost use Rattle.pef_report.specs.Views.{readable};
+
+use crate::found::print_separator;
+use crate::objects::{
+    print_entry_object, print_export_object, print_header_object, print_import_object,
+    print_library_object, print_loader_object, print_relocation_object, print_section_object,
+};
+use crate::reading::{Reading, Row};
+use pef_format::Part;
+use pef_ports::{Page, Sink, StreamFault, send};
+
+/// A member of an object: what is before its elements, and the kind of rows that they are.
+#[derive(Clone, Copy)]
+pub(crate) struct Member {
+    pub key: &'static [u8],
+    pub part: Part,
+}
+
+/// Returns the members of a container's object that have its rows.
+pub(crate) fn row_members() -> [Member; 10]
+    ensures { map member_seen result ≡ row_members }
+{
+    [
+        new_member(b",\"header\":", Part::Header),
+        new_member(b",\"sections\":[", Part::Section),
+        new_member(b"],\"loader\":", Part::LoaderHeader),
+        new_member(b",\"libraries\":[", Part::Library),
+        new_member(b"],\"imports\":[", Part::Import),
+        new_member(b"],\"relocations\":[", Part::Relocation),
+        new_member(b"],\"exports\":[", Part::Export),
+        new_member(b"],\"entries\":{\"main\":", Part::Main),
+        new_member(b",\"init\":", Part::Init),
+        new_member(b",\"term\":", Part::Term),
+    ]
+}
+
+fn new_member(key: &'static [u8], part: Part) -> Member
+    ensures { member_seen result ≡ (key.entry.now, part) }
+{
+    Member { key, part }
+}
+
+/// Prints members of an object.
+pub(crate) fn print_members<W: Sink>(
+    out: &mut W,
+    page: &mut Page,
+    reading: &mut Reading<'_>,
+    members: &[Member],
+) -> Result<(), StreamFault>
+    ensures { Sends result (W.stream out.old) (W.stream out.new) page.old.items page.new.items (members_text (readable reading.old) (map member_seen members.now)) }
+{
+    for member in members {
+        print_member(out, page, reading, *member)?;
+    }
+    Ok(())
+}
+
+/// Prints a member of an object.
+fn print_member<W: Sink>(
+    out: &mut W,
+    page: &mut Page,
+    reading: &mut Reading<'_>,
+    member: Member,
+) -> Result<(), StreamFault>
+    ensures sends { Sends result (W.stream out.old) (W.stream out.new) page.old.items page.new.items (member.key.now ++ elements (readable reading.old) member.part 0 (object_count (readable reading.old) member.part)) }
+    ensures same { readable reading.new ≡ readable reading.old }
+{
+    send(out, page, member.key)?;
+    print_elements(out, page, reading, member.part)
+}
+
+/// Prints the objects of all rows of a kind. If a container can have only one row of it, its object is `null` if it can't be
+/// read.
+fn print_elements<W: Sink>(
+    out: &mut W,
+    page: &mut Page,
+    reading: &mut Reading<'_>,
+    part: Part,
+) -> Result<(), StreamFault>
+    ensures sends { Sends result (W.stream out.old) (W.stream out.new) page.old.items page.new.items (elements (readable reading.old) part 0 (object_count (readable reading.old) part)) }
+    ensures same { readable reading.new ≡ readable reading.old }
+{
+    for i in 0..object_count(reading, part) {
+        print_element(out, page, reading, part, i)?;
+    }
+    Ok(())
+}
+
+/// Returns how many objects there are of a kind of row.
+fn object_count(reading: &Reading<'_>, part: Part) -> u32
+    ensures { result ≡ object_count (readable reading.now) part }
+{
+    match part {
+        Part::Header | Part::LoaderHeader | Part::Main | Part::Init | Part::Term => 1,
+        Part::Section
+        | Part::Library
+        | Part::Import
+        | Part::Relocation
+        | Part::Export
+        | Part::PackedData
+        | Part::Program
+        | Part::Line => reading.count(part),
+    }
+}
+
+/// Prints the object of row `i` of a kind, after a comma if it isn't the first.
+fn print_element<W: Sink>(
+    out: &mut W,
+    page: &mut Page,
+    reading: &mut Reading<'_>,
+    part: Part,
+    i: u32,
+) -> Result<(), StreamFault>
+    ensures sends { Sends result (W.stream out.old) (W.stream out.new) page.old.items page.new.items (element (readable reading.old) part i) }
+    ensures same { readable reading.new ≡ readable reading.old }
+{
+    print_separator(out, page, i == 0)?;
+    print_object_at(out, page, reading, part, i)
+}
+
+/// Prints the object of row `i` of a kind, or `null` if it can't be read.
+fn print_object_at<W: Sink>(
+    out: &mut W,
+    page: &mut Page,
+    reading: &mut Reading<'_>,
+    part: Part,
+    i: u32,
+) -> Result<(), StreamFault>
+    ensures sends { Sends result (W.stream out.old) (W.stream out.new) page.old.items page.new.items (unwrap_or (object_at (readable reading.old) part i) (codes "null")) }
+    ensures same { readable reading.new ≡ readable reading.old }
+{
+    match reading.row(part, i) {
+        Some(row) => print_row_object(out, page, row),
+        None => send(out, page, b"null"),
+    }
+}
+
+/// Prints the object of a row.
+fn print_row_object<W: Sink>(out: &mut W, page: &mut Page, row: Row<'_>) -> Result<(), StreamFault>
+    ensures { Sends result (W.stream out.old) (W.stream out.new) page.old.items page.new.items (object_of row.entry) }
+{
+    match row {
+        Row::Header(row) => print_header_object(out, page, row),
+        Row::Section(row) => print_section_object(out, page, row),
+        Row::Loader(row) => print_loader_object(out, page, row),
+        Row::Library(row) => print_library_object(out, page, row),
+        Row::Import(row) => print_import_object(out, page, row),
+        Row::Main(row) | Row::Init(row) | Row::Term(row) => {
+            print_entry_object(out, page, b"", row)
+        }
+        Row::Relocation(row) => print_relocation_object(out, page, row),
+        Row::Export(row) => print_export_object(out, page, row),
+    }
+}
