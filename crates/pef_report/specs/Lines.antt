@@ -1,12 +1,12 @@
 -- The lines of rows. Each begins with the offset in the file of the row. The words of a listing follow
 -- (docs/FORMATS.md, "Listings"), and then what a listing leaves out.
 use Rattle.std.specs.Prelude.{ℕ, ℤ, pos, negsuc, ◌==◌, Bool, false, List, [], ◌∷◌, ◌++◌, Option, None, Some, codes, decimal, if◌then◌else◌}
-use Rattle.pef_listing.specs.Listing.{magnitude, section_name_text, sign_text}
+use Rattle.std.specs.Str.{bytes_eq}
+use Rattle.pef_listing.specs.Listing.{magnitude, sign_text}
 use Rattle.pef_loader.specs.declared.header.LoaderHeader.{LoaderHeader}
-use Rattle.pef_ports.specs.Names.{name_text}
 use Rattle.pef_ports.specs.Text.{hex_text, word_text}
 use Rattle.pef_report.specs.Dates.{date_text}
-use Rattle.pef_report.specs.Tokens.{at_text}
+use Rattle.pef_report.specs.Tokens.{at_text, label_text}
 use Rattle.pef_report.specs.Versions.{version_text}
 use Rattle.pef_views.specs.declared.header.Header.{Header}
 use Rattle.pef_views.specs.declared.section.SectionHeader.{SectionHeader}
@@ -14,7 +14,12 @@ use Rattle.pef_views.specs.declared.section.SectionHeader.{SectionHeader}
 -- a name, or `?` for one that can't be read
 abbrev pub name_or_mark : Option (List ℕ) → List ℕ
 name_or_mark None = codes "?"
-name_or_mark (Some name) = name_text name
+name_or_mark (Some name) = label_text name
+
+-- the name of a section as a listing has it: `-` for none, and a name `-` with its byte escaped
+abbrev pub section_label : Option (List ℕ) → List ℕ
+section_label None = codes "-"
+section_label (Some name) = if bytes_eq name (codes "-") then codes "%2D" else label_text name
 
 -- -1, the section of an entry point that isn't there
 abbrev pub is_none_entry : ℤ → Bool
@@ -38,7 +43,7 @@ section_line at number h name raw =
     ++ codes " share " ++ decimal h.share_kind ++ codes " align " ++ decimal h.alignment ++ codes " total "
     ++ decimal h.total_size ++ codes " unpacked " ++ decimal h.unpacked_size ++ codes " packed "
     ++ decimal h.packed_size ++ codes " default " ++ word_text h.default_address ++ codes " name "
-    ++ section_name_text name ++ codes " raw " ++ at_text raw ++ codes "\n"
+    ++ section_label name ++ codes " raw " ++ at_text raw ++ codes "\n"
 
 -- a loader header
 unfoldable pub loader_line : ℕ → LoaderHeader → List ℕ

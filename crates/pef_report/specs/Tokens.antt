@@ -1,11 +1,11 @@
 -- A line or a JSON text as its tokens.
-use Rattle.std.specs.Prelude.{ℕ, ◌/◌, ◌%◌, ◌^◌, ◌==◌, List, [], ◌∷◌, ◌++◌, Option, None, Some, codes, decimal, nat_lt, if◌then◌else◌}
+use Rattle.std.specs.Prelude.{ℕ, ◌/◌, ◌%◌, ◌^◌, ◌==◌, List, [], ◌∷◌, ◌++◌, Option, None, Some, codes, decimal, length, nat_lt, take, if◌then◌else◌}
 use Rattle.std.specs.Option.{option_copied}
 use Rattle.byteorder.specs.Endian.{big_bytes}
 use Rattle.pef_ports.specs.Names.{byte_text, name_text}
 use Rattle.pef_ports.specs.Text.{hex_text, word_text}
 use Rattle.pef_report.specs.declared.tokens.Token.{Token}
-use Rattle.pef_report.specs.declared.tokens.Token.TheVariants.{Text, Number, Word, Halfword, Byte, Name, Path, At, Version, Date, Tag, Octets, Member}
+use Rattle.pef_report.specs.declared.tokens.Token.TheVariants.{Text, Number, Word, Halfword, Byte, Name, Label, Path, At, Version, Date, Tag, Octets, Member}
 use Rattle.pef_report.specs.Dates.{date_text}
 use Rattle.pef_report.specs.Strings.{is_ascii, string_text}
 use Rattle.pef_report.specs.Versions.{version_text}
@@ -39,14 +39,32 @@ hex_member key name = if is_ascii name then [] else hex_bytes key name
 unfoldable pub name_member : List ℕ → List ℕ → List ℕ
 name_member key name = (codes "\"" ++ key ++ codes "\":\"") ++ (string_text name ++ (hex_member key name ++ codes "\""))
 
+-- Of the name of a row, at most 1,024 bytes are printed, since many rows can share one name.
+
+-- a name in a line. `%..` is no escaped byte, and says that the name is longer
+unfoldable pub label_text : List ℕ → List ℕ
+label_text name = if nat_lt 1024 (length name) then name_text (take 1024 name) ++ codes "%.." else name_text name
+
+-- the length of a name as another member
+unfoldable pub length_member : List ℕ → ℕ → List ℕ
+length_member key len = codes ",\"" ++ key ++ codes "_length\":" ++ decimal len
+
+-- the first bytes of a name as a member of a JSON object, with the length of the name
+unfoldable pub cut_member : List ℕ → List ℕ → List ℕ
+cut_member key name = name_member key (take 1024 name) ++ length_member key (length name)
+
+-- a name as a member of a JSON object, all of it if it isn't longer
+unfoldable pub label_member : List ℕ → List ℕ → List ℕ
+label_member key name = if nat_lt 1024 (length name) then cut_member key name else name_member key name
+
 -- a member of a JSON object: a name, or `null`
 abbrev pub member_text : List ℕ → Option (List ℕ) → List ℕ
 member_text key None = codes "\"" ++ key ++ codes "\":null"
-member_text key (Some name) = name_member key name
+member_text key (Some name) = label_member key name
 
 -- a token as it is printed: text unchanged, a number in decimal, numbers of 32, 16 and 8 bits in hex digits, a name with
--- the bytes escaped that could break a line, a path inside a JSON string, an offset in a file, a version, a date,
--- four characters, bytes in hex digits, and a member of a JSON object
+-- the bytes escaped that could break a line, the name of a row, a path inside a JSON string, an offset in a file, a
+-- version, a date, four characters, bytes in hex digits, and a member of a JSON object
 abbrev pub token_text : Token → List ℕ
 token_text (Text text) = text.now
 token_text (Number n) = decimal n
@@ -54,6 +72,7 @@ token_text (Word n) = word_text n
 token_text (Halfword n) = hex_text (big_bytes 2 n)
 token_text (Byte n) = hex_text (n ∷ [])
 token_text (Name name) = name_text name.now
+token_text (Label name) = label_text name.now
 token_text (Path path) = path_text path.now
 token_text (At n) = at_text n
 token_text (Version n) = version_text n

@@ -2,9 +2,8 @@
 ghost use Rattle.std.specs.Prelude.{◌≡◌};
 ghost use Rattle.std.specs.Option.{option_copied};
 ghost use Rattle.pef_ports.specs.Sent.{Sends};
-ghost use Rattle.pef_listing.specs.Listing.{section_name_text};
 ghost use Rattle.pef_report.specs.Tokens.{token_text};
-ghost use Rattle.pef_report.specs.Lines.{name_or_mark, entry_line, export_line, header_line, import_line, library_line, loader_line, relocation_line, section_line};
+ghost use Rattle.pef_report.specs.Lines.{name_or_mark, section_label, entry_line, export_line, header_line, import_line, library_line, loader_line, relocation_line, section_line};
 
 use crate::optional::{is_none_entry, magnitude, sign};
 use crate::rows::{
@@ -94,14 +93,13 @@ pub fn print_section<W: Sink>(
 }
 
 /// Returns a section's name as it is listed.
-#[tactic(auto, unfolding(pef_listing::specs::Listing::section_name_text))]
 fn section_name<'a>(name: Option<&'a [u8]>) -> Token<'a>
-    ensures { token_text result ≡ section_name_text (option_copied name.entry) }
+    ensures { token_text result ≡ section_label (option_copied name.entry) }
 {
     match name {
         None => Token::Text(b"-"),
         Some(name) if name == b"-".as_slice() => Token::Text(b"%2D"),
-        Some(name) => Token::Name(name),
+        Some(name) => Token::Label(name),
     }
 }
 
@@ -289,7 +287,7 @@ fn name_or_mark<'a>(name: Option<&'a [u8]>) -> Token<'a>
     ensures { token_text result ≡ name_or_mark (option_copied name.entry) }
 {
     match name {
-        Some(name) => Token::Name(name),
+        Some(name) => Token::Label(name),
         None => Token::Text(b"?"),
     }
 }

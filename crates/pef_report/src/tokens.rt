@@ -1,12 +1,15 @@
-ghost use Rattle.std.specs.Prelude.{◌≡◌};
+ghost use Rattle.std.specs.Prelude.{◌≡◌, ◌≤◌, length};
 ghost use Rattle.pef_ports.specs.Sent.{Sends};
 ghost use Rattle.pef_ports.specs.Text.{hex_text};
-ghost use Rattle.pef_report.specs.Tokens.{at_text, hex_bytes, hex_member, name_member, path_byte, path_text, tag_text, token_text, tokens_text};
+ghost use Rattle.pef_report.specs.Tokens.{at_text, cut_member, hex_bytes, hex_member, label_member, label_text, length_member, name_member, path_byte, path_text, tag_text, token_text, tokens_text};
 
 use crate::dates::print_date;
 use crate::strings::{is_ascii, print_string};
 use crate::versions::print_version;
 use pef_ports::{Page, Piece, Sink, StreamFault, print_pieces, send};
+
+/// How many bytes of the name of a row are printed. Many rows can share one long name.
+const MAX_NAME_BYTES: usize = 1024;
 
 /// A token of a line or of a JSON text.
 #[derive(Clone, Copy)]
@@ -23,6 +26,8 @@ pub enum Token<'a> {
     Byte(u8),
     /// A name. Bytes that could break a line are escaped.
     Name(&'a [u8]),
+    /// The name of a row, as far as it is printed.
+    Label(&'a [u8]),
     /// A path, inside a JSON string.
     Path(&'a [u8]),
     /// An offset in a file.
@@ -64,6 +69,7 @@ fn print_token<W: Sink>(out: &mut W, page: &mut Page, token: Token<'_>) -> Resul
         Token::Halfword(n) => print_pieces(out, page, &[Piece::Halfword(n)]),
         Token::Byte(n) => print_pieces(out, page, &[Piece::Byte(n)]),
         Token::Name(name) => print_pieces(out, page, &[Piece::Name(name)]),
+        Token::Label(name) => print_label(out, page, name),
         Token::Path(path) => print_path(out, page, path),
         Token::At(n) => print_at(out, page, n),
         Token::Version(n) => print_version(out, page, n),
@@ -79,7 +85,7 @@ fn print_token<W: Sink>(out: &mut W, page: &mut Page, token: Token<'_>) -> Resul
                 Piece::Text(b"\":null"),
             ],
         ),
-        Token::Member(key, Some(name)) => print_member(out, page, key, name),
+        Token::Member(key, Some(name)) => print_label_member(out, page, key, name),
     }
 }
 
@@ -112,6 +118,73 @@ fn print_octets<W: Sink>(out: &mut W, page: &mut Page, bytes: &[u8]) -> Result<(
         print_pieces(out, page, &[Piece::Byte(*b)])?;
     }
     Ok(())
+}
+
+/// Prints the name of a row.
+#[tactic(auto, unfolding(crate::specs::Tokens::label_text))]
+fn print_label<W: Sink>(out: &mut W, page: &mut Page, name: &[u8]) -> Result<(), StreamFault>
+    ensures { Sends result (W.stream out.old) (W.stream out.new) page.old.items page.new.items (label_text name.now) }
+{
+    if name.len() <= MAX_NAME_BYTES {
+        return print_pieces(out, page, &[Piece::Name(name)]);
+    }
+    let (front, _) = name.split_at(MAX_NAME_BYTES);
+    print_pieces(out, page, &[Piece::Name(front), Piece::Text(b"%..")])
+}
+
+/// Prints the name of a row as a member of a JSON object.
+#[tactic(auto, unfolding(crate::specs::Tokens::label_member))]
+fn print_label_member<W: Sink>(
+    out: &mut W,
+    page: &mut Page,
+    key: &[u8],
+    name: &[u8],
+) -> Result<(), StreamFault>
+    ensures { Sends result (W.stream out.old) (W.stream out.new) page.old.items page.new.items (label_member key.now name.now) }
+{
+    if name.len() <= MAX_NAME_BYTES {
+        print_member(out, page, key, name)
+    } else {
+        print_cut_member(out, page, key, name)
+    }
+}
+
+/// Prints the first bytes of a long name as a member of a JSON object, and the length of the name.
+#[tactic(auto, unfolding(crate::specs::Tokens::cut_member))]
+fn print_cut_member<W: Sink>(
+    out: &mut W,
+    page: &mut Page,
+    key: &[u8],
+    name: &[u8],
+) -> Result<(), StreamFault>
+    requires { 1024 ≤ length name.now }
+    ensures { Sends result (W.stream out.old) (W.stream out.new) page.old.items page.new.items (cut_member key.now name.now) }
+{
+    let (front, _) = name.split_at(MAX_NAME_BYTES);
+    print_member(out, page, key, front)?;
+    print_length_member(out, page, key, name.len())
+}
+
+/// Prints the length of a name as another member.
+#[tactic(auto, unfolding(crate::specs::Tokens::length_member))]
+fn print_length_member<W: Sink>(
+    out: &mut W,
+    page: &mut Page,
+    key: &[u8],
+    len: usize,
+) -> Result<(), StreamFault>
+    ensures { Sends result (W.stream out.old) (W.stream out.new) page.old.items page.new.items (length_member key.now len) }
+{
+    print_pieces(
+        out,
+        page,
+        &[
+            Piece::Text(b",\""),
+            Piece::Text(key),
+            Piece::Text(b"_length\":"),
+            Piece::Number(len as u64),
+        ],
+    )
 }
 
 /// Prints a name as a member of a JSON object.
