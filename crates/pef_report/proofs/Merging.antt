@@ -1,13 +1,15 @@
 -- Rows and findings that are printed in turn.
-use Rattle.std.proofs.Common.{◌≡◌, ◌∙◌, ℕ, suc, ◌+◌, ◌-◌, ◌<◌, ◌≤◌, Bool, true, false, cond, List, [], ◌∷◌, ◌++◌, None, refl, sym, ap, arith, append_assoc}
+use Rattle.std.proofs.Common.{◌≡◌, ◌∙◌, ℕ, suc, ◌+◌, ◌-◌, ◌<◌, ◌≤◌, Bool, true, false, cond, List, [], ◌∷◌, ◌++◌, None, map, refl, sym, ap, arith, append_assoc}
+use Rattle.std.proofs.lemmas.List.{append-nil, take-append-drop}
 use Rattle.pef_format.specs.declared.place.Part.{Part}
 use Rattle.pef_format.specs.declared.place.Part.TheVariants.{Header}
 use Rattle.pef_inspect.specs.declared.finding.Cause.TheVariants.{View}
 use Rattle.pef_inspect.specs.declared.finding.Finding.{Finding}
 use Rattle.pef_views.specs.declared.fault.ViewFault.TheVariants.{TooShort}
-use Rattle.pef_report.specs.Inspection.{Row, element, elements, finding_json, findings_json, findings_text, is_chosen, merged_left, merged_text, row_at, rows_among, separator}
-use Rattle.pef_report.specs.Order.{after, before}
+use Rattle.pef_report.specs.Inspection.{Row, element, elements, finding_json, finding_text, findings_json, findings_text, is_chosen, merged_left, merged_text, row_at, rows_among, separator}
+use Rattle.pef_report.specs.Order.{after, before, count_before}
 use Rattle.pef_report.specs.Readable.{Readable}
+use Rattle.pef_report.specs.Theorems.{blank}
 use Rattle.pef_report.specs.declared.members.Member.{Member}
 
 -- a finding in place of those past the last one
@@ -67,3 +69,21 @@ unchosen-next base errors is_first f fs chosen = by (is_chosen errors f) chosen
     by : (b : Bool) → b ≡ false → cond b ((separator is_first ++ finding_json base f) ++ findings_json base errors false fs) (findings_json base errors is_first fs) ≡ findings_json base errors is_first fs
     by true same = absurd (cc same)
     by false same = refl
+
+-- lines after lines
+findings_text-append : (base : ℕ) (xs ys : List Finding) → findings_text base (xs ++ ys) ≡ findings_text base xs ++ findings_text base ys
+findings_text-append base [] ys = refl
+findings_text-append base (x ∷ xs) ys =
+    ap (λ t. finding_text base x ++ t) (findings_text-append base xs ys) ∙ sym (append_assoc (finding_text base x) (findings_text base xs) (findings_text base ys))
+
+-- without the lines of rows, the text is the lines of all findings
+pub each_once : (base : ℕ) (rows : List Row) (fs : List Finding) → merged_text base (map blank rows) fs ++ findings_text base (merged_left rows fs) ≡ findings_text base fs
+each_once base [] fs = refl
+each_once base (row ∷ rows) fs =
+    let front = findings_text base (before row.rank fs) in
+    let rest = after row.rank fs in
+    append_assoc (front ++ []) (merged_text base (map blank rows) rest) (findings_text base (merged_left rows rest))
+    ∙ (ap (λ t. (front ++ []) ++ t) (each_once base rows rest)
+    ∙ (ap (λ t. t ++ findings_text base rest) (append-nil front)
+    ∙ (sym (findings_text-append base (before row.rank fs) rest)
+    ∙ ap (findings_text base) (take-append-drop (count_before row.rank fs) fs))))

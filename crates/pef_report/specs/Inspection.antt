@@ -1,11 +1,12 @@
 -- The inspection of a container as text and as JSON.
-use Rattle.std.specs.Prelude.{◌≡◌, ℕ, zero, suc, ◌+◌, ◌==◌, Bool, true, false, not, List, [], ◌∷◌, ◌++◌, codes, decimal, if◌then◌else◌}
+use Rattle.std.specs.Prelude.{◌≡◌, ◌↔◌, ℕ, zero, suc, ◌+◌, ◌==◌, Bool, IsTrue, true, false, not, List, [], ◌∷◌, ◌++◌, codes, decimal, if◌then◌else◌}
 use Rattle.std.specs.Option.{unwrap_or}
 use Rattle.pef_format.specs.declared.place.Part.{Part}
 use Rattle.pef_format.specs.declared.place.Part.TheVariants as part
 use Rattle.pef_inspect.specs.Errors.{errors_of}
 use Rattle.pef_inspect.specs.Findings.{finding_name, finding_number, is_error}
-use Rattle.pef_inspect.specs.Oddities.{notes_of}
+use Rattle.pef_inspect.specs.More.{AreMore}
+use Rattle.pef_inspect.specs.Oddities.{HasIrregularExports, notes_of}
 use Rattle.pef_inspect.specs.declared.finding.Cause.{Cause}
 use Rattle.pef_inspect.specs.declared.finding.Cause.TheVariants as cause
 use Rattle.pef_inspect.specs.declared.finding.Finding.{Finding}
@@ -23,13 +24,21 @@ pub record Inspected : Type 0 where
   pub bytes : List ℕ
   pub findings : List Finding
 
--- the inspection of some bytes: errors, notes, and notes that need memory, in the order of their rows
+-- all errors and notes of some bytes as a container: the errors, the notes, and the notes that need memory
+pub record AreAll (bytes : List ℕ) (all : List Finding) : Type 0 where
+  pub irregular : Bool
+  pub irregular_is : IsTrue irregular ↔ HasIrregularExports bytes
+  pub more : List Finding
+  pub more_are : AreMore bytes more
+  pub are : all ≡ errors_of bytes ++ (notes_of bytes irregular ++ more)
+
+-- the inspection of some bytes: all errors and notes, in the order of their rows
 pub record Inspects (base : ℕ) (bytes : List ℕ) (i : Inspected) : Type 0 where
   pub base_is : i.base ≡ base
   pub bytes_are : i.bytes ≡ bytes
-  pub irregular : Bool
-  pub more : List Finding
-  pub findings_are : IsInOrder (errors_of bytes ++ (notes_of bytes irregular ++ more)) i.findings
+  pub all : List Finding
+  pub all_are : AreAll bytes all
+  pub in_order : IsInOrder all i.findings
 
 -- the errors among findings, or the notes
 abbrev pub is_chosen : Bool → Finding → Bool

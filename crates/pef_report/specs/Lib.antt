@@ -9,6 +9,7 @@ pub mod Order
 pub mod Readable
 pub mod RowViews
 pub mod Strings
+pub mod Theorems
 pub mod Tokens
 pub mod Versions
 pub mod Views

@@ -1,9 +1,6 @@
-ghost use Rattle.std.specs.Prelude.{◌≡◌, ◌++◌, Bool, IfOk, List, OnOk, true, false};
-ghost use Rattle.pef_inspect.specs.Errors.{errors_of};
-ghost use Rattle.pef_inspect.specs.Oddities.{notes_of};
-ghost use Rattle.pef_inspect.specs.declared.finding.Finding.{Finding};
+ghost use Rattle.std.specs.Prelude.{◌≡◌, IfOk, OnOk, true, false};
 ghost use Rattle.pef_ports.specs.Sent.{Sends};
-ghost use Rattle.pef_report.specs.Inspection.{Inspects, count_chosen, inspection_object, inspection_text, list_json, rows_json};
+ghost use Rattle.pef_report.specs.Inspection.{AreAll, Inspects, count_chosen, inspection_object, inspection_text, list_json, rows_json};
 ghost use Rattle.pef_report.specs.Order.{IsInOrder};
 
 use crate::found::{Chosen, count_chosen, print_chosen, print_findings};
@@ -136,7 +133,7 @@ impl<'a> Inspection<'a> {
 
 /// Returns all errors and notes of a container: errors, notes, and then the notes that need memory.
 fn find_all(alloc: Global, bytes: &[u8]) -> Result<Vec<Finding>, AllocError>
-    ensures { IfOk result (λ found. (irregular : Bool) × (more : List Finding) × (found.items ≡ errors_of bytes.now ++ (notes_of bytes.now irregular ++ more))) }
+    ensures { IfOk result (λ found. AreAll bytes.now found.items) }
 {
     let mut findings = Vec::new(alloc);
     find_errors(bytes, &mut findings)?;

@@ -14,6 +14,7 @@ mod order;
 mod reading;
 mod rows;
 mod strings;
+mod theorems;
 mod tokens;
 mod versions;
 mod walk;
@@ -36,4 +37,5 @@ pub use rows::{
     Detail, EntryRow, ExportRow, FindingRow, HeaderRow, ImportRow, LibraryRow, LoaderRow,
     RelocationRow, SectionRow,
 };
+pub use theorems::each_finding_is_printed_once;
 pub use tokens::{Token, print_tokens};
