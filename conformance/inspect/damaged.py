@@ -1,0 +1,515 @@
+"""Damaged containers, and what `pef inspect` says of each: the table of conformance/inspect/run.
+
+The whole container is written down here byte by byte, each damage at its offset, and each line with the number, the part and the
+offset that docs/FORMATS.md and docs/ERRORS.md give. Nothing of the project is used.
+"""
+import binascii
+import struct
+from dataclasses import dataclass
+from typing import List, Tuple
+
+WHOLE_TEXT = """
+000 4A6F7921 70656666 70777063 00000001  Joy! peff pwpc, formatVersion 1
+010 00000000 00000002 00000001 00000003  date, oldDefVersion 2, oldImpVersion 1, currentVersion 3
+020 0005 0003 00000000                   five sections, three of them instantiated
+028 00000000 00000000 00000010 00000010  section 0 `code`: totalSize 16, unpackedSize 16,
+038 00000010 000000C0 00 04 04 00        packedSize 16 at C0, code
+044 FFFFFFFF 00000000 00000018 00000010  section 1: an image of 16 bytes in a memory of 24,
+054 0000000A 000000D0 02 01 04 00        10 packed bytes at D0, pattern
+060 00000005 00000000 00000020 00000020  section 2 `data`: 32 bytes,
+070 00000020 000000E0 01 01 04 00        at E0
+07C FFFFFFFF 00000000 00000000 00000000  section 3, the loader section:
+08C 000000E2 00000100 04 04 04 00        226 bytes at 100
+098 FFFFFFFF 00000000 00000000 00000000  section 4, a traceback section:
+0A8 00000008 000001E4 08 04 02 00        8 bytes at 1E4
+0B4 636F6465 00 64617461 00 0000         the names `code` and `data`
+0C0 4E800020 4E800020 4E800020 4E800020  section 0
+0D0 28 01020304 05060708 08              section 1: a block of 8 bytes, and 8 zeros
+0DA 000000000000
+0E0 00000001 00000002 00000003 00000004  section 2
+0F0 00000005 00000006 00000007 00000008
+100 00000002 00000000 00000000 00000004  the loader header: main in section 2 at 0, init in section 0 at 4,
+110 00000000 00000008 00000002 00000003  term in section 0 at 8, two libraries, three imports,
+120 00000002 0000008C 0000009C 000000B4  two programs; instructions at 18C, strings at 19C, slots at 1B4,
+130 00000000 00000003                    power 0, three exports
+138 00000000 00000004 00000005 00000002  library 0: `First`, oldImpVersion 4, currentVersion 5, two imports
+148 00000000 00 000000                   from 0
+150 00000006 00000001 00000001 00000001  library 1: `Second`, one import
+160 00000002 40 000000                   from 2, weak
+168 0200000D 8100000F 00000011           the imports `a`, `b` (weak) and `c`
+174 0002 0000 00000007 00000000          program 0: section 2, seven halfwords
+180 0001 0000 00000001 0000000E          program 1: section 1, one halfword, after 14 bytes
+18C 4000 4A02 6601 8003 A000 001C 4200   words 0 (section 0), 4 to 12 (imports), 16 (section 1), 28 (section 1)
+19A 4001                                 words 0 and 4 of section 1
+19C 46697273 7400 5365636F 6E6400        First, Second
+1A9 6100 6200 6300 676F 6B 70 00         a, b, c, and the exports go, k, p
+1B4 000C0000                             slot 0: three keys
+1B8 000200A1 0001006B 00010070           the hash words of go, k, p
+1C4 02000013 00000000 0002               go: section 2 at 0
+1CE 01000015 0000004D FFFE               k: the number 77
+1D8 01000016 00000001 FFFD               p: import 1, passed on
+1E2 0000
+1E4 54524143 4542 4B21                   section 4
+"""
+
+
+def bytes_of(text: str) -> bytes:
+    """The bytes of a dump. Each line begins with its offset, and the words of hex digits end at a double space."""
+    dumped = b""
+    for line in text.strip().splitlines():
+        at, _, rest = line.partition(" ")
+        assert int(at, 16) == len(dumped), line
+        dumped += bytes.fromhex(rest.split("  ")[0])
+    return dumped
+
+
+WHOLE = bytes_of(WHOLE_TEXT)
+assert len(WHOLE) == 0x1EC
+
+
+@dataclass
+class Case:
+    name: str
+    contents: bytes
+    lines: List[str]  # the lines of errors and notes, in the order of the rows that they are of
+    offsets: Tuple[int, ...] = (0,)  # where the containers begin
+    format: str = "container"
+
+
+CASES: List[Case] = []
+
+
+def changed(contents: bytes, changes: str) -> bytes:
+    """The bytes with changes: `3C FFFFFFFF, 42 20` writes four bytes at 3C and one at 42."""
+    edited = bytearray(contents)
+    for change in filter(None, changes.split(",")):
+        at, _, written = change.strip().partition(" ")
+        value = bytes.fromhex(written)
+        assert int(at, 16) + len(value) <= len(edited), change
+        edited[int(at, 16) : int(at, 16) + len(value)] = value
+    return bytes(edited)
+
+
+def case(name: str, changes: str, lines: str, cut: int = len(WHOLE), after: bytes = b"") -> None:
+    """A case of the whole container with changes. It is cut to some bytes first, and others follow."""
+    CASES.append(Case(name, changed(WHOLE[:cut], changes) + after, lines.strip().splitlines()))
+
+
+def container_header() -> None:
+    case("sound", "", "")
+    case("any-date", "10 FFFFFFFF", "")
+    case("m68k", "08 6D36386B", "error 3 BadArchitecture container architecture at 00000008")
+    case("format-version-2", "0C 00000002", "error 4 BadFormatVersion container formatVersion at 0000000C")
+    case("architecture-and-version", "08 70777064 FFFFFFFF", """
+error 3 BadArchitecture container architecture at 00000008
+error 4 BadFormatVersion container formatVersion at 0000000C""")
+    # All five sections are instantiated, so none is the loader section.
+    case("six-instantiated-of-five", "22 0006", """
+error 5 BadSectionCounts container instSectionCount at 00000022
+error 10 NoLoader container at 00000000
+error 7 BadSectionKind section 3 sectionKind at 00000094
+error 7 BadSectionKind section 4 sectionKind at 000000B0""")
+    case("loader-is-instantiated", "22 0004", """
+error 10 NoLoader container at 00000000
+error 7 BadSectionKind section 3 sectionKind at 00000094""")
+    case("versions-below-the-oldest", "14 00000004 00000009", """
+note 104 VersionBelowOldest container oldDefVersion at 00000014
+note 104 VersionBelowOldest container oldImpVersion at 00000018""")
+    case("versions-equal-to-the-oldest", "14 00000003 00000003", "")
+    case("header-reserved", "24 00000001", "note 101 ReservedNotZero container reservedA at 00000024")
+
+
+def sections() -> None:
+    # The bytes of section 0, from BE to D0, belong to no part.
+    case("section-past-2^32", "3C FFFFFFFF", """
+note 113 UnownedBytes container at 000000BE length 18
+error 6 SectionOutside section 0 containerOffset at 0000003C""")
+    # Section 2 has the loader section's 226 bytes and the last section's 8, too.
+    case("section-too-long", "70 00001000", """
+error 6 SectionOutside section 2 containerOffset at 00000074
+note 112 Overlap section 3 containerOffset at 00000090 length 226
+note 112 Overlap section 4 containerOffset at 000000AC length 8""")
+    case("empty-section-anywhere", "A8 00000000 FFFFFFFF", "note 109 TrailingBytes container at 000001E2 length 10")
+    case("debug-section-instantiated", "5C 05", """
+error 7 BadSectionKind section 1 sectionKind at 0000005C
+error 8 BadSizes section 1 unpackedSize at 00000050""")
+    case("image-longer-than-memory", "6C 00000021", "error 8 BadSizes section 2 unpackedSize at 0000006C")
+    case("packed-image-longer-than-memory", "4C 0000000F", "error 8 BadSizes section 1 unpackedSize at 00000050")
+    case("raw-bytes-shorter-than-image", "70 0000001F", """
+note 113 UnownedBytes container at 000000FF length 1
+error 8 BadSizes section 2 unpackedSize at 0000006C""")
+    case("alignment-32", "42 20", "error 9 BadAlignment section 0 alignment at 00000042")
+    case("alignment-31", "42 1F", "")
+    # The 16 bytes between sections 0 and 2 belong to no part.
+    case("all-of-a-section", "58 FFFFFFF0 09 01 28 00", """
+note 113 UnownedBytes container at 000000D0 length 16
+error 6 SectionOutside section 1 containerOffset at 00000058
+error 7 BadSectionKind section 1 sectionKind at 0000005C
+error 8 BadSizes section 1 unpackedSize at 00000050
+error 9 BadAlignment section 1 alignment at 0000005E
+note 102 UnknownKind section 1 sectionKind at 0000005C""")
+    case("no-loader-section", "94 05", "error 10 NoLoader container at 00000000")
+    case("no-loader-and-bad-packed-data", "94 05, D9 A0", """
+error 10 NoLoader container at 00000000
+error 22 BadOpcode section 1 packed 9 at 000000D9""")
+    case("unknown-kind", "B0 4D", "note 102 UnknownKind section 4 sectionKind at 000000B0")
+    case("unknown-share", "79 02, B1 4D", "note 103 UnknownShare section 2 shareKind at 00000079")
+    case("section-reserved", "43 01, B3 FF", """
+note 101 ReservedNotZero section 0 reservedA at 00000043
+note 101 ReservedNotZero section 4 reservedA at 000000B3""")
+    # C8 to E8: the last 8 bytes of section 0, and all 10 of section 1. Nothing has E8 to 100.
+    case("three-sections-overlap", "74 000000C8", """
+note 113 UnownedBytes container at 000000E8 length 24
+note 112 Overlap section 1 containerOffset at 00000058 length 10
+note 112 Overlap section 2 containerOffset at 00000074 length 8""")
+    case("section-in-the-headers", "3C 00000000", """
+note 113 UnownedBytes container at 000000BE length 18
+note 112 Overlap section 0 containerOffset at 0000003C length 16""")
+    case("bytes-between-parts", "DB 01", "note 113 UnownedBytes container at 000000DA length 6")
+    case("bytes-after-the-end", "", "note 109 TrailingBytes container at 000001EC length 5", after=b"extra")
+    case("zeros-after-the-end", "", "note 109 TrailingBytes container at 000001EC length 1", after=b"\0")
+
+
+def loader() -> None:
+    # The rest of the loader section, and 2 zeros after it, belong to no part.
+    case("loader-of-55-bytes", "8C 00000037", """
+note 113 UnownedBytes container at 00000137 length 173
+error 11 LoaderShort loader mainSection at 00000100""")
+    # What follows the import table isn't its relocation headers, and is read as such. Rows 2 to 8 are instructions, names, keys
+    # and exports; the two bytes after the first two are 0 in row 7 alone.
+    case("relocation-headers-past-the-end", "120 FFFFFFFF", """
+error 12 BadTableOffset loader importedLibraryCount at 00000118
+note 101 ReservedNotZero reloc 2 reservedA at 0000018E
+note 101 ReservedNotZero reloc 3 reservedA at 0000019A
+note 101 ReservedNotZero reloc 4 reservedA at 000001A6
+note 101 ReservedNotZero reloc 5 reservedA at 000001B2
+note 101 ReservedNotZero reloc 6 reservedA at 000001BE
+note 101 ReservedNotZero reloc 8 reservedA at 000001D6""")
+    # The same of the libraries: rows 2 to 6 are imports, relocation headers, instructions, names and exports.
+    case("libraries-past-the-end", "118 FFFFFFFF", """
+error 12 BadTableOffset loader importedLibraryCount at 00000118
+note 104 VersionBelowOldest library 2 oldImpVersion at 0000016C
+note 101 ReservedNotZero library 3 reservedA at 00000195
+note 101 ReservedNotZero library 4 reservedA at 000001AD
+note 104 VersionBelowOldest library 5 oldImpVersion at 000001B4
+note 101 ReservedNotZero library 5 reservedA at 000001C5
+note 101 ReservedNotZero library 6 reservedA at 000001DD""")
+    # Library 2 is the import table and the first 12 bytes after it. So imports begin at 180, and relocation headers at 18C.
+    case("one-library-too-many", "118 00000003", """
+error 13 BadName library 2 nameOffset at 00000168
+error 14 BadLibraryRange library 2 firstImportedSymbol at 00000178
+note 104 VersionBelowOldest library 2 oldImpVersion at 0000016C
+error 13 BadName import 0 classAndName at 00000180
+error 17 BadRelocSection reloc 0 sectionIndex at 0000018C
+error 18 RelocOutside reloc 0 relocCount at 00000190
+note 101 ReservedNotZero reloc 0 reservedA at 0000018E
+error 17 BadRelocSection reloc 1 sectionIndex at 00000198
+error 18 RelocOutside reloc 1 relocCount at 0000019C
+note 101 ReservedNotZero reloc 1 reservedA at 0000019A""")
+    case("library-name-outside", "138 7FFFFFFF", "error 13 BadName library 0 nameOffset at 00000138")
+    case("import-name-outside", "16D FFFFFF", "error 13 BadName import 1 classAndName at 0000016C")
+    case("strings-outside", "128 FFFFFFFF", """
+note 108 IrregularExports loader exportHashOffset at 0000012C
+error 13 BadName library 0 nameOffset at 00000138
+error 13 BadName library 1 nameOffset at 00000150
+error 13 BadName import 0 classAndName at 00000168
+error 13 BadName import 1 classAndName at 0000016C
+error 13 BadName import 2 classAndName at 00000170
+error 13 BadName export 0 classAndName at 000001C4
+error 13 BadName export 1 classAndName at 000001CE
+error 13 BadName export 2 classAndName at 000001D8""")
+    case("export-name-outside", "1B8 FFFF", """
+note 108 IrregularExports loader exportHashOffset at 0000012C
+error 13 BadName export 0 classAndName at 000001C4""")
+    case("library-range-outside", "15C 00000002", "error 14 BadLibraryRange library 1 firstImportedSymbol at 00000160")
+    case("library-range-past-2^32", "160 FFFFFFFF", """
+error 14 BadLibraryRange library 1 firstImportedSymbol at 00000160
+error 15 OrphanImport import 2 classAndName at 00000170""")
+    case("orphan-import", "144 00000001", "error 15 OrphanImport import 1 classAndName at 0000016C")
+    case("orphan-without-a-name", "144 00000001, 16D FFFFFF", """
+error 13 BadName import 1 classAndName at 0000016C
+error 15 OrphanImport import 1 classAndName at 0000016C""")
+    case("entries-nowhere", "100 00000003, 108 FFFFFFFE, 110 00000009", """
+error 16 BadEntry main mainSection at 00000100
+error 16 BadEntry init initSection at 00000108
+error 16 BadEntry term termSection at 00000110""")
+    case("no-entries", "100 FFFFFFFF FFFFFFFF FFFFFFFF FFFFFFFF FFFFFFFF FFFFFFFF", "")
+    case("entries-past-their-sections", "104 00000021, 10C 00000011, 114 00000010", """
+note 105 EntryOutside main mainOffset at 00000104
+note 105 EntryOutside init initOffset at 0000010C""")
+    case("program-of-no-section", "174 0003", "error 17 BadRelocSection reloc 0 sectionIndex at 00000174")
+    case("program-too-long", "184 00001000", "error 18 RelocOutside reloc 1 relocCount at 00000184")
+    case("program-far-away", "17C 80000000, 188 FFFFFFFF", """
+error 18 RelocOutside reloc 0 relocCount at 00000178
+error 18 RelocOutside reloc 1 relocCount at 00000184""")
+    case("library-and-program-reserved", "14D 000001, 165 800000, 182 0100", """
+note 101 ReservedNotZero library 0 reservedA at 0000014D
+note 101 ReservedNotZero library 1 reservedA at 00000165
+note 101 ReservedNotZero reloc 1 reservedA at 00000182""")
+    case("library-version-below-the-oldest", "13C 00000006", "note 104 VersionBelowOldest library 0 oldImpVersion at 0000013C")
+
+
+def exports() -> None:
+    case("power-31", "130 0000001F", "error 19 BadExportTable loader exportHashOffset at 0000012C")
+    # 4 + 4 x 4 + 4 x 10 bytes from 1B4 on pass the end at 1E2.
+    case("one-export-too-many", "134 00000004", "error 19 BadExportTable loader exportHashOffset at 0000012C")
+    case("no-exports-and-power-31", "130 0000001F 00000000", "")
+    case("export-sections", "1CC 0003, 1D6 FFFC, 1DC 00000003", """
+error 20 BadExportSection export 0 sectionIndex at 000001CC
+error 20 BadExportSection export 1 sectionIndex at 000001D6
+error 20 BadExportSection export 2 sectionIndex at 000001E0""")
+    case("export-past-its-section", "1C8 00000021", "note 106 ExportOutside export 0 symbolValue at 000001C8")
+    case("export-at-the-end-of-its-section", "1C8 00000020", "")
+    case("wrong-hash-word", "1BE 006C", "note 108 IrregularExports loader exportHashOffset at 0000012C")
+    case("slot-of-two-keys", "1B4 00080000", "note 108 IrregularExports loader exportHashOffset at 0000012C")
+
+
+def packed_data() -> None:
+    # The image has 16 bytes. The first instruction gives 8 of them.
+    case("packed-truncated", "D9 28", "error 21 Truncated section 1 packed 9 at 000000D9")
+    case("packed-bad-opcode", "D9 A0", "error 22 BadOpcode section 1 packed 9 at 000000D9")
+    case("packed-count-too-large", "D0 20 FF FF FF FF 7F", "error 23 CountTooLarge section 1 packed 0 at 000000D0")
+    case("packed-count-of-33-bits", "D0 00 90 80 80 80 00", "error 23 CountTooLarge section 1 packed 0 at 000000D0")
+    case("packed-too-long", "D9 09", "error 24 TooLong section 1 packed 9 at 000000D9")
+    case("packed-too-short", "D9 07", "error 25 TooShort section 1 packed 10 at 000000DA")
+    case("image-of-20-bytes", "50 00000014", "error 25 TooShort section 1 packed 10 at 000000DA")
+
+
+def programs() -> None:
+    case("program-bad-opcode", "190 4C00", "error 31 BadOpcode reloc 0 halfword 2 at 00000190")
+    case("program-cut", "178 00000005", "error 32 CutInstruction reloc 0 halfword 4 at 00000194")
+    case("repeat-of-four-halfwords", "18E 9300", "error 33 RepeatTooFar reloc 0 halfword 1 at 0000018E")
+    case("repeat-of-half-an-instruction", "198 9000", "error 34 RepeatCuts reloc 0 halfword 6 at 00000198")
+    case("repeat-of-a-repeat", "18E 9000 9000", "error 35 NestedRepeat reloc 0 halfword 2 at 00000190")
+    # 4 + 4 x 4,194,303 + 1 steps.
+    case("one-step-too-many", "18C 8000 8000 8000 8000 B0FF FFFF", "error 36 TooManySteps reloc 0 halfword 4 at 00000194")
+    # The memory of section 2 ends at 32. Word 28 is the last one.
+    case("word-past-the-end", "196 001D", "error 37 WordOutside reloc 0 halfword 6 at 00000198 word 0000001D")
+    # Seven words of section 1, whose image has 16 bytes and whose memory has 24.
+    case("word-past-the-end-of-the-memory", "19A 4006", """
+error 37 WordOutside reloc 1 halfword 0 at 0000019A word 00000018
+note 107 WordOutsideImage reloc 1 halfword 0 at 0000019A word 00000010""")
+    case("fourth-import", "18E 4A03", "error 38 ImportOutside reloc 0 halfword 1 at 0000018E word 00000010")
+    case("fourth-section", "190 6603", "error 39 SectionOutside reloc 0 halfword 2 at 00000190 word 00000010")
+    case("fourth-section-for-the-next", "190 6203", "error 39 SectionOutside reloc 0 halfword 2 at 00000190 word 00000010")
+    case("word-past-the-image", "19A 4005", "note 107 WordOutsideImage reloc 1 halfword 0 at 0000019A word 00000010")
+    # Two instructions add to word 0. The note is at the program.
+    case("word-twice", "196 0000", "note 114 WordRelocatedTwice reloc 0 halfword 0 at 0000018C word 00000000")
+
+
+def several() -> None:
+    case("everywhere", "0C 00000007, 42 21, 74 FFFFFFFF, D9 C0, 110 00000003, 138 FFFFFFFF, 180 0005, 18C FFFF, 1DC 00000009", """
+error 4 BadFormatVersion container formatVersion at 0000000C
+note 113 UnownedBytes container at 000000DA length 38
+error 9 BadAlignment section 0 alignment at 00000042
+error 22 BadOpcode section 1 packed 9 at 000000D9
+error 6 SectionOutside section 2 containerOffset at 00000074
+error 13 BadName library 0 nameOffset at 00000138
+error 16 BadEntry term termSection at 00000110
+error 31 BadOpcode reloc 0 halfword 0 at 0000018C
+error 17 BadRelocSection reloc 1 sectionIndex at 00000180
+error 20 BadExportSection export 2 sectionIndex at 000001E0""")
+    case("program-and-image", "D9 07, 190 6603, 19A 5000", """
+error 25 TooShort section 1 packed 10 at 000000DA
+error 39 SectionOutside reloc 0 halfword 2 at 00000190 word 00000010
+error 31 BadOpcode reloc 1 halfword 0 at 0000019A""")
+
+
+def truncated() -> None:
+    sections_outside = [f"error 6 SectionOutside section {i} containerOffset at {0x3C + 28 * i:08X}" for i in range(5)]
+    case("cut-by-a-byte", "", sections_outside[4], cut=0x1EB)
+    case("cut-in-the-exports", "", "\n".join([*sections_outside[3:], """
+error 19 BadExportTable loader exportHashOffset at 0000012C""".strip()]), cut=0x1E1)
+    # 112 bytes of the loader section: the libraries are whole, and the imports aren't.
+    case("cut-in-the-imports", "", "\n".join([*sections_outside[3:], """
+error 12 BadTableOffset loader importedLibraryCount at 00000118
+error 19 BadExportTable loader exportHashOffset at 0000012C
+error 13 BadName library 0 nameOffset at 00000138
+error 13 BadName library 1 nameOffset at 00000150""".strip()]), cut=0x170)
+    case("cut-in-the-loader-header", "", "\n".join([*sections_outside[3:], """
+error 11 LoaderShort loader mainSection at 00000100""".strip()]), cut=0x137)
+    case("cut-in-section-0", "", "\n".join([*sections_outside, """
+error 11 LoaderShort loader mainSection at 00000100""".strip()]), cut=0xCF)
+    case("cut-in-the-section-headers", "", "\n".join(["""
+error 1 TooShort container at 00000000""".strip(), *sections_outside[:4], """
+error 11 LoaderShort loader mainSection at 00000100""".strip()]), cut=0xB3)
+    case("container-header-alone", "", """
+error 1 TooShort container at 00000000
+error 10 NoLoader container at 00000000""", cut=0x28)
+
+
+def limits() -> None:
+    # Five headers for one program of 16,777,213 steps. Four of them are below 67,108,864 steps together.
+    name, count = "steps-of-five-programs", 5
+    head = b"Joy!peffpwpc" + struct.pack(">IIIIIHHI", 1, 0, 0, 0, 0, 2, 1, 0)
+    data = struct.pack(">iIIIIIBBBB", -1, 0, 4, 4, 4, 96, 1, 1, 4, 0)
+    own = struct.pack(">iIIIIIBBBB", -1, 0, 0, 0, 128, 112, 4, 4, 4, 0)
+    tables = struct.pack(">iIiIiIIIIIIIII", -1, 0, -1, 0, -1, 0, 0, 0, count, 116, 128, 128, 0, 0)
+    rows = struct.pack(">HHII", 0, 0, 6, 0) * count
+    program = bytes.fromhex("8000 8000 8000 8000 B0FF FFFE")
+    contents = head + data + own + bytes(4) + bytes(12) + tables + rows + program
+    assert len(contents) == 240
+    # Relocation headers begin at 112 + 56, and the fifth 48 bytes later.
+    CASES.append(Case(name, contents, ["note 110 ProgramsUnverified reloc 4 sectionIndex at 000000D8"]))
+
+    # 65 headers for one program of 1,048,576 bytes: 64 have 67,108,864 bytes together.
+    name, count, size = "bytes-of-65-programs", 65, 0x100000
+    own = struct.pack(">iIIIIIBBBB", -1, 0, 0, 0, 56 + 12 * count + size, 112, 4, 4, 4, 0)
+    end = 56 + 12 * count + size
+    tables = struct.pack(">iIiIiIIIIIIIII", -1, 0, -1, 0, -1, 0, 0, 0, count, 56 + 12 * count, end, end, 0, 0)
+    rows = struct.pack(">HHII", 0, 0, size // 2, 0) * count
+    contents = head + data + own + bytes(4) + bytes(12) + tables + rows + b"\x80\x00" * (size // 2)
+    # 112 + 56 + 12 x 64.
+    CASES.append(Case(name, contents, ["note 110 ProgramsUnverified reloc 64 sectionIndex at 000003A8"]))
+
+    # A program that adds to 1,048,577 words of a section without an image: one more than are compared.
+    name, size = "words-of-one-program", 4 * 1048577
+    large = struct.pack(">iIIIIIBBBB", -1, 0, size, 0, 0, 0, 1, 1, 4, 0)
+    own = struct.pack(">iIIIIIBBBB", -1, 0, 0, 0, 74, 96, 4, 4, 4, 0)
+    tables = struct.pack(">iIiIiIIIIIIIII", -1, 0, -1, 0, -1, 0, 0, 0, 1, 68, 74, 74, 0, 0)
+    contents = head + large + own + tables + struct.pack(">HHII", 0, 0, 3, 0) + bytes.fromhex("4000 B010 0000")
+    CASES.append(Case(name, contents, """
+note 107 WordOutsideImage reloc 0 halfword 0 at 000000A4 word 00000000
+note 110 ProgramsUnverified reloc 0 sectionIndex at 00000098""".strip().splitlines()))
+
+    # 300 sections with the same packed bytes, 1,048,576 of them: 256 sections have 268,435,456 bytes together. The packed bytes are
+    # a block of 1,048,572 bytes. The headers end at 40 + 28 x 301, which is 2114 (hex).
+    name, count, size = "bytes-of-300-packed-sections", 300, 0x100000
+    head = b"Joy!peffpwpc" + struct.pack(">IIIIIHHI", 1, 0, 0, 0, 0, count + 1, count, 0)
+    packed = struct.pack(">iIIIIIBBBB", -1, 0, size - 4, size - 4, size, 0x2120, 2, 1, 4, 0) * count
+    own = struct.pack(">iIIIIIBBBB", -1, 0, 0, 0, 56, 0x102120, 4, 4, 4, 0)
+    tables = struct.pack(">iIiIiIIIIIIIII", -1, 0, -1, 0, -1, 0, 0, 0, 0, 56, 56, 56, 0, 0)
+    contents = head + packed + own + bytes(12) + b"\x20\xBF\xFF\x7C" + bytes(size - 4) + tables
+    lines = []
+    for i in range(count):
+        if i == 256:
+            lines.append("note 111 ImagesUnverified section 256 packedSize at 00001C38")
+        if i > 0:
+            lines.append(f"note 112 Overlap section {i} containerOffset at {60 + 28 * i:08X} length {size}")
+    CASES.append(Case(name, contents, lines))
+
+
+def padded(contents: bytes) -> bytes:
+    return contents + bytes(-len(contents) % 128)
+
+
+def mac_binary(data: bytes, resources: bytes) -> bytes:
+    """A MacBinary II file: its header, the data fork at 80 (hex), the resource fork at the next multiple of 128."""
+    head = b"\0\x04Calc".ljust(65, b"\0") + b"APPL????" + bytes(10) + struct.pack(">II", len(data), len(resources))
+    head = head.ljust(122, b"\0") + b"\x81\x81"
+    return head + struct.pack(">HH", binascii.crc_hqx(head, 0), 0) + padded(data) + padded(resources)
+
+
+def apple(tag: int, entries: List[Tuple[int, bytes]]) -> bytes:
+    """An AppleSingle or AppleDouble file: 26 bytes, 12 bytes for each entry, and their contents one after the other."""
+    head, body = struct.pack(">II16xH", tag, 0x00020000, len(entries)), b""
+    for number, contents in entries:
+        head += struct.pack(">III", number, 26 + 12 * len(entries) + len(body), len(contents))
+        body += contents
+    return head + body
+
+
+def resource_fork(kind: bytes, number: int, contents: bytes) -> bytes:
+    """A resource fork with one resource: its length at 10 (hex), its bytes at 14, and the map after them."""
+    data = struct.pack(">I", len(contents)) + contents
+    types = struct.pack(">H4sHH", 0, kind, 0, 10) + struct.pack(">hHII", number, 0xFFFF, 0, 0)
+    header = struct.pack(">4I", 16, 16 + len(data), len(data), 28 + len(types))
+    return header + data + header + struct.pack(">4xHHHH", 0, 0, 28, 28 + len(types)) + types
+
+
+def fragments(*members: Tuple[bytes, int, int, int]) -> bytes:
+    """A table of fragments. Each member is a name of four bytes, `where`, and its two fields, and has 48 bytes, from 20 (hex) on."""
+    table = struct.pack(">10xH18xH", 1, len(members))
+    for name, where, first, second in members:
+        table += struct.pack(">4s3xBIIIHBBIIIHHH", b"pwpc", 0, 0, 0, 0, 0, 1, where, first, second, 0, 0, 0, 48) + b"\4" + name + b"\0"
+    return table
+
+
+def inside(name: str, contents: bytes, form: str, lines: str, *offsets: int) -> None:
+    CASES.append(Case(name, contents, lines.strip().splitlines(), offsets, form))
+
+
+def other_files() -> None:
+    # Section 0 has alignment 32: the byte at 42 of the container.
+    bad = changed(WHOLE, "42 20")
+    inside("nothing", b"", "other", "")
+    inside("39-bytes", WHOLE[:39], "other", "")
+    inside("another-tag", changed(WHOLE, "07 67"), "other", "")
+    inside("after-7-bytes", b"padding" + bad, "other", "error 9 BadAlignment section 0 alignment at 00000049", 7)
+    inside("two-containers", WHOLE + bad, "container", """
+note 109 TrailingBytes container at 000001EC length 492
+error 9 BadAlignment section 0 alignment at 0000022E""", 0, 0x1EC)
+    inside("two-containers-and-more", bad + b"and" + WHOLE + b"more", "container", """
+note 109 TrailingBytes container at 000001EC length 499
+error 9 BadAlignment section 0 alignment at 00000042
+note 109 TrailingBytes container at 000003DB length 4""", 0, 0x1EF)
+
+    # The data fork is at 80 (hex) and the container 8 bytes later. The resource fork is at 280, after 500 bytes and 12 zeros, and
+    # has 150 bytes, so the file ends at 380. The container ends at 88 + 1EC.
+    calc = resource_fork(b"cfrg", 0, fragments((b"Calc", 1, 8, 492)))
+    inside("macbinary", mac_binary(b"not yet." + bad, calc), "macbinary", """
+note 109 TrailingBytes container at 00000274 length 268
+error 9 BadAlignment section 0 alignment at 000000CA""", 0x88)
+    inside("macbinary-wrong-crc", changed(mac_binary(bad, b""), "7C 0000"), "macbinary", """
+error 81 BadMacBinaryCrc fork at 0000007C
+note 109 TrailingBytes container at 0000026C length 20
+error 9 BadAlignment section 0 alignment at 000000C2""", 0x80)
+
+    # The data fork has 12 bytes, and the resource fork begins at 100. Its resource begins at 114, so the members at 134, 164 and
+    # 194. The offset of a member is at its byte 24.
+    named = fragments((b"Calc", 1, 0, 0), (b"Draw", 1, 4, 4), (b"Tail", 1, 64, 0))
+    inside("members-without-containers", mac_binary(b"nothing here", resource_fork(b"cfrg", 0, named)), "macbinary", """
+error 80 NoContainer fragment at 00000080
+error 80 NoContainer fragment at 00000084
+error 98 FragmentOutside fragment 2 at 000001AC""")
+
+    # A resource's bytes begin at 14.
+    inside("resource", resource_fork(b"ndrv", 1, bad), "resources", """
+note 109 TrailingBytes container at 00000200 length 50
+error 9 BadAlignment section 0 alignment at 00000056""", 0x14)
+    inside("macbinary-resource", mac_binary(b"", resource_fork(b"ndrv", 1, bad)), "macbinary", """
+note 109 TrailingBytes container at 00000280 length 128
+error 9 BadAlignment section 0 alignment at 000000D6""", 0x94)
+
+    # The resource fork is at 80, its resource at 94, and the member at B4.
+    alone = mac_binary(b"", resource_fork(b"cfrg", 0, fragments((b"Calc", 1, 0, 0))))
+    inside("resource-map-outside", changed(alone, "84 00000200"), "macbinary", "error 87 ResourceMapOutside resource at 00000084")
+    inside("fragment-table-version", changed(alone, "9E 0002"), "macbinary", "error 95 BadFragmentTable fragment at 0000009E")
+    inside("member-cut", changed(alone, "B2 0002"), "macbinary", """
+error 80 NoContainer fragment at 00000080
+error 96 MemberCut fragment 1 at 000000E4""")
+    inside("member-name-cut", changed(alone, "DE FF"), "macbinary", """
+error 97 MemberNameCut fragment 0 at 000000DE
+error 80 NoContainer fragment at 00000080""")
+
+    # The rows of the two entries are at 1A and 26, and their offsets at 1E and 2A. The data fork is at 32.
+    both = apple(0x00051600, [(1, bad), (2, resource_fork(b"cfrg", 0, fragments((b"Calc", 1, 0, 0))))])
+    found = """
+note 109 TrailingBytes container at 0000021E length 150
+error 9 BadAlignment section 0 alignment at 00000074"""
+    inside("applesingle", both, "applesingle", found, 0x32)
+    inside("applesingle-version", changed(both, "04 00030000"), "damaged", "error 83 BadAppleVersion fork at 00000004" + found, 0x32)
+    inside("applesingle-data-outside", changed(both, "22 000003E8"), "applesingle", "error 85 AppleEntryOutside fork 0 at 0000001E" + found, 0x32)
+    inside("applesingle-resources-outside", changed(both, "2E 000003E8"), "applesingle", "error 85 AppleEntryOutside fork 1 at 0000002A" + found, 0x32)
+    inside("appledouble", apple(0x00051607, [(2, resource_fork(b"cfrg", 0, fragments((b"Calc", 1, 0, 0))))]), "appledouble", "")
+
+
+# Names of each byte but zero, 17 bytes long.
+NAMES = [bytes(range(start, start + 17)) for start in range(1, 256, 17)]
+
+
+def named_container(names: List[bytes]) -> bytes:
+    """A container without sections but the loader section, with weak libraries of these names and no imports."""
+    strings, rows = b"", b""
+    for name in names:
+        rows += struct.pack(">IIIIIBxxx", len(strings), 0, 0, 0, 0, 0x40)
+        strings += name + b"\0"
+    end = 56 + len(rows) + len(strings)
+    tables = struct.pack(">iIiIiIIIIIIIII", -1, 0, -1, 0, -1, 0, len(names), 0, 0, 56 + len(rows), 56 + len(rows), end, 0, 0)
+    head = b"Joy!peffpwpc" + struct.pack(">IIIIIHHI", 1, 0, 0, 0, 0, 1, 0, 0)
+    own = struct.pack(">iIIIIIBBBB", -1, 0, 0, 0, end, 68, 4, 4, 4, 0)
+    return head + own + tables + rows + strings
+
+
+for group in container_header, sections, loader, exports, packed_data, programs, several, truncated, limits, other_files:
+    group()
