@@ -162,7 +162,7 @@ note 101 ReservedNotZero section 4 reservedA at 000000B3""")
 note 113 UnownedBytes container at 000000E8 length 24
 note 112 Overlap section 1 containerOffset at 00000058 length 10
 note 112 Overlap section 2 containerOffset at 00000074 length 8""")
-    case("section-in-the-headers", "3C 00000000", """
+    case("section-in-the-headers", "3C 00000004", """
 note 113 UnownedBytes container at 000000BE length 18
 note 112 Overlap section 0 containerOffset at 0000003C length 16""")
     case("bytes-between-parts", "DB 01", "note 113 UnownedBytes container at 000000DA length 6")
@@ -284,14 +284,14 @@ def programs() -> None:
     # 4 + 4 x 4,194,303 + 1 steps.
     case("one-step-too-many", "18C 8000 8000 8000 8000 B0FF FFFF", "error 36 TooManySteps reloc 0 halfword 4 at 00000194")
     # The memory of section 2 ends at 32. Word 28 is the last one.
-    case("word-past-the-end", "196 001D", "error 37 WordOutside reloc 0 halfword 6 at 00000198 word 0000001D")
+    case("word-past-the-end", "196 001D", "error 37 WordOutside reloc 0 halfword 6 at 00000198")
     # Seven words of section 1, whose image has 16 bytes and whose memory has 24.
     case("word-past-the-end-of-the-memory", "19A 4006", """
-error 37 WordOutside reloc 1 halfword 0 at 0000019A word 00000018
+error 37 WordOutside reloc 1 halfword 0 at 0000019A
 note 107 WordOutsideImage reloc 1 halfword 0 at 0000019A word 00000010""")
-    case("fourth-import", "18E 4A03", "error 38 ImportOutside reloc 0 halfword 1 at 0000018E word 00000010")
-    case("fourth-section", "190 6603", "error 39 SectionOutside reloc 0 halfword 2 at 00000190 word 00000010")
-    case("fourth-section-for-the-next", "190 6203", "error 39 SectionOutside reloc 0 halfword 2 at 00000190 word 00000010")
+    case("fourth-import", "18E 4A03", "error 38 ImportOutside reloc 0 halfword 1 at 0000018E")
+    case("fourth-section", "190 6603", "error 39 SectionOutside reloc 0 halfword 2 at 00000190")
+    case("fourth-section-for-the-next", "190 6203", "error 39 SectionOutside reloc 0 halfword 2 at 00000190")
     case("word-past-the-image", "19A 4005", "note 107 WordOutsideImage reloc 1 halfword 0 at 0000019A word 00000010")
     # Two instructions add to word 0. The note is at the program.
     case("word-twice", "196 0000", "note 114 WordRelocatedTwice reloc 0 halfword 0 at 0000018C word 00000000")
@@ -311,7 +311,7 @@ error 17 BadRelocSection reloc 1 sectionIndex at 00000180
 error 20 BadExportSection export 2 sectionIndex at 000001E0""")
     case("program-and-image", "D9 07, 190 6603, 19A 5000", """
 error 25 TooShort section 1 packed 10 at 000000DA
-error 39 SectionOutside reloc 0 halfword 2 at 00000190 word 00000010
+error 39 SectionOutside reloc 0 halfword 2 at 00000190
 error 31 BadOpcode reloc 1 halfword 0 at 0000019A""")
 
 
