@@ -1,10 +1,10 @@
 //! Files of the classic Mac OS, and the containers in them.
-ghost use Rattle.std.specs.Prelude.{◌≡◌, map, option_map};
+ghost use Rattle.std.specs.Prelude.{◌≡◌, Ok, map, option_map};
 ghost use Rattle.cfm_members.specs.Kinds.{kind_of};
 ghost use Rattle.mac_forks.specs.Views.{mac_file_seen, part_seen};
 ghost use Rattle.pef_words.specs.Refusals.{result_map};
 ghost use Rattle.pef_page.specs.Rows.{TableAnswers, row_shown};
-ghost use Rattle.pef_page.specs.Files.{error_row, fork_row, fork_rows, header_cells, kind_code, part_cells, part_or_error, place_row, place_rows};
+ghost use Rattle.pef_page.specs.Files.{entry_of, error_row, fork_row, fork_rows, header_cells, kind_code, no_part, part_cells, part_or_error, place_row, place_rows, row_of_file, unread_row};
 
 use crate::row::{PageRow, number_or_none};
 use crate::table::{Rows, Table, fill_from, fill_table};
@@ -33,9 +33,10 @@ pub extern "C" fn page_kind(file: &[u8]) -> u32
 
 /// Reads the parts of a file as a table of five rows: the data fork, the resource fork, the name, the comment, and the error of
 /// the file's header. The bytes are those of a part, if it is there. The numbers are 0, or 201 if the file doesn't have the
-/// part, or the number of its error; the offset of the error, or 2^64 - 1; and the offset of the part.
+/// part, or the number of its error; the offset of the error; the offset of the part; and the number of the entry that the
+/// error is about. An offset or an entry that there isn't is 2^64 - 1. If the header can't be read there are no parts.
 ///
-/// Returns the number of the error of a header that can't be read.
+/// Returns 0.
 #[unsafe(no_mangle)]
 pub extern "C" fn page_forks<'a>(
     file: &'a [u8],
@@ -43,23 +44,14 @@ pub extern "C" fn page_forks<'a>(
     places: &mut [PageRow<'a>],
     count: &mut usize,
 ) -> u32
-    ensures { TableAnswers (fork_rows file.entry.now) from (map row_shown places.old) (map row_shown places.new) count.old count.new result }
+    ensures { TableAnswers (Ok (fork_rows file.entry.now)) from (map row_shown places.old) (map row_shown places.new) count.old count.new result }
 {
-    match MacFile::read(file) {
-        Ok(read) => {
-            *count = fill_table(
-                FileParts {
-                    bytes: file,
-                    file: read,
-                },
-                5,
-                from,
-                places,
-            );
-            0
-        }
-        Err(fault) => fault.number(),
-    }
+    let parts = FileParts {
+        bytes: file,
+        file: MacFile::read(file),
+    };
+    *count = fill_table(parts, 5, from, places);
+    0
 }
 
 /// Finds the places in some bytes where a container begins. The one number of each is its offset.
@@ -81,22 +73,44 @@ pub extern "C" fn page_containers<'a>(
     0
 }
 
-/// The parts of a file.
+/// The parts of a file, or the error of its header.
 #[derive(Clone, Copy)]
 struct FileParts<'a> {
     bytes: &'a [u8],
-    file: MacFile<'a>,
+    file: Result<MacFile<'a>, ForkFault>,
 }
 
 impl<'a> Table<'a> for FileParts<'a> {
+    ghost use Rattle.pef_words.specs.Refusals.{result_map};
     ghost use Rattle.mac_forks.specs.Views.{mac_file_seen};
-    ghost use Rattle.pef_page.specs.Files.{fork_row};
+    ghost use Rattle.pef_page.specs.Files.{row_of_file};
 
-    ghost row_at = { λ t i. fork_row t.bytes.now (mac_file_seen t.file) i };
+    ghost row_at = { λ t i. row_of_file t.bytes.now (result_map mac_file_seen t.file) i };
 
     fn row(&mut self, i: usize) -> PageRow<'a> {
-        fork_row(self.bytes, &self.file, i)
+        match &self.file {
+            Ok(file) => fork_row(self.bytes, file, i),
+            Err(fault) => unread_row(*fault, i),
+        }
     }
+}
+
+/// Returns part `i` of a file whose header can't be read as a row.
+fn unread_row<'a>(fault: ForkFault, i: usize) -> PageRow<'a>
+    ensures { row_shown result ≡ unread_row fault i }
+{
+    if i == 4 { error_row(fault) } else { no_part() }
+}
+
+/// Returns a part that a file doesn't have as a row.
+fn no_part<'a>() -> PageRow<'a>
+    ensures { row_shown result ≡ no_part }
+{
+    PageRow::new(
+        None,
+        None,
+        &[NOT_THERE, number_or_none(None), 0, number_or_none(None)],
+    )
 }
 
 /// Returns part `i` of a file as a row.
@@ -123,7 +137,7 @@ fn part_cells<'a>(part: Option<Result<Part<'a>, ForkFault>>) -> PageRow<'a>
 {
     match part {
         Some(part) => part_or_error(part),
-        None => PageRow::new(None, None, &[NOT_THERE, number_or_none(None), 0]),
+        None => no_part(),
     }
 }
 
@@ -135,7 +149,12 @@ fn part_or_error<'a>(part: Result<Part<'a>, ForkFault>) -> PageRow<'a>
         Ok(part) => PageRow::new(
             None,
             Some(part.bytes),
-            &[0, number_or_none(None), part.offset as u64],
+            &[
+                0,
+                number_or_none(None),
+                part.offset as u64,
+                number_or_none(None),
+            ],
         ),
         Err(fault) => error_row(fault),
     }
@@ -148,8 +167,25 @@ fn error_row<'a>(fault: ForkFault) -> PageRow<'a>
     PageRow::new(
         None,
         None,
-        &[u64::from(fault.number()), number_or_none(fault.offset()), 0],
+        &[
+            u64::from(fault.number()),
+            number_or_none(fault.offset()),
+            0,
+            number_or_none(entry_of(fault)),
+        ],
     )
+}
+
+/// Returns the number of the entry that an error is about.
+fn entry_of(fault: ForkFault) -> Option<usize>
+    ensures { result ≡ entry_of fault }
+{
+    match fault {
+        ForkFault::BadMacBinaryCrc | ForkFault::AppleHeaderCut | ForkFault::BadAppleVersion => None,
+        ForkFault::AppleEntryCut { entry }
+        | ForkFault::AppleEntryOutside { entry }
+        | ForkFault::AppleEntryShort { entry } => Some(usize::from(entry)),
+    }
 }
 
 /// Returns the error of a file's header as a row.
@@ -158,7 +194,11 @@ fn header_cells<'a>(fault: Option<ForkFault>) -> PageRow<'a>
 {
     match fault {
         Some(fault) => error_row(fault),
-        None => PageRow::new(None, None, &[0, number_or_none(None), 0]),
+        None => PageRow::new(
+            None,
+            None,
+            &[0, number_or_none(None), 0, number_or_none(None)],
+        ),
     }
 }
 

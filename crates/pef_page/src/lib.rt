@@ -22,7 +22,7 @@ pub use expand::page_expand;
 pub use files::{page_containers, page_forks, page_kind};
 pub use findings::{page_errors, page_notes};
 pub use fixups::page_fixups;
-pub use fragments::{page_members, page_resources};
+pub use fragments::{page_fragment_table, page_members, page_resource_fork, page_resources};
 pub use loader::{page_exports, page_imports, page_libraries, page_loader, page_relocations};
 pub use names::page_error;
 pub use row::PageRow;
