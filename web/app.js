@@ -122,25 +122,33 @@ function fileView(file) {
             ["Containers", file.places.length.toLocaleString("en")],
         ]),
     ];
-    if (file.headerError !== 0) {
-        parts.push(el("p", { class: "verdict damaged" }, problem(file.headerError)));
+    if (file.errors.length > 0) {
+        parts.push(el("h3", {}, "Errors of the file"), errorsTable(file).element);
     }
     parts.push(el("h3", {}, "Containers"), containersTable(file).element);
     const inside = partsOf(file);
     if (inside.length > 1 || inside.some((it) => it.error !== 0)) {
         parts.push(el("h3", {}, "Parts of the file"), forksTable(inside).element);
     }
-    if (file.fragments.length > 0 || file.fragmentError !== 0) {
-        parts.push(el("h3", {}, "Fragments"), ...(file.fragmentError === 0 ? [] : [el("p", { class: "hint" }, problem(file.fragmentError))]), fragmentsTable(file).element);
+    if (file.fragments.length > 0) {
+        parts.push(el("h3", {}, "Fragments"), fragmentsTable(file).element);
     }
-    if (file.resources.length > 0 || file.resourceError !== 0) {
-        parts.push(el("h3", {}, "Resources"), ...(file.resourceError === 0 ? [] : [el("p", { class: "hint" }, problem(file.resourceError))]), resourcesTable(file).element);
+    if (file.resources.length > 0) {
+        parts.push(el("h3", {}, "Resources"), resourcesTable(file).element);
     }
     return el("article", {}, ...parts);
 }
 
-function problem(number) {
-    return `${number} ${reader.nameOf(number)}: ${reader.help(number)}`;
+/** Returns the table of the errors that aren't those of a container. */
+function errorsTable(file) {
+    const columns = [
+        { title: "Number", text: (it) => String(it.number), value: (it) => it.number, class: "number" },
+        { title: "Name", text: (it) => reader.nameOf(it.number) },
+        { title: "Part", text: (it) => (it.row === null ? it.part : `${it.part} ${it.row}`) },
+        numeric("Offset", (it) => it.offset, (it) => text.at(it.offset)),
+        { title: "Meaning", text: (it) => reader.help(it.number), class: "wide" },
+    ];
+    return new DataTable({ caption: "Errors of the file", columns, rows: file.errors });
 }
 
 function errorText(number) {
@@ -187,7 +195,7 @@ function fragmentsTable(file) {
         { title: "Where", text: (it) => LOCATORS[it.where] ?? String(it.where), value: (it) => it.where },
         numeric("Container at", (it) => it.at, (it) => text.at(it.at)),
         numeric("Length", (it) => it.length),
-        { title: "Error", text: (it) => errorText(it.error || it.nameError || it.containerError) },
+        { title: "Error", text: (it) => errorText(it.error) },
     ];
     columns[6].go = (it) => (file.places.includes(it.at) ? () => choose(file, it.at) : null);
     return new DataTable({ caption: "Fragments that the file names", columns, rows: file.fragments });

@@ -27,8 +27,16 @@ const RELOCATION = 12;
 
 const EXPORT = 10;
 
-/** The type of the resource that lists fragments: `cfrg`. */
-const FRAGMENT_TABLE = 0x63667267;
+/** A part isn't there, or no container is. */
+const NOT_THERE = 201;
+
+const NO_CONTAINER = 80;
+
+/** The code of a container as a kind of file. */
+const CONTAINER = 1;
+
+/** The code of where a member's container is. */
+const IN_DATA_FORK = 1;
 
 /** What the inspections of a file's containers may cost together, besides the length of the file, and what each costs. */
 const BUDGET = 0x4000000;
@@ -44,78 +52,99 @@ export class File {
         this.bytes = bytes;
         reader.open(bytes);
         this.format = FORMATS[reader.kind()];
-        const parts = reader.table("page_forks", [reader.file], 3);
-        this.error = parts.error;
-        this.forks = parts.rows.slice(0, 4).map((row, i) => fork(row, FORKS[i]));
-        this.headerError = parts.rows.length > 4 ? parts.rows[4].numbers[0] : parts.error;
+        const parts = reader.table("page_forks", [reader.file], 4).rows;
+        this.forks = parts.slice(0, 4).map((row, i) => fork(row, FORKS[i]));
+        /** The errors of the file, of its resources and of its fragments. */
+        this.errors = [];
+        this.addError("fork", 0, parts[4].numbers[0], parts[4].numbers[1], parts[4].numbers[3]);
         this.places = findContainers(reader);
         this.resources = [];
-        this.resourceError = 0;
         this.fragments = [];
-        this.fragmentError = 0;
-        this.readResources(reader);
+        this.readForks(reader);
     }
 
-    /** Reads the resources and the table of fragments, if there is a resource fork. */
-    readResources(reader) {
-        const part = this.forks[1];
-        if (part === undefined || part.slice === null) {
+    /** Returns whether the file is nothing but a data fork or a resource fork. */
+    isBare() {
+        return ["other", "container", "resources"].includes(this.format);
+    }
+
+    /** Adds an error, if there is one, with its offset from a place of the file on. */
+    addError(part, base, number, offset, row = null) {
+        if (number !== 0 && number !== NOT_THERE) {
+            this.errors.push({ number, part, row, offset: offset === null ? null : base + offset });
+        }
+    }
+
+    /** Reads the resources and the fragments, if there is a resource fork. */
+    readForks(reader) {
+        const [data, part] = this.forks;
+        for (const it of this.isBare() ? [part] : [data, part]) {
+            this.addError("fork", 0, it.error, it.errorOffset, it.entry);
+        }
+        if (part.slice === null || part.slice.length === 0) {
             return;
         }
-        const found = reader.table("page_resources", [part.slice], 6);
-        this.resourceError = found.error;
-        this.resources = found.rows.map((row) => resource(row, part));
-        const table = this.resources.find((it) => it.type === FRAGMENT_TABLE && it.id === 0 && it.slice !== null);
-        if (table !== undefined) {
-            const data = this.forks[0] !== undefined && this.forks[0].slice !== null ? this.forks[0] : null;
-            const members = reader.table("page_members", [table.slice, data === null ? new Slice(part.slice.address, 0) : data.slice], 19);
-            this.fragmentError = members.error;
-            this.fragments = members.rows.map((row) => fragment(row, data));
+        const [error, offset] = reader.table("page_resource_fork", [part.slice], 2).rows[0].numbers;
+        this.addError("resource", part.offset, error, offset);
+        const found = reader.table("page_resources", [part.slice], 8);
+        if (found.error === 0) {
+            this.resources = found.rows.map((row) => this.resource(row, part));
+            this.readFragments(reader, part, this.isBare() || data.slice === null ? null : data);
         }
+    }
+
+    resource(row, part) {
+        const [error, errorOffset, type, id, attributes, offset, nameError, nameOffset] = row.numbers;
+        this.addError("resource", part.offset, nameError, nameOffset);
+        this.addError("resource", part.offset, error, errorOffset);
+        const length = row.bytes === null ? null : row.bytes.length;
+        return { type, id: id >= 0x8000 ? id - 0x10000 : id, name: row.name, attributes, offset: part.offset + offset, length, error };
+    }
+
+    /** Reads the table of fragments of the resource fork, if it has one. */
+    readFragments(reader, part, data) {
+        const tables = reader.table("page_fragment_table", [part.slice], 3).rows;
+        if (tables.length === 0) {
+            return;
+        }
+        const [error, errorOffset, offset] = tables[0].numbers;
+        const base = part.offset + offset;
+        this.addError("fragment", base, error, errorOffset);
+        const members = reader.table("page_members", [part.slice, data === null ? new Slice(part.slice.address, 0) : data.slice], 20);
+        if (members.error === 0) {
+            members.rows.forEach((row, i) => this.readMember(reader, row, i, base, data));
+        }
+    }
+
+    /** Adds a member of the table of fragments, or the errors that it has. */
+    readMember(reader, row, i, base, data) {
+        const [error, errorOffset, nameError, nameOffset, containerError, containerOffset, place, architecture, update, current, oldDef, stack, directory, usage, where, offset, length, space, instance, extensions] = row.numbers;
+        if (row.name === null && nameError === 0) {
+            // The fields can't be read: the row has an error and nothing else.
+            this.addError("fragment", base, error, errorOffset, i);
+            return;
+        }
+        // Without a data fork, a container that should be there is in another file.
+        const elsewhere = where === IN_DATA_FORK && data === null;
+        const slice = elsewhere ? null : row.bytes;
+        const at = slice === null ? null : slice.address - reader.file.address;
+        this.addError("fragment", base, nameError, nameOffset, i);
+        this.addError("fragment", base, error, errorOffset, i);
+        if (slice !== null && reader.kind(slice) !== CONTAINER) {
+            this.addError("fragment", at, NO_CONTAINER, 0);
+        } else if (!elsewhere) {
+            const isMissing = containerError === NO_CONTAINER;
+            this.addError("fragment", base, containerError, isMissing ? place : containerOffset, isMissing ? null : i);
+        }
+        const size = slice === null ? 0 : slice.length;
+        const fields = { architecture, update, current, oldDef, stack, directory, usage, where, offset, length, space, instance, extensions };
+        this.fragments.push({ name: row.name, row: i, place: base + place, at, size, error: error || nameError || (elsewhere ? 0 : containerError), ...fields });
     }
 }
 
 function fork(row, kind) {
-    const [error, errorOffset, offset] = row.numbers;
-    return { kind, offset, length: row.bytes === null ? null : row.bytes.length, error, errorOffset, slice: row.bytes };
-}
-
-function resource(row, part) {
-    const [error, errorOffset, type, id, attributes, offset] = row.numbers;
-    return {
-        type,
-        id: id >= 0x8000 ? id - 0x10000 : id,
-        name: row.name,
-        attributes,
-        offset: part.offset + offset,
-        length: row.bytes === null ? null : row.bytes.length,
-        error,
-        errorOffset,
-        slice: row.bytes,
-    };
-}
-
-function fragment(row, data) {
-    const [place, error, errorOffset, nameError, containerError, architecture, update, current, oldDef, stack, directory, usage, where, offset, length] = row.numbers;
-    return {
-        name: row.name,
-        place,
-        error,
-        errorOffset,
-        nameError,
-        containerError,
-        architecture,
-        update,
-        current,
-        oldDef,
-        stack,
-        directory,
-        usage,
-        where,
-        offset,
-        length,
-        at: data === null || row.bytes === null ? null : data.offset + offset,
-    };
+    const [error, errorOffset, offset, entry] = row.numbers;
+    return { kind, offset, length: row.bytes === null ? null : row.bytes.length, error, errorOffset, entry, slice: row.bytes };
 }
 
 /** Returns the offsets of all containers in the file. Each search begins after the last place of the one before. */
@@ -339,10 +368,10 @@ export function fileObject(reader, file) {
         file: text.path(file.name),
         size: file.bytes.length,
         format: file.format,
-        forks: [],
-        fragments: [],
+        forks: forkObjects(file),
+        fragments: file.fragments.map(fragmentObject),
         containers,
-        errors: [],
+        errors: file.errors.map((error) => errorObject(reader, error)),
         notes: skipped === 0 ? [] : [skippedObject(skipped)],
     };
 }
@@ -351,6 +380,48 @@ export function fileObject(reader, file) {
 export function costAt(bytes, place) {
     const sections = bytes[place + 32] * 256 + bytes[place + 33];
     return COST + CONTAINER_HEADER + SECTION_HEADER * sections;
+}
+
+/** Returns the forks of a file. One that is nothing but a data fork has none. */
+function forkObjects(file) {
+    const [data, resource] = file.forks;
+    const forks = [];
+    if (!file.isBare() && data.slice !== null) {
+        forks.push({ kind: "data", offset: data.offset, length: data.length });
+    }
+    if (resource.slice !== null) {
+        forks.push({ kind: "resource", offset: resource.offset, length: resource.length });
+    }
+    return forks;
+}
+
+function fragmentObject(it) {
+    return {
+        ...named(it.name),
+        offset: it.at,
+        size: it.size,
+        row: it.row,
+        at: it.place,
+        architecture: text.tag(it.architecture),
+        usage: it.usage,
+        where: it.where,
+        current: it.current,
+        current_text: text.version(it.current),
+        olddef: it.oldDef,
+        olddef_text: text.version(it.oldDef),
+        level: it.update,
+        stack: it.stack,
+        directory: it.directory,
+        place: it.offset,
+        length: it.length,
+        space: it.space,
+        instance: it.instance,
+        extensions: it.extensions,
+    };
+}
+
+function errorObject(reader, { number, part, row, offset }) {
+    return { number, name: reader.nameOf(number), part, row, field: null, offset };
 }
 
 function skippedObject(containers) {

@@ -104,9 +104,9 @@ export class Reader {
         return slice.length === 0 ? new Uint8Array(0) : new Uint8Array(this.memory.buffer, slice.address, slice.length);
     }
 
-    /** Returns what the file is, as a number. */
-    kind() {
-        return this.calls.page_kind(BigInt(this.file.address), BigInt(this.file.length));
+    /** Returns what some bytes are as a file, the whole file if there are no others, as a number. */
+    kind(slice = this.file) {
+        return this.calls.page_kind(BigInt(slice.address), BigInt(slice.length));
     }
 
     /**
