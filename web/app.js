@@ -216,9 +216,11 @@ function resourcesTable(file) {
 /** Saves what is known of the chosen file. */
 function saveJson() {
     const { file } = chosen;
-    save(`${file.name}.json`, `${text.json(fileObject(reader, file))}\n`);
+    const { object, isCut } = fileObject(reader, file);
+    save(`${file.name}.json`, `${text.json(object)}\n`);
     reader.open(file.bytes);
-    say(`The JSON of ${file.name} was made.`);
+    const missing = isCut ? " Of a container that has more errors or notes, those beyond the first 8,192 are missing." : "";
+    say(`The JSON of ${file.name} was made.${missing}`);
 }
 
 /** Takes files that are dropped anywhere on the page. */

@@ -1,7 +1,7 @@
 // What is known of a file: its parts, its containers with their tables, and all errors and notes.
 import { ALL, Slice } from "./module.js";
 import * as text from "./text.js";
-import { moreNotes } from "./extents.js";
+import { moreNotes, twiceNotes } from "./notes.js";
 
 const FORMATS = ["other", "container", "macbinary", "applesingle", "appledouble", "damaged", "resources"];
 
@@ -44,6 +44,9 @@ const BUDGET = 0x4000000;
 const COST = 0x10000;
 
 const FIRST_NOTE = 100;
+
+/** The note that the programs from one on weren't verified. */
+const PROGRAMS_UNVERIFIED = 110;
 
 /** A file, as far as it can be read at once. Its containers are read by `Container`. */
 export class File {
@@ -301,8 +304,17 @@ export class Container {
         const notes = this.reader.table("page_notes", [this.slice], 7);
         this.cut = errors.error !== 0 || notes.error !== 0;
         const found = [...errors.rows, ...notes.rows].map((row) => this.finding(row));
-        found.push(...moreNotes(this, this.reader.bytes(this.slice)));
+        found.push(...moreNotes(this, this.reader.bytes(this.slice)), ...twiceNotes(this, this.verified(found)));
         return found.sort((a, b) => a.rank - b.rank || a.row - b.row);
+    }
+
+    /** Returns how many relocation programs were verified, by what was found. */
+    verified(found) {
+        if (this.loader === null || this.relocations.length < this.loader.relocations) {
+            return 0;
+        }
+        const unverified = found.filter((it) => it.number === PROGRAMS_UNVERIFIED).map((it) => it.row);
+        return Math.min(this.relocations.length, ...unverified);
     }
 
     finding(row) {
@@ -321,12 +333,12 @@ export class Container {
         };
     }
 
-    /** Returns the first additions of a relocation header's program as a table, or null if it isn't all there. */
-    fixups(relocation, rows) {
+    /** Returns additions of a relocation header's program, from a number on, as a table, or null if it isn't all there. */
+    fixups(relocation, rows, from = 0) {
         if (relocation.slice === null) {
             return null;
         }
-        const table = this.reader.table("page_fixups", [relocation.slice], 3, 0, { ...ALL, rows });
+        const table = this.reader.table("page_fixups", [relocation.slice], 3, from, { ...ALL, rows });
         table.rows = table.rows.map(({ numbers: [offset, kind, number] }) => ({ offset, kind: kind === 1 ? "section" : "import", number }));
         return table;
     }
@@ -349,22 +361,25 @@ function entry(section, value) {
 
 // JSON, by docs/INSPECT.md.
 
-/** Returns what is known of a file in the form of `pef inspect --json`. */
+/** Returns what is known of a file in the form of `pef inspect --json`, and whether errors or notes are missing in it. */
 export function fileObject(reader, file) {
     reader.open(file.bytes);
     const containers = [];
     let budget = BUDGET + file.bytes.length;
     let skipped = 0;
+    let isCut = false;
     for (const place of file.places) {
         const cost = costAt(file.bytes, place);
         if (cost > budget) {
             skipped += 1;
         } else {
-            containers.push(containerObject(new Container(reader, place)));
+            const container = new Container(reader, place);
+            isCut = isCut || container.cut;
+            containers.push(containerObject(container));
         }
         budget = Math.max(budget - cost, 0);
     }
-    return {
+    const object = {
         file: text.path(file.name),
         size: file.bytes.length,
         format: file.format,
@@ -374,6 +389,7 @@ export function fileObject(reader, file) {
         errors: file.errors.map((error) => errorObject(reader, error)),
         notes: skipped === 0 ? [] : [skippedObject(skipped)],
     };
+    return { object, isCut };
 }
 
 /** Returns what the inspection of the container at a place takes from the budget of its file. */

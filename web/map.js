@@ -1,6 +1,6 @@
 // A map of a container: which bytes of the file are which part, with the errors marked.
 import { el, svg } from "./dom.js";
-import { isPadding, namesEnd, namesStart } from "./extents.js";
+import { isPadding, namesEnd, namesStart } from "./notes.js";
 import { DataTable } from "./table.js";
 import { at } from "./text.js";
 

@@ -1,5 +1,5 @@
-// The notes that compare the parts of a container: bytes that two of them share, and bytes that belong to none. The proved
-// module allocates nothing, so these are found here.
+// The notes that need memory: bytes that two parts of a container share, bytes that belong to none, and words that are
+// relocated twice. The proved module allocates nothing, so these are found here.
 
 /** Bytes between two parts that only align the second one are fewer than this, and all 0. */
 const ALIGNED = 16;
@@ -60,6 +60,54 @@ function extents(container, bytes) {
     });
     return found.sort((a, b) => a.from - b.from || a.to - b.to || (a.section ?? -1) - (b.section ?? -1));
 }
+
+/** How many words are compared, of all programs together, to find those that are relocated twice. */
+const MOST_WORDS = 0x100000;
+
+/** Returns the notes on the first word of each program that is relocated twice. `reached` says how many programs are verified. */
+export function twiceNotes(container, reached) {
+    const notes = [];
+    let left = MOST_WORDS;
+    for (let k = 0; k < reached; k += 1) {
+        const { count, twice } = searchWords(container, k, left);
+        if (count > left) {
+            const { offset } = container.relocations[k];
+            notes.push({ number: 110, name: "ProgramsUnverified", isError: false, part: "relocation", rank: 9, row: k, field: 0, offset });
+            return notes;
+        }
+        left -= count;
+        if (twice !== null) {
+            const offset = container.loader.offset + container.loader.programs + container.relocations[k].first;
+            notes.push({ number: 114, name: "WordRelocatedTwice", isError: false, part: "program", rank: 9, row: k, field: 0, offset, word: twice });
+        }
+    }
+    return notes;
+}
+
+/** Returns how many words a program relocates, up to one more than `most`, and the first one that it relocates twice. */
+function searchWords(container, k, most) {
+    const relocation = container.relocations[k];
+    const seen = new Set();
+    let count = 0;
+    let twice = null;
+    if (relocation.section >= Math.min(container.header.instantiated, container.sections.length)) {
+        return { count, twice };
+    }
+    for (;;) {
+        const table = container.fixups(relocation, WORDS, count);
+        for (const { offset } of table === null ? [] : table.rows) {
+            count += 1;
+            twice = twice === null && seen.has(offset) ? offset : twice;
+            seen.add(offset);
+        }
+        if (table === null || !table.more || count > most) {
+            return { count, twice };
+        }
+    }
+}
+
+/** How many words are read at once. */
+const WORDS = 2048;
 
 /** Returns where the section headers end, and the section name table may begin. */
 export function namesStart(container) {
