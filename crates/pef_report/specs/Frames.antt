@@ -23,11 +23,11 @@ counts_line c =
     codes "total containers " ++ decimal c.containers ++ codes " errors " ++ decimal c.errors
     ++ codes " notes " ++ decimal c.notes ++ codes "\n"
 
--- the beginning of a file's object. Its containers follow
+-- the beginning of a file's object. Its forks follow
 unfoldable pub file_object : List ℕ → ℕ → List ℕ → List ℕ
 file_object path size format =
     codes "{\"file\":\"" ++ path_text path ++ codes "\",\"size\":" ++ decimal size ++ codes ",\"format\":\"" ++ format
-    ++ codes "\",\"forks\":[],\"fragments\":[],\"containers\":["
+    ++ codes "\",\"forks\":["
 
 -- that of a file that wasn't read
 unfoldable pub unread_object : List ℕ → List ℕ

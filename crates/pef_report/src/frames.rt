@@ -103,7 +103,7 @@ pub fn print_counts<W: Sink>(
     )
 }
 
-/// Prints the beginning of a file's object of JSON. Its containers follow.
+/// Prints the beginning of a file's object of JSON. Its forks follow.
 #[tactic(auto, unfolding(crate::specs::Frames::file_object))]
 pub fn print_file_object<W: Sink>(
     out: &mut W,
@@ -124,7 +124,7 @@ pub fn print_file_object<W: Sink>(
             Token::Number(size),
             Token::Text(b",\"format\":\""),
             Token::Text(format),
-            Token::Text(b"\",\"forks\":[],\"fragments\":[],\"containers\":["),
+            Token::Text(b"\",\"forks\":["),
         ],
     )
 }
