@@ -1,0 +1,2 @@
+mod ContainerLemmas
+mod FragmentLemmas

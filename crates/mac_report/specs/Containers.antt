@@ -1,0 +1,127 @@
+-- What is printed of the containers of a file, in the order in which a search finds them. The budget, which keeps the
+-- work for a file linear in its length, is this project's own.
+use Rattle.std.specs.Prelude.{◌≡◌, ℕ, ◌+◌, ◌-◌, ◌*◌, ◌^◌, ◌==◌, Bool, true, false, List, [], ◌∷◌, ◌++◌, codes, decimal, drop, length, min, nat_lt, unwrap_or, if◌then◌else◌}
+use Rattle.pef_words.specs.Bytes.{number_at}
+use Rattle.pef_report.specs.Inspection as inspection
+use Rattle.pef_report.specs.Inspection.{Inspected, count_chosen, inspection_object, inspection_text}
+use Rattle.pef_report.specs.Tokens.{at_text}
+use Rattle.pef_report.specs.declared.frames.Counts.{Counts}
+use Rattle.mac_report.specs.declared.file.Form.{Form}
+use Rattle.mac_report.specs.declared.file.Form.TheVariants.{Text, Json}
+use Rattle.mac_report.specs.declared.tally.Tally.{Tally}
+
+-- what is known of a container: it was inspected. Or an allocation failed. Or the file's budget is used up
+pub data RowIs : Type 0 where
+  inspected : Inspected → RowIs
+  lacking : ℕ → RowIs
+  skipped : RowIs
+
+-- the bytes of a file from a place on
+abbrev pub rest_from : List ℕ → ℕ → List ℕ
+rest_from bytes at = drop (min at (length bytes)) bytes
+
+-- what the inspection of a container takes from the budget, by the bytes from its first on: 64 kilobytes, its header, and
+-- the headers of the sections that it says that it has
+unfoldable pub cost : List ℕ → ℕ
+cost rest = 2 ^ 16 + 40 + 28 * unwrap_or (number_at 2 rest 32) 0
+
+-- what is known of the container at a place, if so much of the budget is left
+abbrev pub IsInspected : List ℕ → ℕ → RowIs → Type 0
+IsInspected rest at (inspected i) = inspection.Inspects at rest i
+IsInspected rest at (lacking offset) = offset ≡ at
+IsInspected rest at skipped = ⊥
+
+abbrev pub IsRowIf : Bool → List ℕ → ℕ → RowIs → Type 0
+IsRowIf true rest at row = row ≡ skipped
+IsRowIf false rest at row = IsInspected rest at row
+
+abbrev pub IsRow : List ℕ → ℕ → ℕ → RowIs → Type 0
+IsRow bytes budget at row = IsRowIf (nat_lt budget (cost (rest_from bytes at))) (rest_from bytes at) at row
+
+-- the comma between two objects
+abbrev pub separator : Bool → List ℕ
+separator is_first = if is_first then [] else codes ","
+
+-- what is printed of a container that was inspected
+abbrev pub inspected_object : Bool → Inspected → List ℕ
+inspected_object is_first i = separator is_first ++ inspection_object i
+
+abbrev pub inspected_text : Form → Bool → Inspected → List ℕ
+inspected_text Text is_first i = inspection_text i
+inspected_text Json is_first i = inspected_object is_first i
+
+-- the error of a container whose inspection lacks memory
+unfoldable pub lacking_line : ℕ → List ℕ
+lacking_line at = codes "error 99 OutOfMemory container at " ++ at_text at ++ codes "\n"
+
+unfoldable pub lacking_object : ℕ → List ℕ
+lacking_object at =
+    codes "{\"offset\":" ++ decimal at
+    ++ codes ",\"header\":null,\"sections\":[],\"loader\":null,\"libraries\":[],\"imports\":[],\"relocations\":[],\"exports\":[],\"entries\":{\"main\":null,\"init\":null,\"term\":null},\"errors\":[{\"number\":99,\"name\":\"OutOfMemory\",\"part\":null,\"row\":null,\"field\":null,\"offset\":null}],\"notes\":[]}"
+
+abbrev pub lacking_text : Form → Bool → ℕ → List ℕ
+lacking_text Text is_first at = lacking_line at
+lacking_text Json is_first at = separator is_first ++ lacking_object at
+
+-- what is printed of a container
+abbrev pub row_text : Form → Bool → RowIs → List ℕ
+row_text form is_first (inspected i) = inspected_text form is_first i
+row_text form is_first (lacking at) = lacking_text form is_first at
+row_text form is_first skipped = []
+
+-- what is counted of a container: its errors and notes, and whether it wasn't inspected
+abbrev pub errors_in : RowIs → ℕ
+errors_in (inspected i) = count_chosen true i.findings
+errors_in (lacking at) = 1
+errors_in skipped = 0
+
+abbrev pub notes_in : RowIs → ℕ
+notes_in (inspected i) = count_chosen false i.findings
+notes_in (lacking at) = 0
+notes_in skipped = 0
+
+abbrev pub skipped_in : RowIs → ℕ
+skipped_in (inspected i) = 0
+skipped_in (lacking at) = 0
+skipped_in skipped = 1
+
+-- a sum, up to the greatest number of 64 bits
+abbrev pub up_to : ℕ → ℕ
+up_to n = min n (2 ^ 64 - 1)
+
+-- what is counted before the first container of a file: nothing, with a budget of 64 megabytes and the file's length
+abbrev pub fresh_tally : List ℕ → Tally
+fresh_tally bytes = record { budget = 2 ^ 26 + length bytes; containers = 0; errors = 0; notes = 0; skipped = 0 }
+
+-- what is counted after a container
+abbrev pub tallied : Tally → ℕ → RowIs → Tally
+tallied t n row = record {
+  budget = t.budget - n;
+  containers = up_to (t.containers + 1);
+  errors = up_to (t.errors + errors_in row);
+  notes = up_to (t.notes + notes_in row);
+  skipped = up_to (t.skipped + skipped_in row);
+}
+
+-- what one container adds to a text and to what is counted
+pub record Steps (form : Form) (bytes : List ℕ) (before : Tally) (at : ℕ) (text : List ℕ) (after : Tally) : Type 0 where
+  pub row : RowIs
+  pub is : IsRow bytes before.budget at row
+  pub printed : text ≡ row_text form (before.containers == 0) row
+  pub counted : after ≡ tallied before (cost (rest_from bytes at)) row
+
+-- what the containers at some places add
+abbrev pub Walks : Form → List ℕ → Tally → List ℕ → List ℕ → Tally → Type 0
+Walks form bytes before [] text after = (text ≡ []) × (after ≡ before)
+Walks form bytes before (at ∷ places) text after =
+    (here : List ℕ) × (between : Tally) × (others : List ℕ)
+    × Steps form bytes before at here between × Walks form bytes between places others after × (text ≡ here ++ others)
+
+-- the counts of a file with so many errors besides those of its containers. All containers that weren't inspected are one
+-- note
+abbrev pub total : Tally → ℕ → Counts
+total t errors = record {
+  containers = t.containers;
+  errors = up_to (t.errors + errors);
+  notes = up_to (t.notes + (if nat_lt 0 t.skipped then 1 else 0));
+}

@@ -1,0 +1,154 @@
+-- What is printed of the members of a table of fragments: for each its name, what it is for, where its container is in the
+-- file, and all other fields.
+use Rattle.std.specs.Prelude.{ℕ, ◌+◌, Bool, false, List, [], ◌∷◌, ◌++◌, Option, None, Some, Result, Ok, Err, codes, decimal, length}
+use Rattle.byteorder.specs.Endian.{big_bytes}
+use Rattle.cfm_members.specs.Members.{MemberIs, locator_of, usage_of}
+use Rattle.cfm_members.specs.declared.fault.MemberFault.{MemberFault}
+use Rattle.cfm_members.specs.declared.member.Locator.{Locator}
+use Rattle.cfm_members.specs.declared.member.Locator.TheVariants as locator
+use Rattle.cfm_members.specs.declared.member.Usage.{Usage}
+use Rattle.cfm_members.specs.declared.member.Usage.TheVariants as usage
+use Rattle.pef_ports.specs.Names.{name_text}
+use Rattle.pef_ports.specs.Text.{word_text}
+use Rattle.pef_report.specs.Tokens.{at_text, member_text, tag_text}
+use Rattle.pef_report.specs.Versions.{version_text}
+use Rattle.mac_report.specs.Containers.{separator, up_to}
+use Rattle.mac_report.specs.Founds.{number_or_null}
+use Rattle.mac_report.specs.MacParts.{PlaceIs, SceneIs, elsewhere, lying, missing, place_of}
+use Rattle.mac_report.specs.declared.file.Form.{Form}
+use Rattle.mac_report.specs.declared.file.Form.TheVariants.{Text, Json}
+
+-- a member, where it is in the file, and the offset in the file and the length of its container
+pub record FragmentIs : Type 0 where
+  pub at : ℕ
+  pub offset : Option ℕ
+  pub size : ℕ
+  pub member : MemberIs
+
+-- the offset and the length of a container, if they are known
+abbrev pub extent_of : PlaceIs → Option ℕ × ℕ
+extent_of elsewhere = (None, 0)
+extent_of (missing found) = (None, 0)
+extent_of (lying at bytes) = (Some at, length bytes)
+
+abbrev pub fragment_of : SceneIs → MemberIs → FragmentIs
+fragment_of s m = record {
+  at = up_to (s.table_base + m.offset);
+  offset = (extent_of (place_of s m)).0;
+  size = (extent_of (place_of s m)).1;
+  member = m;
+}
+
+-- a name, or `?` for one that can't be read
+abbrev pub name_or_mark : Result (List ℕ) MemberFault → List ℕ
+name_or_mark (Ok name) = name_text name
+name_or_mark (Err fault) = codes "?"
+
+abbrev pub name_of : Result (List ℕ) MemberFault → Option (List ℕ)
+name_of (Ok name) = Some name
+name_of (Err fault) = None
+
+-- an offset in the file, or `-`
+abbrev pub at_or_dash : Option ℕ → List ℕ
+at_or_dash None = codes "-"
+at_or_dash (Some at) = at_text at
+
+-- the word for what a member is for, after a space
+abbrev pub usage_word : Usage → List ℕ
+usage_word usage.ImportLibrary = codes " library"
+usage_word usage.Application = codes " application"
+usage_word usage.DropInAddition = codes " addition"
+usage_word usage.StubLibrary = codes " stub"
+usage_word usage.WeakStubLibrary = codes " weak-stub"
+usage_word (usage.Other code) = codes " ?"
+
+-- the word for where its container is, after a space
+abbrev pub where_word : Locator → List ℕ
+where_word locator.Memory = codes " memory"
+where_word (locator.DataFork offset len) = codes " data"
+where_word (locator.Resource type id) = codes " resource"
+where_word (locator.Other code) = codes " ?"
+
+-- the line of a member: where it is, its number and its name
+unfoldable pub fragment_name : FragmentIs → List ℕ
+fragment_name f = at_text f.at ++ codes " fragment " ++ decimal f.member.member ++ codes " " ++ name_or_mark f.member.name
+
+-- .. its architecture
+unfoldable pub architecture_text : ℕ → List ℕ
+architecture_text n = codes " architecture " ++ name_text (big_bytes 4 n)
+
+-- .. what it is for, and where its container is
+unfoldable pub fragment_use : FragmentIs → List ℕ
+fragment_use f =
+    codes " usage "
+    ++ decimal f.member.header.usage_code ++ usage_word (usage_of f.member.header.usage_code) ++ codes " where "
+    ++ decimal f.member.header.where_code ++ where_word (locator_of f.member.header) ++ codes " container "
+    ++ at_or_dash f.offset ++ codes " size " ++ decimal f.size
+
+-- .. and its other fields
+unfoldable pub fragment_numbers : FragmentIs → List ℕ
+fragment_numbers f =
+    codes " versions " ++ version_text f.member.header.current_version ++ codes " "
+    ++ version_text f.member.header.old_def_version ++ codes " current " ++ decimal f.member.header.current_version
+    ++ codes " olddef " ++ decimal f.member.header.old_def_version ++ codes " level " ++ decimal f.member.header.update_level
+    ++ codes " stack " ++ decimal f.member.header.stack_size ++ codes " directory "
+    ++ decimal f.member.header.directory_or_flags ++ codes " place " ++ word_text f.member.header.offset
+    ++ codes " length " ++ decimal f.member.header.length ++ codes " space " ++ decimal f.member.header.space_id
+    ++ codes " instance " ++ decimal f.member.header.fork_instance ++ codes " extensions "
+    ++ decimal f.member.header.extension_count ++ codes "\n"
+
+abbrev pub fragment_line : FragmentIs → List ℕ
+fragment_line f =
+    fragment_name f ++ (architecture_text f.member.header.architecture ++ (fragment_use f ++ fragment_numbers f))
+
+-- the object of a member: its name, and where its container and the member are
+unfoldable pub fragment_place : FragmentIs → List ℕ
+fragment_place f =
+    codes "{" ++ member_text (codes "name") (name_of f.member.name) ++ codes ",\"offset\":" ++ number_or_null f.offset
+    ++ codes ",\"size\":" ++ decimal f.size ++ codes ",\"row\":" ++ decimal f.member.member ++ codes ",\"at\":"
+    ++ decimal f.at ++ codes ",\"architecture\":\"" ++ tag_text f.member.header.architecture ++ codes "\",\"usage\":"
+    ++ decimal f.member.header.usage_code ++ codes ",\"where\":" ++ decimal f.member.header.where_code
+
+-- .. its versions
+unfoldable pub fragment_versions : FragmentIs → List ℕ
+fragment_versions f =
+    codes ",\"current\":" ++ decimal f.member.header.current_version ++ codes ",\"current_text\":\""
+    ++ version_text f.member.header.current_version ++ codes "\",\"olddef\":" ++ decimal f.member.header.old_def_version
+    ++ codes ",\"olddef_text\":\"" ++ version_text f.member.header.old_def_version
+
+-- .. and its other fields
+unfoldable pub fragment_fields : FragmentIs → List ℕ
+fragment_fields f =
+    codes "\",\"level\":" ++ decimal f.member.header.update_level ++ codes ",\"stack\":"
+    ++ decimal f.member.header.stack_size ++ codes ",\"directory\":" ++ decimal f.member.header.directory_or_flags
+    ++ codes ",\"place\":" ++ decimal f.member.header.offset ++ codes ",\"length\":" ++ decimal f.member.header.length
+    ++ codes ",\"space\":" ++ decimal f.member.header.space_id ++ codes ",\"instance\":"
+    ++ decimal f.member.header.fork_instance ++ codes ",\"extensions\":" ++ decimal f.member.header.extension_count
+    ++ codes "}"
+
+abbrev pub fragment_json : FragmentIs → List ℕ
+fragment_json f = fragment_place f ++ (fragment_versions f ++ fragment_fields f)
+
+-- what is printed of a member
+abbrev pub fragment_text : Form → Bool → FragmentIs → List ℕ
+fragment_text Text is_first f = fragment_line f
+fragment_text Json is_first f = separator is_first ++ fragment_json f
+
+-- the member of a row; none if its fields can't be read, which is an error
+abbrev pub fragment_in : SceneIs → Result MemberIs MemberFault → Option FragmentIs
+fragment_in s (Ok m) = Some (fragment_of s m)
+fragment_in s (Err fault) = None
+
+abbrev pub maybe_fragment : Form → Bool → Option FragmentIs → List ℕ
+maybe_fragment form is_first None = []
+maybe_fragment form is_first (Some f) = fragment_text form is_first f
+
+abbrev pub stays_first : Bool → Option FragmentIs → Bool
+stays_first is_first None = is_first
+stays_first is_first (Some f) = false
+
+-- what is printed of all members
+abbrev pub fragments_text : Form → Bool → SceneIs → List (Result MemberIs MemberFault) → List ℕ
+fragments_text form is_first s [] = []
+fragments_text form is_first s (row ∷ rows) =
+    maybe_fragment form is_first (fragment_in s row) ++ fragments_text form (stays_first is_first (fragment_in s row)) s rows

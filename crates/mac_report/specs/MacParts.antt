@@ -1,0 +1,112 @@
+-- What a file of the classic Mac OS has: its forks, its resource fork, its table of fragments, and where their containers
+-- are in the file.
+use Rattle.std.specs.Prelude.{ℕ, ◌+◌, ◌%◌, ◌^◌, ◌==◌, pos, List, Option, None, Some, Result, Ok, Err, length, if◌then◌else◌}
+use Rattle.std.specs.Int.{cast_signed, w16}
+use Rattle.pef_words.specs.Refusals.{◌>>=◌}
+use Rattle.mac_forks.specs.MacFile.{MacFileIs, apple, bare, data_fork_in, fault_in, mac_binary, mac_file_of}
+use Rattle.mac_forks.specs.Parts.{Lying}
+use Rattle.mac_forks.specs.declared.fault.ForkFault.{ForkFault}
+use Rattle.mac_resources.specs.Fork.{ForkIs, fork_of}
+use Rattle.mac_resources.specs.Resources.{ResourceIs, resource_with}
+use Rattle.mac_resources.specs.declared.fault.ResourceFault.{ResourceFault}
+use Rattle.cfm_members.specs.Fragments.{resource_fork_of}
+use Rattle.cfm_members.specs.Members.{MemberIs, TableIs, container_in, locator_of, table_of}
+use Rattle.cfm_members.specs.declared.fault.MemberFault.{MemberFault}
+use Rattle.cfm_members.specs.declared.fragment_fault.FragmentFault.TheVariants.{Member, NoContainer}
+use Rattle.cfm_members.specs.declared.member.Locator.{Locator}
+use Rattle.cfm_members.specs.declared.member.Locator.TheVariants as locator
+use Rattle.mac_report.specs.Containers.{up_to}
+use Rattle.mac_report.specs.declared.scene.Found.{Found}
+
+-- the error of a file's header, and its forks, each with the error of its entry
+pub record WrappingIs : Type 0 where
+  pub fault : Option ForkFault
+  pub data_fork : Option (Result Lying ForkFault)
+  pub resource_fork : Option (Result Lying ForkFault)
+
+-- the data fork, unless the file is nothing else
+abbrev pub wrapped_data : MacFileIs → Option (Result Lying ForkFault)
+wrapped_data (bare bytes) = None
+wrapped_data (mac_binary m) = data_fork_in (mac_binary m)
+wrapped_data (apple a) = data_fork_in (apple a)
+
+abbrev pub wrapping_in : List ℕ → Result MacFileIs ForkFault → WrappingIs
+wrapping_in bytes (Ok file) = record { fault = fault_in file; data_fork = wrapped_data file; resource_fork = resource_fork_of bytes file }
+wrapping_in bytes (Err fault) = record { fault = Some fault; data_fork = None; resource_fork = None }
+
+-- what a file is wrapped in
+unfoldable pub wrapping_of : List ℕ → WrappingIs
+wrapping_of bytes = wrapping_in bytes (mac_file_of bytes)
+
+-- a fork without its error
+abbrev pub readable : Option (Result Lying ForkFault) → Option Lying
+readable None = None
+readable (Some (Ok part)) = Some part
+readable (Some (Err fault)) = None
+
+-- a resource fork. One without bytes has no resources, and no error
+abbrev pub resources_in : Lying → Option (Result ForkIs ResourceFault)
+resources_in part = if length part.bytes == 0 then None else Some (fork_of part.bytes)
+
+-- the table of fragments of a file, with the parts of the file that its members are looked up in. The resource fork and the
+-- table are at offsets of the file
+pub record SceneIs : Type 0 where
+  pub data_fork : Option Lying
+  pub fork_base : ℕ
+  pub fork : ForkIs
+  pub table_base : ℕ
+  pub table : TableIs
+
+-- the bytes of a resource, without their error
+abbrev pub whole : Result Lying ResourceFault → Option Lying
+whole (Ok part) = Some part
+whole (Err fault) = None
+
+-- the bytes of the resource `cfrg` 0
+abbrev pub table_part : ForkIs → Option Lying
+table_part fork = resource_with fork 0x6366_7267 (pos 0) >>= (λ r. whole r.contents)
+
+abbrev pub scene_with : Option Lying → ℕ → ForkIs → ℕ → Result TableIs MemberFault → Result SceneIs Found
+scene_with data_fork base fork table_base (Ok table) =
+    Ok (record { data_fork = data_fork; fork_base = base; fork = fork; table_base = table_base; table = table })
+scene_with data_fork base fork table_base (Err fault) = Err (record { fault = Member fault; base = table_base })
+
+-- the table of fragments, or its error; none if there is no resource `cfrg` 0
+abbrev pub scene_of : Option Lying → ℕ → ForkIs → Option (Result SceneIs Found)
+scene_of data_fork base fork =
+    table_part fork >>= (λ part. Some (scene_with data_fork base fork (up_to (base + part.offset)) (table_of part.bytes)))
+
+-- where the container of a member is: it isn't said, or not in this file. Or it isn't there, which is an error. Or it is at
+-- an offset of the file, with these bytes
+pub data PlaceIs : Type 0 where
+  elsewhere : PlaceIs
+  missing : Found → PlaceIs
+  lying : ℕ → List ℕ → PlaceIs
+
+-- .. in the data fork. Without one, the data fork is another file
+abbrev pub place_in_data : SceneIs → ℕ → Option (Result Lying MemberFault) → PlaceIs
+place_in_data s offset None = elsewhere
+place_in_data s offset (Some (Ok part)) = lying (up_to (offset + part.offset)) part.bytes
+place_in_data s offset (Some (Err fault)) = missing (record { fault = Member fault; base = s.table_base })
+
+abbrev pub data_place : SceneIs → MemberIs → Option Lying → PlaceIs
+data_place s m None = elsewhere
+data_place s m (Some fork) = place_in_data s fork.offset (container_in m fork.bytes)
+
+-- .. in a resource. The error of its bytes is that of the resource
+abbrev pub resource_bytes : SceneIs → Result Lying ResourceFault → PlaceIs
+resource_bytes s (Ok part) = lying (up_to (s.fork_base + part.offset)) part.bytes
+resource_bytes s (Err fault) = elsewhere
+
+abbrev pub resource_place : SceneIs → MemberIs → Option ResourceIs → PlaceIs
+resource_place s m None = missing (record { fault = NoContainer; base = up_to (s.table_base + m.offset) })
+resource_place s m (Some r) = resource_bytes s r.contents
+
+abbrev pub place_by : SceneIs → MemberIs → Locator → PlaceIs
+place_by s m locator.Memory = elsewhere
+place_by s m (locator.DataFork offset len) = data_place s m s.data_fork
+place_by s m (locator.Resource type id) = resource_place s m (resource_with s.fork type (cast_signed w16 (id % 2 ^ 16)))
+place_by s m (locator.Other code) = elsewhere
+
+abbrev pub place_of : SceneIs → MemberIs → PlaceIs
+place_of s m = place_by s m (locator_of m.header)

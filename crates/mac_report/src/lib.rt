@@ -1,0 +1,18 @@
+//! What is printed of a file: what it is, its forks, its fragments, and all containers in it, each with all errors. It is
+//! lines of text, or an object of JSON.
+#![tactic(auto)]
+
+mod containers;
+mod faults;
+mod file;
+mod forks;
+mod found;
+mod fragments;
+mod row;
+mod scene;
+mod tally;
+mod unread;
+mod wrapping;
+
+pub use file::{FileReport, Form};
+pub use unread::UnreadFile;

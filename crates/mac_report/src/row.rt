@@ -1,0 +1,238 @@
+//! What is known of one of the containers in a file.
+ghost use Rattle.std.specs.Prelude.{◌≡◌, ◌<◌, ◌^◌, ◌++◌, nat_lt};
+ghost use Rattle.pef_ports.specs.Sent.{Sends};
+ghost use Rattle.pef_report.specs.Views.{inspected};
+ghost use Rattle.mac_report.specs.Containers.{IsInspected, IsRow, cost, errors_in, inspected_object, inspected_text, lacking_line, lacking_object, lacking_text, notes_in, rest_from, row_text, separator, skipped_in};
+ghost use Rattle.mac_report.specs.Views.{row_seen};
+
+use crate::file::Form;
+use pef_ports::{Page, Sink, StreamFault, send};
+use pef_report::{Inspection, Token, print_tokens};
+use pef_words::Cut;
+use std::alloc::{AllocError, Global};
+
+/// What an inspection takes from the budget of its file, besides the bytes of the container's headers.
+const INSPECTION_COST: u64 = 0x1_0000;
+
+/// The lengths of a container's header and of a section's header, and where the first has the number of sections.
+const CONTAINER_HEADER_SIZE: u64 = 40;
+
+const SECTION_HEADER_SIZE: u64 = 28;
+
+const SECTION_COUNT_AT: usize = 32;
+
+/// The rest of the object of a container whose inspection lacks memory.
+const LACKING_REST: &[u8] =
+    b",\"header\":null,\"sections\":[],\"loader\":null,\"libraries\":[],\"imports\":[],\"relocations\":[],\"exports\":[],\"entries\":{\"main\":null,\"init\":null,\"term\":null},\"errors\":[{\"number\":99,\"name\":\"OutOfMemory\",\"part\":null,\"row\":null,\"field\":null,\"offset\":null}],\"notes\":[]}";
+
+/// What is known of a container.
+#[derive(Drop)]
+pub(crate) enum Row<'a> {
+    Inspected(Inspection<'a>),
+    /// An allocation failed. The container begins at this offset of the file.
+    Lacking(u64),
+    /// The containers before it and its own headers are more than the budget of the file.
+    Skipped,
+}
+
+/// Inspects the container at a place of a file, within what is left of the file's budget.
+pub(crate) fn read_row<'a>(alloc: Global, bytes: &'a [u8], place: usize, budget: u64) -> Row<'a>
+    ensures { IsRow bytes.entry.now budget place (row_seen result) }
+{
+    let rest = rest_from(bytes, place);
+    if exceeds(cost(rest), budget) {
+        Row::Skipped
+    } else {
+        inspect(alloc, rest, place as u64)
+    }
+}
+
+/// Returns whether a cost is more than what is left of the budget.
+fn exceeds(cost: u64, budget: u64) -> bool
+    ensures { result ≡ nat_lt budget cost }
+{
+    cost > budget
+}
+
+/// Inspects the container that begins some bytes, which are at an offset of the file.
+fn inspect<'a>(alloc: Global, rest: &'a [u8], at: u64) -> Row<'a>
+    ensures { IsInspected rest.entry.now at (row_seen result) }
+{
+    match Inspection::read(alloc, at, rest) {
+        Ok(inspection) => Row::Inspected(inspection),
+        Err(AllocError) => Row::Lacking(at),
+    }
+}
+
+/// Returns the bytes from a place on.
+pub(crate) fn rest_from<'a>(bytes: &'a [u8], place: usize) -> &'a [u8]
+    ensures { result.now ≡ rest_from bytes.entry.now place }
+{
+    let (_, rest) = bytes.split_at(place.min(bytes.len()));
+    rest
+}
+
+/// Returns what the inspection of the container that begins some bytes takes from the budget.
+#[tactic(auto, unfolding(crate::specs::Containers::cost))]
+pub(crate) fn cost(rest: &[u8]) -> u64
+    ensures value { result ≡ cost rest.now }
+    ensures small { result < 2 ^ 32 }
+{
+    let sections = Cut::new(rest).u16_at(SECTION_COUNT_AT).unwrap_or(0);
+    INSPECTION_COST + CONTAINER_HEADER_SIZE + SECTION_HEADER_SIZE * u64::from(sections)
+}
+
+impl<'a> Row<'a> {
+    /// Prints the container. In JSON a comma comes before it, unless it is the first one.
+    pub(crate) fn print<W: Sink>(
+        &self,
+        out: &mut W,
+        page: &mut Page,
+        form: Form,
+        is_first: bool,
+    ) -> Result<(), StreamFault>
+        ensures { Sends result (W.stream out.old) (W.stream out.new) page.old.items page.new.items (row_text form is_first (row_seen self.now)) }
+    {
+        match self {
+            Row::Inspected(inspection) => print_inspected(out, page, form, is_first, inspection),
+            Row::Lacking(at) => print_lacking(out, page, form, is_first, *at),
+            Row::Skipped => print_tokens(out, page, &[]),
+        }
+    }
+
+    /// Returns the number of the container's errors.
+    pub(crate) fn error_count(&self) -> u64
+        ensures { result ≡ errors_in (row_seen self.now) }
+    {
+        match self {
+            Row::Inspected(inspection) => inspection.error_count(),
+            Row::Lacking(_) => 1,
+            Row::Skipped => 0,
+        }
+    }
+
+    /// Returns the number of the notes on the container.
+    pub(crate) fn note_count(&self) -> u64
+        ensures { result ≡ notes_in (row_seen self.now) }
+    {
+        match self {
+            Row::Inspected(inspection) => inspection.note_count(),
+            Row::Lacking(_) | Row::Skipped => 0,
+        }
+    }
+
+    /// Returns 1 if the container wasn't inspected, for want of a budget.
+    pub(crate) fn skipped_count(&self) -> u64
+        ensures { result ≡ skipped_in (row_seen self.now) }
+    {
+        match self {
+            Row::Inspected(_) | Row::Lacking(_) => 0,
+            Row::Skipped => 1,
+        }
+    }
+}
+
+/// Prints a container that was inspected.
+fn print_inspected<W: Sink>(
+    out: &mut W,
+    page: &mut Page,
+    form: Form,
+    is_first: bool,
+    inspection: &Inspection<'_>,
+) -> Result<(), StreamFault>
+    ensures { Sends result (W.stream out.old) (W.stream out.new) page.old.items page.new.items (inspected_text form is_first (inspected inspection.now)) }
+{
+    match form {
+        Form::Text => inspection.print(out, page),
+        Form::Json => print_inspected_object(out, page, is_first, inspection),
+    }
+}
+
+/// Prints the object of a container that was inspected.
+fn print_inspected_object<W: Sink>(
+    out: &mut W,
+    page: &mut Page,
+    is_first: bool,
+    inspection: &Inspection<'_>,
+) -> Result<(), StreamFault>
+    ensures { Sends result (W.stream out.old) (W.stream out.new) page.old.items page.new.items (inspected_object is_first (inspected inspection.now)) }
+{
+    print_separator(out, page, is_first)?;
+    inspection.print_object(out, page)
+}
+
+/// Prints the error of a container whose inspection lacks memory.
+fn print_lacking<W: Sink>(
+    out: &mut W,
+    page: &mut Page,
+    form: Form,
+    is_first: bool,
+    at: u64,
+) -> Result<(), StreamFault>
+    ensures { Sends result (W.stream out.old) (W.stream out.new) page.old.items page.new.items (lacking_text form is_first at) }
+{
+    match form {
+        Form::Text => print_lacking_line(out, page, at),
+        Form::Json => print_lacking_object(out, page, is_first, at),
+    }
+}
+
+/// Prints this error as a line.
+#[tactic(auto, unfolding(crate::specs::Containers::lacking_line))]
+fn print_lacking_line<W: Sink>(out: &mut W, page: &mut Page, at: u64) -> Result<(), StreamFault>
+    ensures { Sends result (W.stream out.old) (W.stream out.new) page.old.items page.new.items (lacking_line at) }
+{
+    print_tokens(
+        out,
+        page,
+        &[
+            Token::Text(b"error 99 OutOfMemory container at "),
+            Token::At(at),
+            Token::Text(b"\n"),
+        ],
+    )
+}
+
+/// Prints the object of a container whose only row is this error.
+fn print_lacking_object<W: Sink>(
+    out: &mut W,
+    page: &mut Page,
+    is_first: bool,
+    at: u64,
+) -> Result<(), StreamFault>
+    ensures { Sends result (W.stream out.old) (W.stream out.new) page.old.items page.new.items (separator is_first ++ lacking_object at) }
+{
+    print_separator(out, page, is_first)?;
+    print_lacking_fields(out, page, at)
+}
+
+/// Prints this object.
+#[tactic(auto, unfolding(crate::specs::Containers::lacking_object))]
+fn print_lacking_fields<W: Sink>(out: &mut W, page: &mut Page, at: u64) -> Result<(), StreamFault>
+    ensures { Sends result (W.stream out.old) (W.stream out.new) page.old.items page.new.items (lacking_object at) }
+{
+    print_tokens(
+        out,
+        page,
+        &[
+            Token::Text(b"{\"offset\":"),
+            Token::Number(at),
+            Token::Text(LACKING_REST),
+        ],
+    )
+}
+
+/// Prints the comma between two objects, unless the next one is the first.
+pub(crate) fn print_separator<W: Sink>(
+    out: &mut W,
+    page: &mut Page,
+    is_first: bool,
+) -> Result<(), StreamFault>
+    ensures { Sends result (W.stream out.old) (W.stream out.new) page.old.items page.new.items (separator is_first) }
+{
+    if is_first {
+        send(out, page, b"")
+    } else {
+        send(out, page, b",")
+    }
+}

@@ -1,0 +1,85 @@
+//! What a file is wrapped in, and its forks.
+ghost use Rattle.std.specs.Prelude.{◌≡◌};
+ghost use Rattle.std.specs.Prelude.{option_map};
+ghost use Rattle.pef_words.specs.Refusals.{result_map};
+ghost use Rattle.mac_forks.specs.Views.{mac_file_seen, part_seen};
+ghost use Rattle.mac_resources.specs.Views.{fork_seen};
+ghost use Rattle.mac_report.specs.MacParts.{readable, resources_in, wrapped_data, wrapping_of};
+ghost use Rattle.mac_report.specs.Views.{wrapping_seen};
+
+use crate::forks::ForkPair;
+use cfm_members::Forks;
+use mac_forks::{ForkFault, MacFile, Part};
+use mac_resources::{ResourceFault, ResourceFork};
+
+/// What a file is wrapped in: the error of its header, and its forks, each with the error of its entry.
+#[derive(Clone, Copy)]
+pub(crate) struct Wrapping<'a> {
+    pub fault: Option<ForkFault>,
+    pub data_fork: Option<Result<Part<'a>, ForkFault>>,
+    pub resource_fork: Option<Result<Part<'a>, ForkFault>>,
+}
+
+impl<'a> Wrapping<'a> {
+    /// Returns what a file is wrapped in. A file that is nothing but a data fork has no fork here.
+    #[tactic(auto, unfolding(crate::specs::MacParts::wrapping_of))]
+    pub(crate) fn of(bytes: &'a [u8]) -> Wrapping<'a>
+        ensures { wrapping_seen result ≡ wrapping_of bytes.entry.now }
+    {
+        match MacFile::read(bytes) {
+            Ok(file) => Wrapping {
+                fault: file.fault(),
+                data_fork: wrapped_data(&file),
+                resource_fork: Forks::of(bytes, &file).resource_fork,
+            },
+            Err(fault) => Wrapping {
+                fault: Some(fault),
+                data_fork: None,
+                resource_fork: None,
+            },
+        }
+    }
+}
+
+impl<'a> Wrapping<'a> {
+    /// Returns the forks without their errors.
+    pub(crate) fn forks(self) -> ForkPair<'a>
+        ensures data_fork { option_map part_seen result.data_fork ≡ readable (wrapping_seen self.entry).data_fork }
+        ensures resource_fork { option_map part_seen result.resource_fork ≡ readable (wrapping_seen self.entry).resource_fork }
+    {
+        ForkPair {
+            data_fork: readable(self.data_fork),
+            resource_fork: readable(self.resource_fork),
+        }
+    }
+}
+
+/// Returns the data fork of a file, unless the file is nothing else.
+fn wrapped_data<'a>(file: &MacFile<'a>) -> Option<Result<Part<'a>, ForkFault>>
+    ensures { option_map (result_map part_seen) result ≡ wrapped_data (mac_file_seen file.now) }
+{
+    match file {
+        MacFile::Bare(_) => None,
+        MacFile::MacBinary(_) | MacFile::Apple(_) => file.data_fork(),
+    }
+}
+
+/// Returns a fork without its error.
+pub(crate) fn readable<'a>(fork: Option<Result<Part<'a>, ForkFault>>) -> Option<Part<'a>>
+    ensures { option_map part_seen result ≡ readable (option_map (result_map part_seen) fork.entry) }
+{
+    match fork {
+        Some(Ok(part)) => Some(part),
+        Some(Err(_)) | None => None,
+    }
+}
+
+/// Reads a resource fork. One without bytes has no resources, and no error.
+pub(crate) fn resources_in<'a>(part: Part<'a>) -> Option<Result<ResourceFork<'a>, ResourceFault>>
+    ensures { option_map (result_map fork_seen) result ≡ resources_in (part_seen part.entry) }
+{
+    if part.bytes.is_empty() {
+        return None;
+    }
+    Some(ResourceFork::read(part.bytes))
+}
