@@ -8,8 +8,10 @@ mod EndLemmas
 mod ExplainLemmas
 mod ExtentLemmas
 mod ExtractLemmas
+mod InspectLemmas
 mod LoadLemmas
 mod LoadedLemmas
+mod PathLemmas
 mod RequestProofs
 mod RoomLemmas
 mod ShowLemmas

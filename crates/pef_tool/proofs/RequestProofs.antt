@@ -1,5 +1,6 @@
 pub mod CommandLemmas
 pub mod FileLemmas
+mod InspectLemmas
 pub mod LineLemmas
 pub mod LoadLemmas
 pub mod NameLemmas

@@ -1,3 +1,4 @@
+pub mod Inspecting
 -- Definitions for private contracts and proofs. Public contracts don't use them.
 pub mod Linking
 pub mod Judged

@@ -1,6 +1,7 @@
 pub mod Distances
 pub mod Extents
 pub mod Extract
+pub mod Inspect
 pub mod Kept
 pub mod Link
 pub mod List

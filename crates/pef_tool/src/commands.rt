@@ -11,6 +11,7 @@ use crate::answers::{Outcome, Usage, deliver};
 use crate::check::check_files;
 use crate::distances::print_distances;
 use crate::extract::{Extraction, extract_file};
+use crate::inspect::{Inspected, inspect_files, inspect_listed};
 use crate::link::link_files;
 use crate::list::list_file;
 use crate::load::load_files;
@@ -106,5 +107,16 @@ fn run_request<F: Files, R: Source, W: Sink>(
             },
             out,
         ),
+        Request::Inspect { json, files: paths } => inspect_files(
+            alloc,
+            files,
+            input,
+            Inspected {
+                json,
+                paths: paths.as_slice(),
+            },
+            out,
+        ),
+        Request::InspectListed { json } => inspect_listed(alloc, files, input, json, out),
     }
 }

@@ -13,6 +13,7 @@ mod explanation;
 mod extent;
 mod extract;
 mod fragment;
+mod inspect;
 mod link;
 mod linking;
 mod list;

@@ -6,6 +6,7 @@ use Rattle.clap.proofs.OnLiterals.{clap_on_literals}
 use Rattle.clap.specs.Walk.{Text}
 use Rattle.pef_tool.specs.Request.CommandLine.{asked_by, asks_version, pef, request_by}
 use Rattle.pef_tool.specs.Request.Plain.{ArePlain, plain_check, plain_distances, plain_extract, plain_link, plain_list, plain_show, plain_words}
+use Rattle.pef_tool.proofs.RequestProofs.InspectLemmas.{inspect_operands}
 use Rattle.pef_tool.proofs.RequestProofs.LoadLemmas.{load_operands}
 use Rattle.pef_tool.proofs.RequestProofs.NameLemmas.{IsNoFlag, at_end, command_named, is_or_not, named, no_flag}
 
@@ -106,9 +107,9 @@ program_asked : (program : Text) → asked_by (program ∷ []) ≡ None
 unfolding asked_by pef clap_on_literals
 program_asked program = refl
 
-unknown_asked : (program name : Text) (words : List Text) → bytes_eq (codes "show") name ≡ false → bytes_eq (codes "link") name ≡ false → bytes_eq (codes "list") name ≡ false → bytes_eq (codes "check") name ≡ false → bytes_eq (codes "load") name ≡ false → bytes_eq (codes "distances") name ≡ false → bytes_eq (codes "extract") name ≡ false → IsNoFlag name → asked_by (program ∷ name ∷ words) ≡ None
+unknown_asked : (program name : Text) (words : List Text) → bytes_eq (codes "show") name ≡ false → bytes_eq (codes "link") name ≡ false → bytes_eq (codes "list") name ≡ false → bytes_eq (codes "check") name ≡ false → bytes_eq (codes "load") name ≡ false → bytes_eq (codes "distances") name ≡ false → bytes_eq (codes "extract") name ≡ false → bytes_eq (codes "inspect") name ≡ false → IsNoFlag name → asked_by (program ∷ name ∷ words) ≡ None
 unfolding asked_by pef clap_on_literals
-unknown_asked program name words a b c d e f g free = rw (a, b, c, d, e, f, g, free.dashes, free.long, free.short) refl
+unknown_asked program name words a b c d e f g h free = rw (a, b, c, d, e, f, g, h, free.dashes, free.long, free.short) refl
 
 -- words of a command that don't begin with `-` make the request that they spell
 asked_plain : (words : List Text) → ArePlain (drop 1 words) → asked_by words ≡ plain_words words
@@ -129,7 +130,10 @@ asked_plain (program ∷ name ∷ words) plain = elim (is_or_not (bytes_eq (code
             | inl f ↦ rw (a, b, c, d, e, f) (command_named program name (codes "distances") words (rw (a, b, c, d, e, f) refl) refl ∙ distances_operands words plain.1)
             | inr f ↦ elim (is_or_not (bytes_eq (codes "extract") name)) [
               | inl g ↦ rw (a, b, c, d, e, f, g) (command_named program name (codes "extract") words (rw (a, b, c, d, e, f, g) refl) refl ∙ extract_operands words plain.1)
-              | inr g ↦ rw (a, b, c, d, e, f, g) (unknown_asked program name words a b c d e f g (no_flag name plain.0))
+              | inr g ↦ elim (is_or_not (bytes_eq (codes "inspect") name)) [
+                | inl h ↦ rw (a, b, c, d, e, f, g, h) (command_named program name (codes "inspect") words (rw (a, b, c, d, e, f, g, h) refl) refl ∙ inspect_operands words plain.1)
+                | inr h ↦ rw (a, b, c, d, e, f, g, h) (unknown_asked program name words a b c d e f g h (no_flag name plain.0))
+              ]
             ]
           ]
         ]

@@ -2,9 +2,10 @@
 use Rattle.std.specs.Prelude.{ℕ, Bool, true, false, List, [], ◌∷◌, Option, None, Some, codes, if◌then◌else◌, option_and_then, option_map}
 use Rattle.std.specs.Str.{bytes_eq}
 use Rattle.clap.specs.Walk.{Row, Rule, Text, all_of, first_of}
+use Rattle.clap.specs.declared.builder.action.ArgAction.TheVariants.{SetTrue}
 use Rattle.clap.specs.Words.{App, Kinds, new_app, new_rule, with_rule, with_subcommand, fault_of, subcommand_of}
 use Rattle.pef_tool.specs.Request.Files.{named_files}
-use Rattle.pef_tool.specs.Request.Requests.{Asked, check, distances, extract, link, list, load, show, version}
+use Rattle.pef_tool.specs.Request.Requests.{Asked, check, distances, extract, inspect, inspect_listed, link, list, load, show, version}
 
 -- a required operand
 abbrev pub operand : Text → Rule
@@ -46,6 +47,22 @@ distances_command = with_rule (new_app (codes "distances")) (operand (codes "SCR
 abbrev pub extract_command : App
 extract_command = with_rule (with_rule (with_rule (new_app (codes "extract")) (operand (codes "FILE"))) (operand (codes "NAME"))) (operand (codes "OUT"))
 
+-- a flag
+abbrev pub flag : Text → Rule
+flag name = record (new_rule name) { long = Some name; action = Some SetTrue }
+
+-- the maximum number of files of `inspect`
+abbrev pub most_inspected : ℕ
+most_inspected = 65536
+
+-- the operand of `inspect`, which takes any number of words
+abbrev pub inspected_operand : Rule
+inspected_operand = record (new_rule (codes "FILE")) { range = Some (record { start_inclusive = 1; end_inclusive = most_inspected }) }
+
+-- `inspect [--json] FILE ..`, and `inspect [--json] --files0`
+abbrev pub inspect_command : App
+inspect_command = with_rule (with_rule (with_rule (new_app (codes "inspect")) (flag (codes "json"))) (flag (codes "files0"))) inspected_operand
+
 -- the program, which requires a command and has no help
 abbrev pub top_command : App
 top_command =
@@ -54,7 +71,7 @@ top_command =
 
 -- the program's commands
 unfoldable pub pef : App
-pef = with_subcommand (with_subcommand (with_subcommand (with_subcommand (with_subcommand (with_subcommand (with_subcommand top_command show_command.top) link_command.top) list_command.top) check_command.top) load_command.top) distances_command.top) extract_command.top
+pef = with_subcommand (with_subcommand (with_subcommand (with_subcommand (with_subcommand (with_subcommand (with_subcommand (with_subcommand top_command show_command.top) link_command.top) list_command.top) check_command.top) load_command.top) distances_command.top) extract_command.top) inspect_command.top
 
 -- the request that the operands of `link` make
 abbrev pub link_asked : List Row → Option Asked
@@ -82,6 +99,23 @@ extract_asked rows =
     option_and_then (λ file. option_and_then (λ name. option_map (extract file name) (first_of (codes "OUT") rows)) (first_of (codes "NAME") rows))
     (first_of (codes "FILE") rows)
 
+-- a flag was given, by the text of its value
+abbrev pub is_set : Option Text → Bool
+is_set None = false
+is_set (Some value) = bytes_eq value (codes "true")
+
+-- the request of `inspect`, by its flags and its operands: some files, or those that the standard input lists
+abbrev pub inspected : Bool → Bool → Option (List Text) → Option Asked
+inspected json false (Some files) = Some (inspect json files)
+inspected json true None = Some (inspect_listed json)
+inspected json false None = None
+inspected json true (Some files) = None
+
+-- the request that the operands of `inspect` make
+abbrev pub inspect_asked : List Row → Option Asked
+inspect_asked rows =
+    inspected (is_set (first_of (codes "json") rows)) (is_set (first_of (codes "files0") rows)) (all_of (codes "FILE") rows)
+
 -- the request that a command's name and operands make
 abbrev pub command_asked : Text → List Row → Option Asked
 command_asked name rows =
@@ -91,7 +125,8 @@ command_asked name rows =
     else if bytes_eq name (codes "check") then check_asked rows
     else if bytes_eq name (codes "load") then load_asked rows
     else if bytes_eq name (codes "distances") then distances_asked rows
-    else if bytes_eq name (codes "extract") then extract_asked rows else None
+    else if bytes_eq name (codes "extract") then extract_asked rows
+    else if bytes_eq name (codes "inspect") then inspect_asked rows else None
 
 -- the request of a line without a fault is the request of its command
 abbrev pub asked_at : Kinds → Option (Text × List Row) → Option Asked

@@ -1,8 +1,8 @@
 -- Which words are which command, if none begins with `-` (README, "The commands").
-use Rattle.std.specs.Prelude.{◌≢◌, ℕ, ⊤, List, [], ◌∷◌, length, nat_le, Option, None, Some, codes, if◌then◌else◌, option_map}
+use Rattle.std.specs.Prelude.{◌≢◌, ℕ, ⊤, false, List, [], ◌∷◌, length, nat_le, Option, None, Some, codes, if◌then◌else◌, option_map}
 use Rattle.std.specs.Str.{bytes_eq}
 use Rattle.pef_tool.specs.Request.Files.{named_files}
-use Rattle.pef_tool.specs.Request.Requests.{Asked, check, distances, extract, link, list, load, show}
+use Rattle.pef_tool.specs.Request.Requests.{Asked, check, distances, extract, inspect, link, list, load, show}
 
 -- a word that doesn't begin with `-`
 abbrev pub IsPlain : List ℕ → Type 0
@@ -57,6 +57,11 @@ plain_extract (file ∷ name ∷ []) = None
 plain_extract (file ∷ name ∷ out ∷ []) = Some (extract file name out)
 plain_extract (file ∷ name ∷ out ∷ word ∷ words) = None
 
+-- `inspect FILE ..`, of 1 to 65,536 words; JSON is asked for by a word that begins with `-`
+abbrev pub plain_inspect : List (List ℕ) → Option Asked
+plain_inspect [] = None
+plain_inspect (file ∷ files) = if nat_le (length (file ∷ files)) 65536 then Some (inspect false (file ∷ files)) else None
+
 -- a command by its name, with its operands
 abbrev pub plain_command : List ℕ → List (List ℕ) → Option Asked
 plain_command name operands =
@@ -67,6 +72,7 @@ plain_command name operands =
     else if bytes_eq (codes "load") name then plain_load operands
     else if bytes_eq (codes "distances") name then plain_distances operands
     else if bytes_eq (codes "extract") name then plain_extract operands
+    else if bytes_eq (codes "inspect") name then plain_inspect operands
     else None
 
 -- the request that words make, whose first one is the program's name

@@ -1,12 +1,13 @@
 -- The requests that a command line can make (README, "The commands").
-use Rattle.std.specs.Prelude.{◌≡◌, ℕ, ⊤, List, map, Option, None, Some, Result, Ok, Err}
+use Rattle.std.specs.Prelude.{◌≡◌, ℕ, ⊤, Bool, List, map, Option, None, Some, Result, Ok, Err}
 use Rattle.pef_tool.specs.declared.request.files.NamedFile.{NamedFile}
 use Rattle.pef_tool.specs.declared.request.command_line.Request.{Request}
 use Rattle.pef_tool.specs.declared.request.command_line.Request.TheVariants as request
 use Rattle.pef_tool.specs.declared.request.command_line.WordsFault.{WordsFault}
 use Rattle.pef_tool.specs.declared.request.command_line.WordsFault.TheVariants.{Usage, OutOfMemory}
 
--- a command and its operands. The files of `load` are names, each with its path.
+-- a command and its operands. The files of `load` are names, each with its path. Those of `inspect` are paths,
+-- which the standard input may list; whether JSON is asked for is first.
 pub data Asked : Type 0 where
   show : Asked
   link : List ℕ → List ℕ → Asked
@@ -16,6 +17,8 @@ pub data Asked : Type 0 where
   check : List ℕ → List ℕ → Asked
   version : Asked
   extract : List ℕ → List ℕ → List ℕ → Asked
+  inspect : Bool → List (List ℕ) → Asked
+  inspect_listed : Bool → Asked
 
 -- a file's name and its path
 abbrev pub named_path : NamedFile → List ℕ × List ℕ
@@ -31,6 +34,8 @@ asked_of (request.Distances script) = distances script.now
 asked_of (request.Check script cert) = check script.now cert.now
 asked_of request.Version = version
 asked_of (request.Extract file name out) = extract file.now name.now out.now
+asked_of (request.Inspect json files) = inspect json (map (λ file. file.now) files.items)
+asked_of (request.InspectListed json) = inspect_listed json
 
 -- the answer to a command line: its request, or that it is invalid
 abbrev pub AnswersWords : Result Request WordsFault → Option Asked → Type 0

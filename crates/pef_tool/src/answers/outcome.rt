@@ -8,7 +8,7 @@ use crate::notes::Note;
 pub enum Outcome {
     /// The command is done.
     Done,
-    /// The command is done, and `check` answered no for a section.
+    /// The command is done, and `check` answered no for a section, or `inspect` found an error in a file.
     SaidNo,
     /// The command reported an error: its number, and what is known beyond its line.
     Refused { number: u32, note: Note },

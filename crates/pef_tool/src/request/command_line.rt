@@ -1,15 +1,15 @@
-ghost use Rattle.std.specs.Prelude.{◌≡◌, IfOk, false, map, string_bytes};
+ghost use Rattle.std.specs.Prelude.{◌≡◌, IfOk, false, map, option_map, string_bytes};
 ghost use Rattle.clap.specs.Walk.{rule_of};
-ghost use Rattle.clap.specs.Words.{app_of, found_of, new_app, rows_of};
+ghost use Rattle.clap.specs.Words.{app_of, found_of, new_app, new_rule, rows_of};
 ghost use Rattle.clap.specs.declared.builder.command.Command.TheViews.{out-Command};
-ghost use Rattle.pef_tool.specs.Request.CommandLine.{asked_by, asks_version, check_asked, check_command, command_asked, distances_asked, distances_command, extract_asked, extract_command, link_asked, link_command, list_asked, list_command, load_asked, load_command, operand, pef, request_by};
+ghost use Rattle.pef_tool.specs.Request.CommandLine.{asked_by, asks_version, check_asked, check_command, command_asked, distances_asked, distances_command, extract_asked, extract_command, flag, inspect_asked, inspect_command, inspected, is_set, link_asked, link_command, list_asked, list_command, load_asked, load_command, operand, pef, request_by};
 ghost use Rattle.pef_tool.specs.Request.Kept.Commands.{HasOneMore};
 ghost use Rattle.pef_tool.specs.Request.Kept.Kinds.{fault_of_kind};
 ghost use Rattle.pef_tool.specs.Request.Requests.{AnswersWords};
 
-use crate::request::files::{NamedFile, named_files};
+use crate::request::files::{NamedFile, named_files, paths_of};
 use clap::error::ErrorKind;
-use clap::{Arg, ArgMatches, Command};
+use clap::{Arg, ArgAction, ArgMatches, Command};
 use std::alloc::{AllocError, AllocFailed, Global};
 
 /// The help for SCRIPT.
@@ -17,6 +17,9 @@ const SCRIPT_HELP: &str = "A script (docs/SCRIPTS.md)";
 
 /// The maximum number of files of `load`.
 const MOST_FILES: usize = 256;
+
+/// The maximum number of files of `inspect`.
+const MOST_INSPECTED: usize = 65_536;
 
 /// The request of a command line.
 #[derive(Debug, Drop, PartialEq, Eq)]
@@ -53,6 +56,15 @@ pub enum Request<'a> {
         file: &'a str,
         name: &'a str,
         out: &'a str,
+    },
+    /// Report everything that can be known of the files at 1 to 65,536 paths, as text or as JSON.
+    Inspect {
+        json: bool,
+        files: Vec<&'a [u8]>,
+    },
+    /// Report the same of the files whose paths are on the standard input, each ended by a zero byte.
+    InspectListed {
+        json: bool,
     },
 }
 
@@ -141,7 +153,8 @@ pub(crate) fn command<'a>(alloc: Global) -> Result<Command<'a>, AllocError>
     let with_check = with_command(with_list, check_command(alloc))?;
     let with_load = with_command(with_check, load_command(alloc))?;
     let with_distances = with_command(with_load, distances_command(alloc))?;
-    with_command(with_distances, extract_command(alloc))
+    let with_extract = with_command(with_distances, extract_command(alloc))?;
+    with_command(with_extract, inspect_command(alloc))
 }
 
 /// Returns a command with one more subcommand, if allocating that one succeeded.
@@ -265,6 +278,56 @@ fn extract_command<'a>(alloc: Global) -> Result<Command<'a>, AllocError>
     .arg(out)
 }
 
+/// Returns a flag, with its help.
+fn flag<'a>(alloc: Global, name: &'a str, help: &'a str) -> Arg<'a>
+    ensures rule { rule_of result ≡ flag name.entry.now }
+    ensures local { result.global ≡ false }
+{
+    Arg::new(alloc, name)
+        .long(name)
+        .action(ArgAction::SetTrue)
+        .help(help)
+}
+
+/// Returns an operand that may be missing, with its help.
+fn optional_operand<'a>(alloc: Global, name: &'a str, help: &'a str) -> Arg<'a>
+    ensures rule { rule_of result ≡ new_rule name.entry.now }
+    ensures local { result.global ≡ false }
+{
+    Arg::new(alloc, name).help(help)
+}
+
+/// Returns the command `inspect [--json] FILE ..`, which is also `inspect [--json] --files0`.
+fn inspect_command<'a>(alloc: Global) -> Result<Command<'a>, AllocError>
+    ensures app { IfOk result (λ c. app_of c ≡ inspect_command) }
+    ensures local { IfOk result (λ c. (out-Command c).has_globals ≡ false) }
+{
+    let json = flag(
+        alloc,
+        "json",
+        "Print an object of JSON for each file, on a line of its own",
+    );
+    let listed = flag(
+        alloc,
+        "files0",
+        "Read the paths of the files from the standard input, each ended by a zero byte",
+    );
+    let files = optional_operand(
+        alloc,
+        "FILE",
+        "Files of the classic Mac OS, or any files that have containers in them: `-` is the standard input",
+    )
+    .num_args(1..=MOST_INSPECTED);
+    described(
+        alloc,
+        "inspect",
+        "Prints everything that can be known of files, with all errors, each at its place",
+    )
+    .arg(json)?
+    .arg(listed)?
+    .arg(files)
+}
+
 /// Returns the request that a command's name and operands make.
 fn command_request<'a>(
     alloc: Global,
@@ -281,6 +344,7 @@ fn command_request<'a>(
         "load" => load_request(alloc, operands),
         "distances" => distances_request(operands),
         "extract" => extract_request(operands),
+        "inspect" => inspect_request(alloc, operands),
         _ => Err(WordsFault::Usage),
     }
 }
@@ -362,6 +426,45 @@ fn extract_request<'a>(operands: &ArgMatches<'a>) -> Result<Request<'a>, WordsFa
         return Err(WordsFault::Usage);
     };
     Ok(Request::Extract { file, name, out })
+}
+
+/// Returns the request that the operands of `inspect` make.
+#[tactic(auto, using(crate::proofs::RequestProofs::LineLemmas::first_in_rows, crate::proofs::RequestProofs::LineLemmas::all_in_rows))]
+fn inspect_request<'a>(alloc: Global, operands: &ArgMatches<'a>) -> Result<Request<'a>, WordsFault>
+    ensures { AnswersWords result (inspect_asked (rows_of (found_of operands.now))) }
+{
+    let json = is_set(operands.get_str("json"));
+    let listed = is_set(operands.get_str("files0"));
+    inspected(alloc, json, listed, operands.get_strs("FILE"))
+}
+
+/// Returns the request of `inspect`, by its flags and its operands.
+fn inspected<'a>(
+    alloc: Global,
+    json: bool,
+    listed: bool,
+    words: Option<&[&'a str]>,
+) -> Result<Request<'a>, WordsFault>
+    ensures { AnswersWords result (inspected json listed (option_map (λ ws. map (λ w. w.now) ws.now) words.entry)) }
+{
+    match (listed, words) {
+        (false, Some(words)) => {
+            let files = paths_of(alloc, words)?;
+            Ok(Request::Inspect { json, files })
+        }
+        (true, None) => Ok(Request::InspectListed { json }),
+        (false, None) | (true, Some(_)) => Err(WordsFault::Usage),
+    }
+}
+
+/// Returns whether a flag was given, by its value.
+fn is_set(value: Option<&str>) -> bool
+    ensures { result ≡ is_set (option_map (λ v. v.now) value.entry) }
+{
+    match value {
+        Some(value) => value == "true",
+        None => false,
+    }
 }
 
 /// Returns the reason why `clap` refused a command line.

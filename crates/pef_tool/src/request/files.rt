@@ -1,11 +1,11 @@
 //! The files that the words of a command name.
-ghost use Rattle.std.specs.Prelude.{◌≡◌, map, option_map};
+ghost use Rattle.std.specs.Prelude.{◌≡◌, IfOk, map, option_map};
 ghost use Rattle.pef_tool.specs.Request.Files.{named_file as file_of_word, named_files as files_of_words};
 ghost use Rattle.pef_tool.specs.Request.Kept.Files.{AnswersFiles};
 ghost use Rattle.pef_tool.specs.Request.Requests.{named_path};
 
 use crate::request::command_line::WordsFault;
-use std::alloc::Global;
+use std::alloc::{AllocError, Global};
 
 /// A file, with the name that a command uses for it.
 #[derive(Clone, Copy, Debug, PartialEq, Eq)]
@@ -42,4 +42,15 @@ fn named_file<'a>(word: &'a str) -> Option<NamedFile<'a>>
         return None;
     }
     Some(NamedFile { name, path })
+}
+
+/// Returns the paths that words are, in order.
+pub(crate) fn paths_of<'a>(alloc: Global, words: &[&'a str]) -> Result<Vec<&'a [u8]>, AllocError>
+    ensures { IfOk result (λ paths. map (λ path. path.now) paths.items ≡ map (λ w. w.now) words.now) }
+{
+    let mut paths = Vec::with_capacity(alloc, words.len())?;
+    for &word in words {
+        paths.push(word.as_bytes())?;
+    }
+    Ok(paths)
 }

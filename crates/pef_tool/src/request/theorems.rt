@@ -8,6 +8,7 @@ ghost use Rattle.pef_tool.specs.Request.Plain.{ArePlain, plain_words as asked_pl
 /// `list`, `check SCRIPT CERT` for `check`, `distances SCRIPT` for `distances`, and `extract FILE NAME OUT` for `extract`.
 /// Exactly `load` with 1 to 256 words
 /// `NAME=FILE` asks for `load` of these files. Each of these words is split at its first `=`, and no name is empty.
+/// Exactly `inspect` with 1 to 65,536 words asks for `inspect` of the files with these paths, as text.
 /// All other words are no command.
 #[tactic(auto, using(crate::proofs::RequestProofs::PlainLemmas::request_plain))]
 pub fn plain_words()

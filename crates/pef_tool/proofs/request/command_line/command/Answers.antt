@@ -2,7 +2,7 @@
 use Rattle.std.proofs.Common.{ap, ap₂, ◌∙◌, true}
 use Rattle.std.proofs.lemmas.Result.{IfOk-weaker}
 use Rattle.clap.specs.Simple.{app_of_fields, on_top, with_subcommand}
-use Rattle.pef_tool.specs.Request.CommandLine.{check_command, distances_command, extract_command, link_command, list_command, load_command, pef}
+use Rattle.pef_tool.specs.Request.CommandLine.{check_command, distances_command, extract_command, inspect_command, link_command, list_command, load_command, pef}
 use Rattle.pef_tool.proofs.RequestProofs.CommandLemmas.{one_more}
 use Rattle.pef_tool.proofs.request.command_line.command.Goals as goal
 
@@ -18,4 +18,5 @@ returns c =
     let with_check = one_more c.check_command.result check_command c.in_ok-with_check.with_check with_list c.check_command.ensures.app c.check_command.ensures.local c.in_ok-with_check.ensures in
     let with_load = one_more c.load_command.result load_command c.in_ok-with_load.with_load with_check c.load_command.ensures.app c.load_command.ensures.local c.in_ok-with_load.ensures in
     let with_distances = one_more c.distances_command.result distances_command c.in_ok-with_distances.with_distances with_load c.distances_command.ensures.app c.distances_command.ensures.local c.in_ok-with_distances.ensures in
-    record { app = IfOk-weaker c.with_command-6.result _ _ (λ r. one_more c.extract_command.result extract_command r with_distances c.extract_command.ensures.app c.extract_command.ensures.local) c.with_command-6.ensures }
+    let with_extract = one_more c.extract_command.result extract_command c.in_ok-with_extract.with_extract with_distances c.extract_command.ensures.app c.extract_command.ensures.local c.in_ok-with_extract.ensures in
+    record { app = IfOk-weaker c.with_command-7.result _ _ (λ r. one_more c.inspect_command.result inspect_command r with_extract c.inspect_command.ensures.app c.inspect_command.ensures.local) c.with_command-7.ensures }
