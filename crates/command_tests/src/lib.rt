@@ -14,6 +14,8 @@ mod extract;
 #[cfg(test)]
 mod failures;
 #[cfg(test)]
+mod inspect;
+#[cfg(test)]
 mod libraries;
 #[cfg(test)]
 mod limits;
