@@ -494,6 +494,23 @@ error 9 BadAlignment section 0 alignment at 00000074"""
     inside("appledouble", apple(0x00051607, [(2, resource_fork(b"cfrg", 0, fragments((b"Calc", 1, 0, 0))))]), "appledouble", "")
 
 
+# A MacBinary file whose member has another number in each field: its version is 1.2b3, its oldest definition 1.0.
+MEMBER = struct.pack(">4s3xBIIIHBBIIIHHH", b"pwpc", 0, 0x01206003, 0x01008000, 65536, 5, 1, 1, 8, 492, 7, 9, 0, 48) + b"\4Calc\0"
+MEMBER_FILE = mac_binary(b"not yet." + WHOLE, resource_fork(b"cfrg", 0, struct.pack(">10xH18xH", 1, 1) + MEMBER))
+MEMBER_LINES = """
+00000080 fork data size 500
+00000280 fork resource size 150
+000002B4 fragment 0 Calc architecture pwpc usage 1 application where 1 data container 00000088 size 492 versions 1.2b3 1.0 \
+current 18898947 olddef 16809984 level 0 stack 65536 directory 5 place 00000008 length 492 space 7 instance 9 extensions 0
+""".strip().splitlines()
+MEMBER_FORKS = [{"kind": "data", "offset": 0x80, "length": 500}, {"kind": "resource", "offset": 0x280, "length": 150}]
+MEMBER_FRAGMENTS = [{
+    "name": "Calc", "offset": 0x88, "size": 492, "row": 0, "at": 0x2B4, "architecture": "pwpc", "usage": 1, "where": 1,
+    "current": 0x01206003, "current_text": "1.2b3", "olddef": 0x01008000, "olddef_text": "1.0", "level": 0, "stack": 65536,
+    "directory": 5, "place": 8, "length": 492, "space": 7, "instance": 9, "extensions": 0,
+}]
+
+
 # Names of each byte but zero, 17 bytes long.
 NAMES = [bytes(range(start, start + 17)) for start in range(1, 256, 17)]
 
