@@ -1,4 +1,5 @@
 // The page: files that are dropped or chosen, and what is in them.
+import { BytesView } from "./bytes.js";
 import { ContainerView, name } from "./container.js";
 import { button, el, save, terms } from "./dom.js";
 import { Container, File, fileObject } from "./inspect.js";
@@ -122,8 +123,10 @@ function fileView(file) {
             ["Containers", file.places.length.toLocaleString("en")],
         ]),
     ];
+    const bytes = new BytesView({ reader, offset: 0, slice: reader.file, sections: [], relocations: [] }, () => "");
+    bytes.open(0, null);
     if (file.errors.length > 0) {
-        parts.push(el("h3", {}, "Errors of the file"), errorsTable(file).element);
+        parts.push(el("h3", {}, "Errors of the file"), errorsTable(file, bytes).element);
     }
     parts.push(el("h3", {}, "Containers"), containersTable(file).element);
     const inside = partsOf(file);
@@ -136,16 +139,21 @@ function fileView(file) {
     if (file.resources.length > 0) {
         parts.push(el("h3", {}, "Resources"), resourcesTable(file).element);
     }
+    parts.push(el("h3", {}, "Bytes"), bytes.element);
     return el("article", {}, ...parts);
 }
 
 /** Returns the table of the errors that aren't those of a container. */
-function errorsTable(file) {
+function errorsTable(file, bytes) {
+    const show = (offset) => {
+        bytes.open(0, offset);
+        bytes.lines.focus();
+    };
     const columns = [
         { title: "Number", text: (it) => String(it.number), value: (it) => it.number, class: "number" },
         { title: "Name", text: (it) => reader.nameOf(it.number) },
         { title: "Part", text: (it) => (it.row === null ? it.part : `${it.part} ${it.row}`) },
-        numeric("Offset", (it) => it.offset, (it) => text.at(it.offset)),
+        { ...numeric("Offset", (it) => it.offset, (it) => text.at(it.offset)), go: (it) => (it.offset === null ? null : () => show(it.offset)) },
         { title: "Meaning", text: (it) => reader.help(it.number), class: "wide" },
     ];
     return new DataTable({ caption: "Errors of the file", columns, rows: file.errors });

@@ -16,7 +16,7 @@ export class BytesView {
         this.container = container;
         this.nameOf = nameOf;
         this.sources = [
-            { label: "the container in the file", first: container.offset, slice: () => container.slice, added: () => new Map() },
+            { label: container.offset === 0 ? "the file" : "the file from the container on", first: container.offset, slice: () => container.slice, added: () => new Map() },
             ...container.sections.map((section, i) => this.sectionSource(section, i)),
         ];
         this.source = 0;

@@ -117,7 +117,7 @@ export class Reader {
         const rows = [];
         const words = slices.flatMap((slice) => [BigInt(slice.address), BigInt(slice.length)]);
         const end = performance.now() + limits.milliseconds;
-        let places = Math.min(limits.milliseconds === Infinity ? ROWS : 32, limits.rows);
+        let places = Math.min(limits.milliseconds === Infinity ? ROWS : 4, limits.rows);
         for (;;) {
             const error = this.calls[name](...words, BigInt(from + rows.length), BigInt(this.base + FIRST_ROW), BigInt(places), BigInt(this.base + COUNT));
             const filled = isFilled(error) ? this.count() : 0;
