@@ -11,7 +11,7 @@ import * as text from "./text.js";
 const LISTED = 20;
 
 /** What is read of a table at first. */
-const FIRST = { rows: 65536, name: 1024, milliseconds: 400 };
+const FIRST = { rows: 65536, milliseconds: 400 };
 
 const FORMATS = {
     container: "a bare container",
@@ -78,8 +78,7 @@ function choose(file, place) {
 }
 
 function containerView(file, place) {
-    const limits = { ...FIRST };
-    return new ContainerView(new Container(reader, place, limits), title(file, place)).element;
+    return new ContainerView(new Container(reader, place, FIRST), title(file, place)).element;
 }
 
 /** Returns the title of a container: the name of the fragment in it, if one is, and where it is. */
@@ -187,7 +186,7 @@ function forksTable(rows) {
         { title: "Part", text: (it) => it.kind },
         numeric("Offset", (it) => (it.length === null ? null : it.offset), (it) => text.at(it.offset)),
         numeric("Bytes", (it) => it.length),
-        { title: "Text", text: (it) => (it.slice !== null && it.slice.length <= 255 && /name|comment/.test(it.kind) ? name(reader.bytes(it.slice).slice()) : "") },
+        { title: "Text", text: (it) => (it.slice !== null && it.slice.length <= 255 && /name|comment/.test(it.kind) ? text.shownName(reader.bytes(it.slice)) : "") },
         { title: "Error", text: (it) => errorText(it.error) },
     ];
     return new DataTable({ caption: "Parts of the file", columns, rows });

@@ -15,8 +15,8 @@ const CLASSES = ["code", "data", "transition vector", "TOC", "glue"];
 const MOST_FIXUPS = 20000;
 
 /** Returns a name as it is shown. */
-export function name(bytes) {
-    return bytes === null ? "–" : text.shownName(bytes);
+export function name(it) {
+    return it === null ? "–" : `${text.shownName(it.bytes)}${it.length > it.bytes.length ? "…" : ""}`;
 }
 
 function coded(words, code) {

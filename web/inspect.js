@@ -321,7 +321,7 @@ export class Container {
         const [number, part, index, field, offset, kind, detail] = row.numbers;
         return {
             number,
-            name: text.macRoman(row.name),
+            name: text.macRoman(row.name.bytes),
             isError: number < FIRST_NOTE,
             part: PARTS[part],
             rank: ROW_PARTS[part] ?? part,
@@ -483,14 +483,17 @@ function headerObject(header) {
     };
 }
 
-/** Returns the members of a name: its text, and its bytes if they aren't ASCII. */
+/** Returns the members of a name: its text, its bytes if they aren't ASCII, and its length if there are more. */
 function named(name) {
     if (name === null) {
         return { name: null };
     }
-    const members = { name: text.macRoman(name) };
-    if (name.some((byte) => byte >= 0x80)) {
-        members.name_hex = text.hexBytes(name);
+    const members = { name: text.macRoman(name.bytes) };
+    if (name.bytes.some((byte) => byte >= 0x80)) {
+        members.name_hex = text.hexBytes(name.bytes);
+    }
+    if (name.length > name.bytes.length) {
+        members.name_length = name.length;
     }
     return members;
 }

@@ -28,6 +28,17 @@ export class Slice {
     }
 }
 
+/** How many bytes of a name are read, as `pef inspect` prints no more: rows of a hostile file can share one of megabytes. */
+const MOST_NAME = 1024;
+
+/** The first bytes of a name, and how many it has. */
+export class Name {
+    constructor(bytes, length) {
+        this.bytes = bytes;
+        this.length = length;
+    }
+}
+
 /** A row of a table. A name or bytes that a row doesn't have are null, and so is a number that stands for none. */
 export class Row {
     constructor(name, bytes, numbers) {
@@ -47,7 +58,7 @@ export class Table {
 }
 
 /** No limit of a table. */
-export const ALL = { rows: Infinity, name: Infinity, milliseconds: Infinity };
+export const ALL = { rows: Infinity, milliseconds: Infinity };
 
 function isFilled(error) {
     // With 200 there are more findings than the module keeps, and it gives the first ones.
@@ -111,7 +122,7 @@ export class Reader {
 
     /**
      * Returns up to `limits.rows` rows of a table, from number `from` on, each with `width` numbers. It stops early after
-     * `limits.milliseconds`: rows of a hostile file can share a name of megabytes, and each is slow then.
+     * `limits.milliseconds`: if rows share a name of megabytes, each is slow.
      */
     table(name, slices, width, from = 0, limits = ALL) {
         const rows = [];
@@ -122,7 +133,7 @@ export class Reader {
             const error = this.calls[name](...words, BigInt(from + rows.length), BigInt(this.base + FIRST_ROW), BigInt(places), BigInt(this.base + COUNT));
             const filled = isFilled(error) ? this.count() : 0;
             for (let i = 0; i < filled; i += 1) {
-                rows.push(this.row(i, width, limits.name));
+                rows.push(this.row(i, width));
             }
             if (filled < places || rows.length >= limits.rows || performance.now() >= end) {
                 return new Table(rows, error, filled === places);
@@ -134,7 +145,7 @@ export class Reader {
     /** Returns the name of an error or a note, or its number if it has none. */
     nameOf(number) {
         const { name } = this.error(number);
-        return name === null ? String(number) : ASCII.decode(name);
+        return name === null ? String(number) : ASCII.decode(name.bytes);
     }
 
     /** Returns what an error or a note means. */
@@ -161,7 +172,7 @@ export class Reader {
         return Number(new BigUint64Array(this.memory.buffer, this.base + COUNT, 1)[0]);
     }
 
-    row(i, width, mostName = Infinity) {
+    row(i, width) {
         const address = this.base + FIRST_ROW + i * ROW;
         const words = new BigUint64Array(this.memory.buffer, address, ROW / 8);
         const flags = new Uint8Array(this.memory.buffer, address + ROW - 8, 2);
@@ -169,7 +180,8 @@ export class Reader {
         for (let k = 0; k < width; k += 1) {
             numbers.push(words[4 + k] === NO_NUMBER ? null : Number(words[4 + k]));
         }
-        const name = flags[0] === 0 ? null : this.bytes(new Slice(Number(words[0]), Math.min(Number(words[1]), mostName))).slice();
+        const length = Number(words[1]);
+        const name = flags[0] === 0 ? null : new Name(this.bytes(new Slice(Number(words[0]), Math.min(length, MOST_NAME))).slice(), length);
         const bytes = flags[1] === 0 ? null : new Slice(Number(words[2]), Number(words[3]));
         return new Row(name, bytes, numbers);
     }
