@@ -1,5 +1,5 @@
 -- If a preparation reports an error of a fragment's bytes, an error is found in them.
-use Rattle.std.proofs.Common.{◌≡◌, ◌∙◌, ℕ, ◌≤◌, List, [], ◌++◌, None, Some, Ok, Err, Contains, inl, inr, refl, sym, ap, subst, arith}
+use Rattle.std.proofs.Common.{◌≡◌, ◌∙◌, ℕ, ◌≤◌, List, ◌++◌, None, Some, Ok, Err, Contains, inl, inr, sym, ap, subst, arith}
 use Rattle.std.proofs.lemmas.List.Elements.{All-contains}
 use Rattle.cfm_closure.specs.Stores.{Pair, pair_of, place_of}
 use Rattle.cfm_closure.specs.Closures.{closed_of}
@@ -13,7 +13,7 @@ use Rattle.cfm_prepare.specs.Addresses.{addresses_of}
 use Rattle.cfm_prepare.specs.Contexts.{ContextState}
 use Rattle.cfm_prepare.specs.Faults.{fault_number}
 use Rattle.cfm_prepare.specs.FragmentFaults as fragments
-use Rattle.cfm_prepare.specs.Fragments.{Present, image_refusal_in, reloc_refusal_in}
+use Rattle.cfm_prepare.specs.Fragments.{image_refusal_in, reloc_refusal_in}
 use Rattle.cfm_prepare.specs.Refusals.{HasBadImage, HasBadProgram}
 use Rattle.cfm_prepare.specs.Steps.{HasClosure, IsRefusedLate, MayNotPrepare, new_of}
 use Rattle.cfm_prepare.specs.declared.fault.PrepareFault.{PrepareFault}
@@ -23,8 +23,6 @@ use Rattle.cfm_prepare.specs.declared.fragment_fault.FragmentFault.TheVariants a
 use Rattle.cfm_prepare.specs.declared.image_fault.ImageFault.{ImageFault}
 use Rattle.cfm_prepare.proofs.Laws.{bad-image, bad-program, new-members}
 use Rattle.pef_loader.specs.declared.program_fault.ProgramFault.{ProgramFault}
-use Rattle.pef_inspect.specs.Errors.{errors_of}
-use Rattle.pef_inspect.specs.Sound.{IsSound}
 use Rattle.pef_inspect.proofs.Laws.{no_errors_sound}
 use Rattle.cfm_sound.specs.Named.{BindingNames, FragmentNames, Names, NamesUnsound}
 use Rattle.cfm_sound.proofs.SoundLemmas.{sound-filled, sound-read, sound-relocated, sound_fragment}

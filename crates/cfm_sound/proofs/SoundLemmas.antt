@@ -1,12 +1,12 @@
 -- A fragment whose container is sound is read, and none of its images and relocation headers is refused.
-use Rattle.std.proofs.Common.{◌≡◌, ◌∙◌, ℕ, ◌+◌, ◌<◌, ◌≤◌, Bool, true, false, cond, List, [], length, take, Option, None, Some, Ok, Err, Result, refl, sym, ap, subst, arith}
-use Rattle.std.specs.Prelude.{option_map, nat_le, nat_lt}
-use Rattle.std.specs.Option.{is_none, option_and_then, option_map_or, option_or}
+use Rattle.std.proofs.Common.{◌≡◌, ◌∙◌, ℕ, ◌<◌, ◌≤◌, Bool, true, false, cond, List, [], length, take, Option, None, Some, Ok, Err, Result, refl, sym, ap, subst, arith}
+use Rattle.std.specs.Prelude.{option_map, nat_le}
+use Rattle.std.specs.Option.{option_and_then, option_map_or, option_or}
 use Rattle.std.specs.Result.{result_err, result_ok, result_unwrap_or}
 use Rattle.std.proofs.lemmas.Bool.{le-leb, lt-ltb}
 use Rattle.std.proofs.lemmas.List.{length-map, length-take}
 use Rattle.pef_words.specs.Bytes.{filled}
-use Rattle.pef_words.specs.Refusals.{◌>>=◌, first_among, first_met, result_map, unless}
+use Rattle.pef_words.specs.Refusals.{◌>>=◌, first_met, result_map, unless}
 use Rattle.pef_words.proofs.Laws.Images.{length-filled}
 use Rattle.pef_words.proofs.Laws.Refusals.{first_among-none}
 use Rattle.pef_format.specs.Sections.{is_packed, kind_of}
@@ -19,7 +19,7 @@ use Rattle.pef_views.specs.declared.fault.ViewFault.TheVariants.{TooShort}
 use Rattle.pef_views.specs.declared.header.Header.{Header}
 use Rattle.pef_views.specs.declared.section.SectionHeader.{SectionHeader}
 use Rattle.pef_views.proofs.Laws.{counts, instantiable, raw_whole, section_header_is, whole_container}
-use Rattle.pef_loader.specs.Loader.{IsLoader, Loaded, loaded_of, reloc_of}
+use Rattle.pef_loader.specs.Loader.{IsLoader, Loaded, reloc_of}
 use Rattle.pef_loader.specs.Partial.{RelocationRow, relocation_row}
 use Rattle.pef_loader.proofs.Laws.{loaded_of-ok, reloc_row, reloc_section}
 use Rattle.pef_pidata.specs.Pattern.{pattern_text}
@@ -39,7 +39,7 @@ use Rattle.cfm_memory.specs.Instances.{Layout}
 use Rattle.cfm_memory.specs.declared.place.Place.{Place}
 use Rattle.cfm_prepare.specs.Addresses.{addresses_from, addresses_of}
 use Rattle.cfm_prepare.specs.Fragments.{Present, extents_in, image_refusal_in, reloc_refusal_in}
-use Rattle.cfm_prepare.specs.Images.{fault_in_image, filled_at, filled_in, first_image_refusal, image_of, image_refusal}
+use Rattle.cfm_prepare.specs.Images.{filled_at, filled_in, first_image_refusal, image_of, image_refusal}
 use Rattle.cfm_prepare.specs.Prepared.{addresses_at, first_reloc_refusal}
 use Rattle.cfm_prepare.proofs.Laws.{headers-unrefused, length-addresses, length-there}
 use Rattle.pef_inspect.specs.Errors.{image_fault, packed_at, program_at, run_at, run_of, sizes_at}
