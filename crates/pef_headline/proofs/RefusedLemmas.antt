@@ -1,6 +1,5 @@
 -- If new fragments are refused for an image or a relocation header, one of them has bytes that weren't linked.
-use Rattle.std.proofs.Common.{◌≡◌, ℕ, suc, List, [], ◌∷◌, ◌++◌, Option, None, Some, Ok, Err, Contains, inl, inr, refl, sym, ap, subst, ◌∙◌, arith}
-use Rattle.std.specs.Option.{option_or}
+use Rattle.std.proofs.Common.{◌≡◌, ℕ, List, ◌++◌, None, Some, Ok, Err, Contains, inl, inr, refl, sym, ap, subst, ◌∙◌, arith}
 use Rattle.cfm_closure.specs.Stores.{Pair, pair_of, place_of}
 use Rattle.cfm_closure.proofs.Laws.{place_of-below, place_of-named, closed-no_container, closed-no_loader}
 use Rattle.cfm_closure.specs.Faults.{BindRefusal, FailsAs, no_container, no_loader}
@@ -9,11 +8,10 @@ use Rattle.cfm_closure.specs.declared.fault.BindFault.{BindFault}
 use Rattle.cfm_closure.specs.declared.fault.BindFault.TheVariants as bind
 use Rattle.cfm_closure.specs.Closures.{Closed, closed_of}
 use Rattle.cfm_closure.specs.Promises.{IsOfUnread}
-use Rattle.cfm_memory.specs.Extents.{ArePlaced}
 use Rattle.cfm_memory.specs.Instances.{Layout}
-use Rattle.cfm_prepare.specs.Addresses.{addresses_of, first_bad_program}
-use Rattle.cfm_prepare.specs.Fragments.{Present, extents_in, first_bad_image, image_refusal_in, named, positions, reloc_refusal_in}
-use Rattle.cfm_prepare.specs.Placing.{AllPlaced, LacksRoom}
+use Rattle.cfm_prepare.specs.Addresses.{addresses_of}
+use Rattle.cfm_prepare.specs.Fragments.{Present, image_refusal_in, positions, reloc_refusal_in}
+use Rattle.cfm_prepare.specs.Placing.{LacksRoom}
 use Rattle.cfm_prepare.specs.Refusals.{HasBadImage, HasBadProgram}
 use Rattle.cfm_prepare.specs.declared.fragment_fault.FragmentFault.TheVariants as fragment
 use Rattle.cfm_prepare.proofs.Laws.{HasRefusedHeader, HasRefusedImage, bad-image, bad-program, lacks-room, not-past}
