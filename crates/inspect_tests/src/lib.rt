@@ -4,6 +4,8 @@
 #[cfg(test)]
 mod findings;
 #[cfg(test)]
+mod inspection;
+#[cfg(test)]
 mod limits;
 #[cfg(test)]
 mod notes;
