@@ -74,6 +74,7 @@ class Case:
     lines: List[str]  # the lines of errors and notes, in the order of the rows that they are of
     offsets: Tuple[int, ...] = (0,)  # where the containers begin
     format: str = "container"
+    seconds: int = 10  # how long it may take
 
 
 CASES: List[Case] = []
@@ -350,7 +351,7 @@ def limits() -> None:
     contents = head + data + own + bytes(4) + bytes(12) + tables + rows + program
     assert len(contents) == 240
     # Relocation headers begin at 112 + 56, and the fifth 48 bytes later.
-    CASES.append(Case(name, contents, ["note 110 ProgramsUnverified reloc 4 sectionIndex at 000000D8"]))
+    CASES.append(Case(name, contents, ["note 110 ProgramsUnverified reloc 4 sectionIndex at 000000D8"], seconds=120))
 
     # 65 headers for one program of 1,048,576 bytes: 64 have 67,108,864 bytes together.
     name, count, size = "bytes-of-65-programs", 65, 0x100000
@@ -360,7 +361,7 @@ def limits() -> None:
     rows = struct.pack(">HHII", 0, 0, size // 2, 0) * count
     contents = head + data + own + bytes(4) + bytes(12) + tables + rows + b"\x80\x00" * (size // 2)
     # 112 + 56 + 12 x 64.
-    CASES.append(Case(name, contents, ["note 110 ProgramsUnverified reloc 64 sectionIndex at 000003A8"]))
+    CASES.append(Case(name, contents, ["note 110 ProgramsUnverified reloc 64 sectionIndex at 000003A8"], seconds=120))
 
     # A program that adds to 1,048,577 words of a section without an image: one more than are compared.
     name, size = "words-of-one-program", 4 * 1048577
@@ -370,7 +371,7 @@ def limits() -> None:
     contents = head + large + own + tables + struct.pack(">HHII", 0, 0, 3, 0) + bytes.fromhex("4000 B010 0000")
     CASES.append(Case(name, contents, """
 note 107 WordOutsideImage reloc 0 halfword 0 at 000000A4 word 00000000
-note 110 ProgramsUnverified reloc 0 sectionIndex at 00000098""".strip().splitlines()))
+note 110 ProgramsUnverified reloc 0 sectionIndex at 00000098""".strip().splitlines(), seconds=120))
 
     # 300 sections with the same packed bytes, 1,048,576 of them: 256 sections have 268,435,456 bytes together. The packed bytes are
     # a block of 1,048,572 bytes. The headers end at 40 + 28 x 301, which is 2114 (hex).
@@ -386,7 +387,7 @@ note 110 ProgramsUnverified reloc 0 sectionIndex at 00000098""".strip().splitlin
             lines.append("note 111 ImagesUnverified section 256 packedSize at 00001C38")
         if i > 0:
             lines.append(f"note 112 Overlap section {i} containerOffset at {60 + 28 * i:08X} length {size}")
-    CASES.append(Case(name, contents, lines))
+    CASES.append(Case(name, contents, lines, seconds=120))
 
 
 def padded(contents: bytes) -> bytes:
