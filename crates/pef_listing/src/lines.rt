@@ -1,4 +1,5 @@
 ghost use Rattle.std.specs.Prelude.{◌≡◌, ◌<◌, ℕ, List, None, Some};
+ghost use Rattle.std.specs.Option.{ForSome};
 ghost use Rattle.std.specs.Option.{option_copied};
 ghost use Rattle.pef_views.specs.Views.{contained};
 ghost use Rattle.pef_format.specs.Symbols.{import_seen};
@@ -6,7 +7,7 @@ ghost use Rattle.pef_loader.specs.Loader.{import_of};
 ghost use Rattle.pef_loader.specs.Views.{loaded};
 ghost use Rattle.pef_ports.specs.Sent.{Sends};
 ghost use Rattle.pef_listing.specs.Listed.{AreReadable};
-ghost use Rattle.pef_listing.specs.Listing.{container_text, each_text, entry_text, export_lines, import_lines, library_lines, magnitude, reloc_lines, section_lines, section_name_text, sign_text, strength_text};
+ghost use Rattle.pef_listing.specs.Listing.{container_text, each_text, entry_text, export_lines, import_lines, library_lines, library_name, magnitude, reloc_lines, section_lines, section_name_text, sign_text, strength_text};
 ghost use Rattle.pef_ports.specs.Pieces.{piece_text};
 
 use crate::instructions::print_program;
@@ -174,7 +175,8 @@ impl<'a> Lines for Libraries<'a> {
     }
 }
 
-/// Prints the lines of the imported symbols. Their libraries are found for many imports at once.
+/// Prints the lines of the imported symbols. Their libraries are found for many imports at once, and the name of a library
+/// is read once for imports that follow one another.
 pub fn print_imports<W: Sink>(
     out: &mut W,
     page: &mut Page,
@@ -183,11 +185,12 @@ pub fn print_imports<W: Sink>(
     ensures { Sends result (W.stream out.old) (W.stream out.new) page.old.items page.new.items (each_text (import_lines (loaded loader.entry)) 0 (loaded loader.entry).header.import_count) }
 {
     let mut imports = ImportReader::new(loader);
+    let mut names = LibraryName::new(loader);
     for j in 0..loader.imports() {
         let Some(import) = imports.import(j) else {
             unreachable!()
         };
-        print_import(out, page, loader, j, import)?;
+        print_import(out, page, &mut names, j, import)?;
     }
     Ok(())
 }
@@ -196,17 +199,16 @@ pub fn print_imports<W: Sink>(
 fn print_import<'a, W: Sink>(
     out: &mut W,
     page: &mut Page,
-    loader: Loader<'a>,
+    names: &mut LibraryName<'a>,
     j: usize,
     import: ImportView<'a>,
 ) -> Result<(), StreamFault>
-    requires import { import_of (loaded loader) j ≡ Some (import_seen import) }
-    requires library { import.library < (loaded loader).header.library_count }
-    ensures { Sends result (W.stream out.old) (W.stream out.new) page.old.items page.new.items (import_lines (loaded loader.entry) j) }
+    requires import { import_of (loaded names.old.loader) j ≡ Some (import_seen import) }
+    requires library { import.library < (loaded names.old.loader).header.library_count }
+    ensures sends { Sends result (W.stream out.old) (W.stream out.new) page.old.items page.new.items (import_lines (loaded names.old.loader) j) }
+    ensures same { names.new.loader ≡ names.old.loader }
 {
-    let Some(library) = loader.library(import.library) else {
-        unreachable!()
-    };
+    let library = names.of(import.library);
     print_pieces(
         out,
         page,
@@ -216,12 +218,63 @@ fn print_import<'a, W: Sink>(
             Piece::Text(b" "),
             Piece::Name(import.name),
             Piece::Text(b" of "),
-            Piece::Name(library.name),
+            Piece::Name(library),
             Piece::Text(b" class "),
             Piece::Number(u64::from(import.class)),
             Piece::Text(strength(import.weak)),
         ],
     )
+}
+
+/// The name of the library that was asked for last.
+#[derive(Clone, Copy)]
+struct LibraryName<'a> {
+    loader: Loader<'a>,
+    number: usize,
+    name: Option<&'a [u8]>,
+    ghost read: { ForSome name (λ n. n.now ≡ library_name (loaded loader) number) },
+}
+
+impl<'a> LibraryName<'a> {
+    /// Returns what has asked for no library yet.
+    fn new(loader: Loader<'a>) -> LibraryName<'a>
+        ensures { result.loader ≡ loader.entry }
+    {
+        LibraryName {
+            loader,
+            number: 0,
+            name: None,
+        }
+    }
+
+    /// Returns the name of a library.
+    fn of(&mut self, number: usize) -> &'a [u8]
+        requires { number < (loaded self.old.loader).header.library_count }
+        ensures name { result.now ≡ library_name (loaded self.old.loader) number }
+        ensures same { self.new.loader ≡ self.old.loader }
+    {
+        match self.name {
+            Some(name) if self.number == number => name,
+            _ => self.read(number),
+        }
+    }
+
+    /// Reads the name of a library.
+    fn read(&mut self, number: usize) -> &'a [u8]
+        requires { number < (loaded self.old.loader).header.library_count }
+        ensures name { result.now ≡ library_name (loaded self.old.loader) number }
+        ensures same { self.new.loader ≡ self.old.loader }
+    {
+        let Some(library) = self.loader.library(number) else {
+            unreachable!()
+        };
+        *self = LibraryName {
+            loader: self.loader,
+            number,
+            name: Some(library.name),
+        };
+        library.name
+    }
 }
 
 /// The exported symbols of a loader section.

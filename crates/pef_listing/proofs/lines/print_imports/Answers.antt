@@ -13,20 +13,22 @@ loop-j-init g c =
     record {
       sent = rw all (sent-nothing (g.W.Sink.stream c.args.out.now) c.args.page.now.items (each_text (import_lines (loaded c.args.loader)) 0 many));
       loader = c.new-imports.ensures;
+      names = c.new-names.ensures;
     }
 
 pub loop-j-preserved : goal.loop-j-preserved
 loop-j-preserved g c =
     let next = each_text-more (import_lines (loaded c.args.loader)) c.loop-j.j (loaded c.args.loader).header.import_count (omega (arith, c.imports-j-end.ensures.count)) in
     record {
-      sent = sent-piece _ c.loop-j.invariant.sent next c.in_ok-print_import.ensures;
+      sent = sent-piece _ c.loop-j.invariant.sent next (rw c.loop-j.invariant.names at c.in_ok-print_import.ensures.sends);
       loader = c.in-Some.ensures.same ∙ c.loop-j.invariant.loader;
+      names = c.in_ok-print_import.ensures.same ∙ c.loop-j.invariant.names;
     }
 
 pub returns-in_err-print_import : goal.returns-in_err-print_import
 returns-in_err-print_import g c =
     let next = each_text-more (import_lines (loaded c.args.loader)) c.loop-j.j (loaded c.args.loader).header.import_count (omega (arith, c.imports-j-end.ensures.count)) in
-    Sends-short _ c.from_residual.result _ c.from_residual.ensures.1 (sent-short _ c.loop-j.invariant.sent next c.in_err-print_import.ensures)
+    Sends-short _ c.from_residual.result _ c.from_residual.ensures.1 (sent-short _ c.loop-j.invariant.sent next (rw c.loop-j.invariant.names at c.in_err-print_import.ensures.sends))
 
 pub returns : goal.returns
 returns g c = sent-all c.loop-j.invariant.sent (each_text-none (import_lines (loaded c.args.loader)) c.loop-j.j (loaded c.args.loader).header.import_count (omega (arith, c.imports-j-end.ensures.count)))

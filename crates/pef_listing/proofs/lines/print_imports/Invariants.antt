@@ -6,6 +6,7 @@ use Rattle.pef_listing.proofs.lines.print_imports.Given as goal
 
 abbrev pub invariant-loop-j : goal.invariant-loop-j
 invariant-loop-j g l = record {
-  sent : IsSentUpTo (g.W.Sink.stream l.fn.out) (g.W.Sink.stream l.out) l.fn.page.items l.page.items (each_text (import_lines (loaded l.loader)) 0 (loaded l.loader).header.import_count) (each_text (import_lines (loaded l.loader)) l.j ((loaded l.loader).header.import_count - l.j));
-  loader : l.imports.loader ≡ l.loader;
+  sent : IsSentUpTo (g.W.Sink.stream l.fn.out) (g.W.Sink.stream l.out) l.fn.page.items l.page.items (each_text (import_lines (loaded l.fn.loader)) 0 (loaded l.fn.loader).header.import_count) (each_text (import_lines (loaded l.fn.loader)) l.j ((loaded l.fn.loader).header.import_count - l.j));
+  loader : l.imports.loader ≡ l.fn.loader;
+  names : l.names.loader ≡ l.fn.loader;
 }
