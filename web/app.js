@@ -83,9 +83,9 @@ function containerView(file, place) {
 
 /** Returns the title of a container: the name of the fragment in it, if one is, and where it is. */
 function title(file, place) {
-    const fragment = file.fragments.find((it) => it.at === place && it.name !== null);
+    const fragment = file.nameAt(place);
     const where = file.places.length === 1 && place === 0 ? file.name : `${file.name}, container at ${text.at(place)}`;
-    return fragment === undefined ? where : `${name(fragment.name)} (${where})`;
+    return fragment === null ? where : `${name(fragment)} (${where})`;
 }
 
 function drawFiles() {
@@ -95,8 +95,8 @@ function drawFiles() {
         const item = el("li", {}, link(file.name, file, null));
         const inner = el("ul");
         for (const place of file.places.slice(0, LISTED)) {
-            const fragment = file.fragments.find((it) => it.at === place && it.name !== null);
-            inner.append(el("li", {}, link(fragment === undefined ? text.at(place) : `${text.at(place)} ${name(fragment.name)}`, file, place)));
+            const fragment = file.nameAt(place);
+            inner.append(el("li", {}, link(fragment === null ? text.at(place) : `${text.at(place)} ${name(fragment)}`, file, place)));
         }
         if (file.places.length > LISTED) {
             inner.append(el("li", { class: "hint" }, `and ${(file.places.length - LISTED).toLocaleString("en")} more`));
@@ -167,11 +167,11 @@ function numeric(heading, value, shown = (it) => String(value(it))) {
 }
 
 function containersTable(file) {
-    const rows = file.places.map((place) => ({ place, fragment: file.fragments.find((it) => it.at === place) ?? null }));
+    const rows = file.places.map((place) => ({ place, name: file.nameAt(place) }));
     const columns = [
         { title: "#", text: (it, i) => String(i), value: (it, i) => i, class: "number" },
         { title: "Offset", text: (it) => text.at(it.place), value: (it) => it.place, class: "number", go: (it) => () => choose(file, it.place) },
-        { title: "Fragment", text: (it) => (it.fragment === null ? "" : name(it.fragment.name)) },
+        { title: "Fragment", text: (it) => (it.name === null ? "" : name(it.name)) },
     ];
     return new DataTable({ caption: "Containers in the file", columns, rows, empty: "No container is in the file." });
 }
@@ -204,7 +204,7 @@ function fragmentsTable(file) {
         numeric("Length", (it) => it.length),
         { title: "Error", text: (it) => errorText(it.error) },
     ];
-    columns[6].go = (it) => (file.places.includes(it.at) ? () => choose(file, it.at) : null);
+    columns[6].go = (it) => (file.placeSet.has(it.at) ? () => choose(file, it.at) : null);
     return new DataTable({ caption: "Fragments that the file names", columns, rows: file.fragments });
 }
 

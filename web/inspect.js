@@ -64,6 +64,14 @@ export class File {
         this.resources = [];
         this.fragments = [];
         this.readForks(reader);
+        /** The fragments by the offsets of their containers, the first of each. */
+        this.fragmentAt = new Map([...this.fragments].reverse().map((it) => [it.at, it]));
+        this.placeSet = new Set(this.places);
+    }
+
+    /** Returns the name of the fragment in the container at a place, or null. */
+    nameAt(place) {
+        return this.fragmentAt.get(place)?.name ?? null;
     }
 
     /** Returns whether the file is nothing but a data fork or a resource fork. */

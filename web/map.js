@@ -8,6 +8,9 @@ const WIDTH = 1000;
 
 const HEIGHT = 56;
 
+/** How many errors are marked in a part. */
+const MOST_MARKS = 50;
+
 /** The least width of a part, so that it can be seen and pointed at. */
 const LEAST = 5;
 
@@ -90,7 +93,7 @@ function withGaps(parts, from, end, bytes) {
 export function mapOf(container, go) {
     const parts = partsOf(container);
     const inside = loaderParts(container);
-    const errors = container.findings.filter((it) => it.isError && it.offset !== null).map((it) => it.offset);
+    const errors = container.findings.filter((it) => it.isError && it.offset !== null).map((it) => it.offset).sort((a, b) => a - b);
     const list = [...parts, ...inside];
     const columns = [
         { title: "From", text: (it) => at(it.from), value: (it) => it.from, class: "number", go: (it) => () => go(it.from) },
@@ -110,8 +113,24 @@ function legend() {
     return el("ul", { class: "legend" }, ...items);
 }
 
+/** Returns how many of the errors, whose offsets are in rising order, are in a part. */
 function countIn(part, errors) {
-    return errors.filter((offset) => offset >= part.from && offset < part.to).length;
+    return before(errors, part.to) - before(errors, part.from);
+}
+
+/** Returns how many of some numbers in rising order are below a limit. */
+function before(numbers, limit) {
+    let low = 0;
+    let high = numbers.length;
+    while (low < high) {
+        const middle = (low + high) >> 1;
+        if (numbers[middle] < limit) {
+            low = middle + 1;
+        } else {
+            high = middle;
+        }
+    }
+    return low;
 }
 
 /** Returns a bar of parts. Each is as wide as its bytes, but no narrower than can be seen. */
@@ -135,7 +154,8 @@ function bar(label, parts, errors, go) {
         title.textContent = name;
         const block = svg("rect", { x: x + 0.5, y: 10, width: Math.max(width - 1, 1), height: HEIGHT - 12, class: it.kind });
         const group = svg("g", { tabindex: "0", role: "button", "aria-label": name, onclick: () => go(it.from), onkeydown: onkey }, title, block);
-        for (const offset of errors.filter((place) => place >= it.from && place < it.to).slice(0, 50)) {
+        const first = before(errors, it.from);
+        for (const offset of errors.slice(first, first + Math.min(hurt, MOST_MARKS))) {
             const place = x + (width * (offset - it.from)) / Math.max(it.to - it.from, 1);
             group.append(svg("rect", { x: Math.max(place - 1.5, 0), y: 0, width: 3, height: HEIGHT, class: "error" }));
         }
