@@ -81,7 +81,7 @@ fn added_in_turn(rt: HostRuntime) {
     let containers = containers(rt.alloc(), LATE).expect(&rt, "containers");
     let mut store = CachedStore::new(rt.alloc(), Store::new(rt.alloc()));
     for (count, position, wanted) in ADDED_IN_TURN {
-        add_up_to(&rt, &mut store, &containers, *count);
+        add_up_to(&rt, &mut store, LATE, &containers, *count);
         test_closure(&rt, rt.alloc(), &mut store, *position, wanted);
     }
     assert!(rt; store.find(b"M") == Some(3) && store.find(b"N").is_none());
@@ -92,14 +92,19 @@ fn added_in_turn(rt: HostRuntime) {
 fn add_up_to<'a>(
     rt: &impl Abort,
     store: &mut CachedStore<'a>,
+    fragments: &[Fragment],
     containers: &'a [Vec<u8>],
     count: usize,
 ) {
     for number in store.len()..count {
-        assert!(rt; !store.is_full());
-        let (Some(fragment), Some(bytes)) = (LATE.get(number), containers.get(number)) else {
+        let (Some(fragment), Some(bytes)) = (fragments.get(number), containers.get(number)) else {
             panic!(rt; "no fragment");
         };
-        assert!(rt; store.add(fragment.0.as_bytes(), bytes).is_ok());
+        add(rt, store, fragment, bytes);
     }
+}
+
+fn add<'a>(rt: &impl Abort, store: &mut CachedStore<'a>, fragment: &Fragment, bytes: &'a [u8]) {
+    assert!(rt; !store.is_full());
+    assert!(rt; store.add(fragment.0.as_bytes(), bytes).is_ok());
 }
