@@ -1,5 +1,5 @@
 -- What a sink of findings keeps is known from what it took.
-use Rattle.std.proofs.Common.{◌≡◌, ℕ, Bool, true, false, List, [], ◌∷◌, ◌++◌, length, refl, ap, ap₂, ◌∙◌, arith, append_assoc}
+use Rattle.std.proofs.Common.{◌≡◌, ℕ, zero, suc, Bool, true, false, List, [], ◌∷◌, ◌++◌, length, refl, ap, ap₂, ◌∙◌, arith, append_assoc}
 use Rattle.std.specs.Option.{unwrap_or}
 use Rattle.pef_inspect.specs.declared.finding.Finding.{Finding}
 use Rattle.pef_c.specs.Kept.{flag, kept, numbers, places_kept}
@@ -57,9 +57,14 @@ same_kept name name' from from' old old' xs ys is =
     let rest = places_are old old' xs ys (third_is _ _ _ _ _ _ head) (cc is) in
     record { name_is = first_is _ _ _ _ _ _ head; from_is = second_is _ _ _ _ _ _ head; old_is = rest.0; items_are = rest.1 }
 
--- a sink that took some findings, and then others
+-- a sink that took some findings more
+pub took : (name name' from from' : ℕ) (old old' : List PefFinding) (xs xs' more : List Finding)
+    → kept name' from' old' ++ xs' ≡ (kept name from old ++ xs) ++ more → Same name' name from' from old' old xs' (xs ++ more)
+took name name' from from' old old' xs xs' more is =
+    same_kept name' name from' from old' old xs' (xs ++ more) (is ∙ append_assoc (kept name from old) xs more)
+
+-- .. and then others
 pub took_more : (name name' from from' : ℕ) (old old' : List PefFinding) (xs xs' : List Finding) (taken some others : List Finding)
     → taken ≡ (kept name from old ++ xs) ++ some → kept name' from' old' ++ xs' ≡ taken ++ others → Same name' name from' from old' old xs' (xs ++ (some ++ others))
 took_more name name' from from' old old' xs xs' taken some others first then =
-    same_kept name' name from' from old' old xs' (xs ++ (some ++ others))
-    (then ∙ ap (λ (t : List Finding). t ++ others) first ∙ append_assoc (kept name from old ++ xs) some others ∙ append_assoc (kept name from old) xs (some ++ others))
+    took name name' from from' old old' xs xs' (some ++ others) (then ∙ ap (λ (t : List Finding). t ++ others) first ∙ append_assoc (kept name from old ++ xs) some others)

@@ -1,9 +1,10 @@
 -- The errors of a container and the notes on it as C sees them, and what `pef_findings` returns and writes.
-use Rattle.std.specs.Prelude.{◌≡◌, ℕ, Bool, List, ◌++◌, Some, map}
+use Rattle.std.specs.Prelude.{◌≡◌, ◌↔◌, ◌==◌, ℕ, Bool, IsTrue, List, ◌++◌, MatchBool, Some, map}
 use Rattle.std.specs.Option.{unwrap_or}
 use Rattle.pef_inspect.specs.Errors.{errors_of}
 use Rattle.pef_inspect.specs.Findings.{finding_number, is_error}
-use Rattle.pef_inspect.specs.Oddities.{notes_of}
+use Rattle.pef_inspect.specs.More.{AreMore}
+use Rattle.pef_inspect.specs.Oddities.{HasIrregularExports, notes_of}
 use Rattle.pef_inspect.specs.declared.finding.Cause.{Cause}
 use Rattle.pef_inspect.specs.declared.finding.Cause.TheVariants as cause
 use Rattle.pef_inspect.specs.declared.finding.Finding.{Finding}
@@ -34,12 +35,20 @@ cause_detail (cause.Note n) = note_detail n
 abbrev pub finding_row : Finding → PefFinding
 finding_row f = record { place = place_or_nowhere (Some f.place); detail = cause_detail f.cause; number = finding_number f; is_error = is_error f }
 
--- all errors of some bytes as a container, and all notes that need no memory. Whether its exports are noted as irregular is open
+-- all errors of some bytes as a container, and all notes that need no memory, by whether its exports are irregular
 abbrev pub rows_of : List ℕ → Bool → List PefFinding
 rows_of bytes irregular = map finding_row (errors_of bytes ++ notes_of bytes irregular)
 
 -- `pef_findings`: 0, and the rows from a number on are in the first places, and counted
 pub record FindingsAnswer (bytes : List ℕ) (from : ℕ) (old new : List PefFinding) (after answer : ℕ) : Type 0 where
   pub irregular : Bool
+  pub exact : IsTrue irregular ↔ HasIrregularExports bytes
   pub filled : FillsPart (rows_of bytes irregular) from old new after
   pub number_is : answer ≡ 0
+
+-- `pef_more_notes`: 0, and the notes that need memory are in the first places, from a number on, and counted; or 99, and nothing is
+-- written
+abbrev pub MoreNotesAnswer : List ℕ → ℕ → List PefFinding → List PefFinding → ℕ → ℕ → ℕ → Type 0
+MoreNotesAnswer bytes from old new before after answer =
+    MatchBool (answer == 0) ((found : List Finding) × AreMore bytes found × FillsPart (map finding_row found) from old new after)
+    ((answer ≡ 99) × (new ≡ old) × (after ≡ before))

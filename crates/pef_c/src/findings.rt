@@ -1,17 +1,20 @@
-//! The errors of a container and the notes on it, also of one that is damaged. Nothing is allocated.
-ghost use Rattle.std.specs.Prelude.{◌≡◌, ◌-◌, ◌++◌, [], Bool, length, map};
+//! The errors of a container and the notes on it, also of one that is damaged.
+ghost use Rattle.std.specs.Prelude.{◌≡◌, ◌-◌, ◌++◌, [], length, map};
 ghost use Rattle.pef_inspect.specs.Errors.{errors_of};
-ghost use Rattle.pef_inspect.specs.Oddities.{notes_of};
+ghost use Rattle.pef_inspect.specs.Oddities.{Adds, HasIrregularExports, notes_of};
 ghost use Rattle.pef_c.specs.Buffers.{FillsPart};
-ghost use Rattle.pef_c.specs.Findings.{FindingsAnswer, cause_detail, finding_row, note_detail};
+ghost use Rattle.pef_c.specs.Findings.{FindingsAnswer, MoreNotesAnswer, cause_detail, finding_row, note_detail};
 
+use crate::answers::OUT_OF_MEMORY;
 use crate::log::Log;
 use crate::place::place_or_nowhere;
 use crate::structs::PefFinding;
-use pef_inspect::{Cause, Finding, Findings, Note, find_errors, find_notes};
+use pef_inspect::{Cause, Finding, Findings, Note, find_errors, find_more_notes, find_notes};
+use std::alloc::Global;
 use std::convert::Infallible;
 
 /// Reads the errors of a container and then the notes on it, from number `from` on, into the first places, and counts them.
+/// Nothing is allocated.
 ///
 /// Returns 0.
 #[unsafe(no_mangle)]
@@ -25,6 +28,29 @@ pub extern "C" fn pef_findings(
 {
     let mut filling = Filling::new(places, from);
     filling.find(container);
+    *count = filling.count;
+    0
+}
+
+/// Reads the notes on a container that need memory, from number `from` on, into the first places, and counts them.
+///
+/// Returns 0, or 99 if an allocation fails.
+#[unsafe(no_mangle)]
+pub extern "C" fn pef_more_notes(
+    alloc: Global,
+    container: &[u8],
+    from: usize,
+    places: &mut [PefFinding],
+    count: &mut usize,
+) -> u32
+    ensures { MoreNotesAnswer container.now from places.old places.new count.old count.new result }
+{
+    let found = match find_more_notes(alloc, container) {
+        Ok(found) => found,
+        Err(_) => return OUT_OF_MEMORY,
+    };
+    let mut filling = Filling::new(places, from);
+    filling.take_each(&found);
     *count = filling.count;
     0
 }
@@ -98,7 +124,7 @@ impl<'p> Filling<'p> {
         ensures same_reference { self.new.places.ghost_name ≡ self.old.places.ghost_name }
         ensures from { self.new.from ≡ self.old.from }
         ensures start { self.new.start.items ≡ self.old.start.items }
-        ensures found { (irregular : Bool) × (self.new.taken.items ≡ self.old.taken.items ++ (errors_of bytes.now ++ notes_of bytes.now irregular)) }
+        ensures found { Adds self.old.taken.items self.new.taken.items (λ irregular. errors_of bytes.now ++ notes_of bytes.now irregular) (HasIrregularExports bytes.now) }
     {
         match find_errors(bytes, self) {
             Ok(()) => {}
@@ -107,6 +133,21 @@ impl<'p> Filling<'p> {
         match find_notes(bytes, self) {
             Ok(()) => {}
             Err(error) => match error {},
+        }
+    }
+
+    /// Fills places with these findings.
+    fn take_each(&mut self, found: &[Finding])
+        ensures same_reference { self.new.places.ghost_name ≡ self.old.places.ghost_name }
+        ensures from { self.new.from ≡ self.old.from }
+        ensures start { self.new.start.items ≡ self.old.start.items }
+        ensures found { self.new.taken.items ≡ self.old.taken.items ++ found.now }
+    {
+        for finding in found {
+            match self.take(*finding) {
+                Ok(()) => {}
+                Err(error) => match error {},
+            }
         }
     }
 }

@@ -5,9 +5,10 @@ use crate::structs::{
     PefSection,
 };
 use crate::{
-    pef_exports, pef_findings, pef_header, pef_help, pef_libraries, pef_name, pef_partial_exports,
-    pef_partial_header, pef_partial_imports, pef_partial_libraries, pef_partial_loader,
-    pef_partial_relocations, pef_partial_section, pef_partial_section_name, pef_section,
+    pef_exports, pef_findings, pef_header, pef_help, pef_libraries, pef_more_notes, pef_name,
+    pef_partial_exports, pef_partial_header, pef_partial_imports, pef_partial_libraries,
+    pef_partial_loader, pef_partial_relocations, pef_partial_section, pef_partial_section_name,
+    pef_section,
 };
 
 /// One section, a loader section of 56 bytes at 68. The format version is 2, the reserved field is 7, and the main entry point is
@@ -62,6 +63,27 @@ fn findings(rt: HostRuntime) {
     // what is no container has one error, at its beginning
     assert!(rt; pef_findings(b"", 0, &mut two, &mut count) == 0 && count == 1);
     assert!(rt; two[0] == finding(1, 1, 0, 0));
+}
+
+#[test]
+fn more_notes(rt: HostRuntime) {
+    // six bytes follow the loader section
+    let mut longer = [1; 130];
+    let Some((front, _)) = longer.split_at_mut_checked(124) else {
+        panic!(rt; "a short room");
+    };
+    front.copy_from_slice(DAMAGED);
+    let trailing = PefFinding {
+        detail: 6,
+        ..finding(109, 1, 124, 124)
+    };
+    let mut places = [NO_FINDING; 2];
+    let mut count = 7;
+    let alloc = rt.alloc();
+    assert!(rt; pef_more_notes(alloc, &longer, 0, &mut places, &mut count) == 0 && count == 1);
+    assert!(rt; places[0] == trailing && places[1] == NO_FINDING);
+    assert!(rt; pef_more_notes(alloc, &longer, 1, &mut places, &mut count) == 0 && count == 0);
+    assert!(rt; pef_more_notes(alloc, DAMAGED, 0, &mut places, &mut count) == 0 && count == 0);
 }
 
 #[test]
@@ -192,7 +214,7 @@ fn exports_of_no_table(rt: HostRuntime) {
     assert!(rt; pef_partial_exports(container, 0, &mut exports, &mut count) == 0 && count == 1);
     assert!(rt; exports[0].name == b"answer".as_slice() && exports[0].class == 1);
     // without its last byte the export table isn't whole
-    let Some((cut, _)) = container.split_at_checked(container.len() - 1) else {
+    let Some((cut, _)) = container.split_at_checked(container.len().saturating_sub(1)) else {
         panic!(rt; "no container");
     };
     assert!(rt; pef_exports(cut, 0, &mut exports, &mut count) == 6);

@@ -56,7 +56,7 @@ pub use context::{
     pef_add, pef_close, pef_free, pef_open, pef_prepare, pef_prepare_with_place, pef_reserve,
 };
 pub use expand::pef_expand;
-pub use findings::pef_findings;
+pub use findings::{pef_findings, pef_more_notes};
 pub use fixups::pef_fixups;
 pub use fragments::{
     pef_fragment_bytes, pef_fragment_entries, pef_fragment_name, pef_fragment_section,

@@ -1,6 +1,8 @@
 -- What was taken begins with what is kept.
 use Rattle.pef_inspect.specs.Errors.{errors_of}
 use Rattle.pef_inspect.specs.Oddities.{notes_of}
+use Rattle.pef_c.specs.Kept.{kept}
+use Rattle.std.proofs.Common.{◌++◌}
 use Rattle.pef_c.proofs.KeptLemmas.{took_more}
 use Rattle.pef_c.proofs.findings.Filling.find.Goals as goal
 
@@ -10,7 +12,7 @@ returns-clause-same_reference c =
     let new = c.find_notes.new.sink in
     let notes = c.in-Ok-find_notes.ensures in
     (took_more old.places.ghost_name new.places.ghost_name old.from new.from old.start.items new.start.items old.taken.items new.taken.items _
-    (errors_of c.args.bytes.now) (notes_of c.args.bytes.now notes.0) c.in-Ok.ensures notes.1).name_is
+    (errors_of c.args.bytes.now) (notes_of c.args.bytes.now notes.answer) c.in-Ok.ensures notes.taken).name_is
 
 pub returns-clause-from : goal.returns-clause-from
 returns-clause-from c =
@@ -18,7 +20,7 @@ returns-clause-from c =
     let new = c.find_notes.new.sink in
     let notes = c.in-Ok-find_notes.ensures in
     (took_more old.places.ghost_name new.places.ghost_name old.from new.from old.start.items new.start.items old.taken.items new.taken.items _
-    (errors_of c.args.bytes.now) (notes_of c.args.bytes.now notes.0) c.in-Ok.ensures notes.1).from_is
+    (errors_of c.args.bytes.now) (notes_of c.args.bytes.now notes.answer) c.in-Ok.ensures notes.taken).from_is
 
 pub returns-clause-start : goal.returns-clause-start
 returns-clause-start c =
@@ -26,14 +28,13 @@ returns-clause-start c =
     let new = c.find_notes.new.sink in
     let notes = c.in-Ok-find_notes.ensures in
     (took_more old.places.ghost_name new.places.ghost_name old.from new.from old.start.items new.start.items old.taken.items new.taken.items _
-    (errors_of c.args.bytes.now) (notes_of c.args.bytes.now notes.0) c.in-Ok.ensures notes.1).old_is
+    (errors_of c.args.bytes.now) (notes_of c.args.bytes.now notes.answer) c.in-Ok.ensures notes.taken).old_is
 
 pub returns-clause-found : goal.returns-clause-found
 returns-clause-found c =
     let old = c.args.self.now in
     let new = c.find_notes.new.sink in
-    let notes = c.in-Ok-find_notes.ensures in (
-      notes.0,
-      (took_more old.places.ghost_name new.places.ghost_name old.from new.from old.start.items new.start.items old.taken.items new.taken.items _
-          (errors_of c.args.bytes.now) (notes_of c.args.bytes.now notes.0) c.in-Ok.ensures notes.1).items_are,
-    )
+    let notes = c.in-Ok-find_notes.ensures in
+    let more = took_more old.places.ghost_name new.places.ghost_name old.from new.from old.start.items new.start.items old.taken.items new.taken.items _
+    (errors_of c.args.bytes.now) (notes_of c.args.bytes.now notes.answer) c.in-Ok.ensures notes.taken in
+    record { answer = notes.answer; exact = notes.exact; taken = more.items_are }
