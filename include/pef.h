@@ -160,8 +160,12 @@ struct pef_bytes {
 #define PEF_NOTE_EXPORT_OUTSIDE 106
 #define PEF_NOTE_WORD_OUTSIDE_IMAGE 107
 #define PEF_NOTE_IRREGULAR_EXPORTS 108
+#define PEF_NOTE_TRAILING_BYTES 109
 #define PEF_NOTE_PROGRAMS_UNVERIFIED 110
 #define PEF_NOTE_IMAGES_UNVERIFIED 111
+#define PEF_NOTE_OVERLAP 112
+#define PEF_NOTE_UNOWNED_BYTES 113
+#define PEF_NOTE_WORD_RELOCATED_TWICE 114
 
 /* Only this library returns these: the caller's buffer is too small; there is no such thing; the context isn't open; a
  * fragment is added after a connection was given; the context has as many fragments as it may; the granule is none; the
@@ -315,9 +319,11 @@ uint32_t pef_container_place(const uint8_t *container, size_t container_length, 
 uint32_t pef_script_place(const uint8_t *script, size_t script_length, struct pef_place *place, size_t *earlier);
 
 /*
- * An error of a container, or a note on it, and where it is. Errors have numbers below 100, notes from 101 on. `detail` is an offset
- * in a section for errors and notes that are about a relocated word, PEF_RELOC_WORD_OUTSIDE to PEF_RELOC_SECTION_OUTSIDE and
- * PEF_NOTE_WORD_OUTSIDE_IMAGE; for the others it is 0.
+ * An error of a container, or a note on it, and where it is. Errors have numbers below 100, notes from 101 on.
+ *
+ * For PEF_RELOC_WORD_OUTSIDE, PEF_RELOC_IMPORT_OUTSIDE, PEF_RELOC_SECTION_OUTSIDE, PEF_NOTE_WORD_OUTSIDE_IMAGE and
+ * PEF_NOTE_WORD_RELOCATED_TWICE, `detail` is the offset of the relocated word in its section. For PEF_NOTE_TRAILING_BYTES, PEF_NOTE_OVERLAP and
+ * PEF_NOTE_UNOWNED_BYTES it is a number of bytes. For the others it is 0.
  */
 struct pef_finding {
     struct pef_place place;
@@ -327,9 +333,9 @@ struct pef_finding {
 };
 
 /*
- * Finds all errors of a container, 1 to 39, and then what is odd about it: it reads them from number `from` on into the first of
- * `places`, and stores how many they were in `*count`, as many as there are from there on, or as there are places. The other places
- * are left unchanged. Returns PEF_OK. It allocates nothing.
+ * Finds all errors of a container, 1 to 39, and then what is odd about it, except what pef_more_notes() finds. It reads them from number
+ * `from` on into the first of `places`, and stores how many they were in `*count`: as many as there are from there on, or as there are
+ * places. The other places are left unchanged. Returns PEF_OK. It allocates nothing.
  *
  * Packed data is expanded and relocation programs are run, without keeping what they make. So a container without errors is refused
  * by no preparation, as far as its own bytes are concerned. If its programs or its packed data ask for too much, a note says
@@ -339,6 +345,15 @@ struct pef_finding {
  * Each call reads the whole container, so read many at once.
  */
 uint32_t pef_findings(const uint8_t *container, size_t container_length, size_t from, struct pef_finding *places, size_t place_count, size_t *count);
+
+/*
+ * Finds the notes that need memory, PEF_NOTE_TRAILING_BYTES, PEF_NOTE_OVERLAP, PEF_NOTE_UNOWNED_BYTES and
+ * PEF_NOTE_WORD_RELOCATED_TWICE, and reads and counts them as pef_findings() does. If programs name too many words, there is also
+ * PEF_NOTE_PROGRAMS_UNVERIFIED.
+ *
+ * Returns PEF_OK; or PEF_OUT_OF_MEMORY, and leaves `places` and `*count` unchanged.
+ */
+uint32_t pef_more_notes(const uint8_t *container, size_t container_length, size_t from, struct pef_finding *places, size_t place_count, size_t *count);
 
 /*
  * The calls below read a container anew from its bytes each time, and allocate nothing. They return PEF_OK; or the first
