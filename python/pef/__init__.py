@@ -354,6 +354,7 @@ _CALLS: Dict[str, List[Any]] = {
     "pef_container_place": _IN + [ctypes.POINTER(_Place)],
     "pef_script_place": _IN + [ctypes.POINTER(_Place)] + _SIZE,
     "pef_findings": _IN + [ctypes.c_size_t, ctypes.POINTER(_Finding), ctypes.c_size_t] + _SIZE,
+    "pef_more_notes": _IN + [ctypes.c_size_t, ctypes.POINTER(_Finding), ctypes.c_size_t] + _SIZE,
     "pef_header": _IN + [ctypes.POINTER(_Header)],
     "pef_section": _IN + [ctypes.c_size_t, ctypes.POINTER(_Section), ctypes.POINTER(_Bytes)],
     "pef_section_name": _IN + [ctypes.c_size_t, ctypes.POINTER(_Bytes)],
@@ -483,8 +484,8 @@ def link(script: Text) -> bytes:
 
 # --- what is wrong with a container ---
 
-#: The errors and notes that are about a relocated word.
-_ABOUT_A_WORD = {37, 38, 39, 107}
+#: The errors and notes that have a detail: those about a relocated word, and those about a number of bytes.
+_DETAILED = {37, 38, 39, 107, 114} | {109, 112, 113}
 
 
 @dataclasses.dataclass(frozen=True)
@@ -492,7 +493,8 @@ class Finding:
     """An error of a container, or a note on it: something odd that breaks no rule.
 
     `part` is the kind of part that it is about, `row` the number of the part among those of its kind, `field` the offset in the part,
-    and `offset` that in the container, or None. `detail` is the offset in its section of a relocated word, or None if it is about none.
+    and `offset` that in the container, or None. `detail` is the offset of a relocated word in its section (37 to 39, 107 and 114), or a
+    number of bytes (109, 112 and 113), or None.
 
     >>> damaged = bytearray(link("section d data process 4 4\\nbytes d 0000002A\\n"))
     >>> damaged[15] = 2
@@ -524,15 +526,15 @@ class Finding:
 
 def _finding(row: _Finding) -> Finding:
     offset = None if row.place.offset == _NO_OFFSET else row.place.offset
-    detail = row.detail if row.number in _ABOUT_A_WORD else None
+    detail = row.detail if row.number in _DETAILED else None
     return Finding(row.number, name_of(row.number) or "Unknown", row.is_error, Part(row.place.part), row.place.row, row.place.field, offset, detail)
 
 
 def inspect(contents: bytes) -> List[Finding]:
     """All errors of a container, and then what is odd about it.
 
-    Nothing is raised: bytes that are no container have one error. A container without errors is refused by no preparation, as
-    far as its own bytes are concerned.
+    Bytes that are no container have one error. A container without errors is refused by no preparation, as far as its own bytes are
+    concerned. Raises PefError: 99.
 
     >>> inspect(link("section d data process 4 4\\nbytes d 0000002A\\n"))
     []
@@ -540,7 +542,8 @@ def inspect(contents: bytes) -> List[Finding]:
     [(1, 'TooShort')]
     """
     raw = bytes(contents)
-    return [_finding(row) for row in _all_rows("pef_findings", raw, _Finding)]
+    calls = ["pef_findings"] + ["pef_more_notes"] * hasattr(library(), "pef_more_notes")
+    return [_finding(row) for call in calls for row in _all_rows(call, raw, _Finding)]
 
 
 def _all_rows(call: str, contents: bytes, row: Any, slice_name: Optional[str] = None) -> List[Any]:
