@@ -160,24 +160,28 @@ static void list(const uint8_t *bytes, size_t length)
     free(part);
 }
 
+static bool is_same_finding(const struct pef_finding *one, const struct pef_finding *other)
+{
+    return one->place.part == other->place.part && one->place.row == other->place.row && one->place.field == other->place.field
+        && one->place.offset == other->place.offset && one->detail == other->detail && one->number == other->number && one->is_error == other->is_error;
+}
+
 /* Finds what is wrong with a container, in two parts, and compares it with what the other calls reported: `read` is what reading the
  * container answered, and `prepared` what its preparation alone did. */
 static void find(const uint8_t *bytes, size_t length, uint32_t read, uint32_t prepared)
 {
     static struct pef_finding all[FINDINGS], some[FINDINGS];
     size_t count = 0, first = 0, others = 0;
-    memset(all, 0, sizeof all);
-    memset(some, 0, sizeof some);
     if (pef_findings(bytes, length, 0, all, FINDINGS, &count) != PEF_OK || pef_findings(bytes, length, 0, some, PLACES, &first) != PEF_OK
         || pef_findings(bytes, length, first, some + first, FINDINGS - first, &others) != PEF_OK)
         fails("pef_findings", (uint32_t)count);
-    if (first + others != count || memcmp(some, all, sizeof all) != 0)
+    if (first + others != count)
         fails("pef_findings, in parts", (uint32_t)count);
     uint32_t error = PEF_OK;
     bool is_among = count == FINDINGS;
     for (size_t i = 0; i < count; i++) {
         struct pef_bytes name = PEF_NO_BYTES;
-        if (pef_name(all[i].number, &name) != PEF_OK || name.length == 0 || all[i].is_error != (all[i].number < 100))
+        if (!is_same_finding(&all[i], &some[i]) || pef_name(all[i].number, &name) != PEF_OK || name.length == 0 || all[i].is_error != (all[i].number < 100))
             fails("a finding", all[i].number);
         if (error == PEF_OK && all[i].is_error)
             error = all[i].number;
@@ -188,6 +192,10 @@ static void find(const uint8_t *bytes, size_t length, uint32_t read, uint32_t pr
         fails("the first error", error);
     if (prepared != PEF_OK && prepared <= PEF_RELOC_SECTION_OUTSIDE && !is_among)
         fails("an error of a preparation that isn't found", prepared);
+    if (is_ok("pef_more_notes", pef_more_notes(bytes, length, 0, some, FINDINGS, &others)))
+        for (size_t i = 0; i < others; i++)
+            if (some[i].is_error || some[i].number < 100)
+                fails("a note", some[i].number);
 }
 
 /* Reads a container that may be damaged as far as it can be read. */

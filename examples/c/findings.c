@@ -65,6 +65,21 @@ static void test_by_hand(void)
     expect(pef_partial_header(one_section, 39, &header) == PEF_TOO_SHORT, "39 bytes");
 }
 
+/* Six bytes after the last part. */
+static void test_more_notes(void)
+{
+    uint8_t longer[ONE_SECTION + 6];
+    struct pef_finding found[2];
+    size_t count = 7;
+    memset(longer, 1, sizeof longer);
+    memcpy(longer, one_section, ONE_SECTION);
+    expect(pef_more_notes(longer, sizeof longer, 0, found, 2, &count) == PEF_OK && count == 1, "one note");
+    expect_finding(&found[0], PEF_NOTE_TRAILING_BYTES, PEF_CONTAINER_HEADER_PART, 0, ONE_SECTION, ONE_SECTION, 6);
+    expect(pef_more_notes(longer, sizeof longer, 1, found, 2, &count) == PEF_OK && count == 0, "no other");
+    expect(pef_more_notes(one_section, ONE_SECTION, 0, found, 2, &count) == PEF_OK && count == 0, "none without these bytes");
+    expect(pef_more_notes(NULL, 0, 0, NULL, 0, &count) == PEF_OK && count == 0, "none of no bytes");
+}
+
 /* A word that is relocated past its section. The section has 8 bytes, and its program, a run of two words (4001), is changed to a run
  * of three (4002): the third is at 8. */
 static void test_detail(void)
@@ -89,6 +104,12 @@ static bool is_part(struct pef_bytes part, const uint8_t *bytes, size_t length)
     return part.length == 0 || (part.at >= bytes && part.length <= length && (size_t)(part.at - bytes) <= length - part.length);
 }
 
+static bool is_same_finding(const struct pef_finding *one, const struct pef_finding *other)
+{
+    return one->place.part == other->place.part && one->place.row == other->place.row && one->place.field == other->place.field
+        && one->place.offset == other->place.offset && one->detail == other->detail && one->number == other->number && one->is_error == other->is_error;
+}
+
 static bool is_same(struct pef_bytes one, struct pef_bytes other)
 {
     return one.length == other.length && (one.length == 0 || one.at == other.at);
@@ -99,16 +120,29 @@ static size_t find(const uint8_t *bytes, size_t length, struct pef_finding *rows
 {
     static struct pef_finding parts[ROWS];
     size_t count = 0, from = 0, some = 0;
-    memset(rows, 0, ROWS * sizeof *rows);
-    memset(parts, 0, sizeof parts);
     expect(pef_findings(bytes, length, 0, rows, ROWS, &count) == PEF_OK && count <= ROWS, "pef_findings");
     do {
         size_t most = ROWS - from < 7 ? ROWS - from : 7;
         expect(pef_findings(bytes, length, from, parts + from, most, &some) == PEF_OK && some <= most, "pef_findings, in parts");
         from += some;
     } while (some == 7 && from < ROWS);
-    expect(from == count && memcmp(parts, rows, count * sizeof *rows) == 0, "the same findings in parts");
+    expect(from == count, "as many findings in parts");
+    for (size_t i = 0; i < count && i < from; i++)
+        expect(is_same_finding(&parts[i], &rows[i]), "the same findings in parts");
     return count;
+}
+
+/* The notes that need memory are notes, too. */
+static void check_more_notes(const uint8_t *bytes, size_t length)
+{
+    static struct pef_finding rows[PLACES];
+    size_t count = 0;
+    expect(pef_more_notes(bytes, length, 0, rows, PLACES, &count) == PEF_OK && count <= PLACES, "pef_more_notes");
+    for (size_t i = 0; i < count; i++) {
+        struct pef_bytes name = PEF_NO_BYTES;
+        expect(!rows[i].is_error && rows[i].number > 100 && pef_name(rows[i].number, &name) == PEF_OK, "a note");
+        expect(rows[i].place.offset < length && (rows[i].number == PEF_NOTE_PROGRAMS_UNVERIFIED || rows[i].number == PEF_NOTE_WORD_RELOCATED_TWICE || rows[i].detail <= length), "its place");
+    }
 }
 
 static void check_rows(const struct pef_finding *rows, size_t count, size_t length)
@@ -175,7 +209,7 @@ static void check_parts(const uint8_t *bytes, size_t length)
     struct pef_header header = {0}, sound = {0};
     uint32_t answer = pef_partial_header(bytes, length, &header);
     expect(answer == PEF_OK || answer == PEF_TOO_SHORT || answer == PEF_BAD_TAG, "pef_partial_header");
-    if (pef_header(bytes, length, &sound) == PEF_OK)
+    if (pef_header(bytes, length, &sound) == PEF_OK)  /* a struct without padding */
         expect(answer == PEF_OK && memcmp(&header, &sound, sizeof header) == 0, "the same header");
     for (size_t i = 0; i < 8; i++) {
         struct pef_section section, other;
@@ -185,7 +219,7 @@ static void check_parts(const uint8_t *bytes, size_t length)
         answer = pef_partial_section(bytes, length, i, &section, &raw);
         expect(answer != PEF_OK || (is_part(raw, bytes, length) && raw.length <= section.packed_size), "pef_partial_section");
         if (pef_section(bytes, length, i, &other, &more) == PEF_OK)
-            expect(answer == PEF_OK && memcmp(&section, &other, sizeof section) == 0 && is_same(raw, more), "the same section");
+            expect(answer == PEF_OK && memcmp(&section, &other, offsetof(struct pef_section, alignment) + 1) == 0 && is_same(raw, more), "the same section");
         answer = pef_partial_section_name(bytes, length, i, &name);
         expect(answer != PEF_OK || is_part(name, bytes, length), "pef_partial_section_name");
     }
@@ -233,6 +267,7 @@ static void inspect(const uint8_t *bytes, size_t length, size_t at, uint8_t turn
         copy[at] ^= turned;
     size_t count = find(copy, length, rows);
     check_rows(rows, count, length);
+    check_more_notes(copy, length);
     check_against_readers(copy, length, rows, count);
     check_parts(copy, length);
     check_tables(copy, length);
@@ -267,6 +302,7 @@ int main(int count, char **words)
         inspect_file(words[1]);
     } else {
         test_by_hand();
+        test_more_notes();
         test_detail();
     }
     printf("%zu tried, %zu wrong\n", tried, wrong);

@@ -1,6 +1,6 @@
 /*
- * Refuses each growth in turn: refused SCRIPT links the script and lists its container, once for each growth that the two
- * calls ask for. The call has to return PEF_OUT_OF_MEMORY and to write nothing; or, where it can do without the growth, to
+ * Refuses each growth in turn: refused SCRIPT links the script, lists its container, and finds the notes on that with bytes after it
+ * that need memory, once for each growth that these calls ask for. The call has to return PEF_OUT_OF_MEMORY and to write nothing; or, where it can do without the growth, to
  * return what it returns with memory. No block is left behind, and the same call works when it is made again.
  */
 #include "file.h"
@@ -10,10 +10,12 @@
 
 enum { ROOM = 1 << 20 };
 
-/* One of the two calls, the bytes that it takes, and what it writes when it has memory. */
+/* One of the calls, the bytes that it takes, and what it writes when it has memory. */
+enum kind { LINK, LIST, NOTES };
+
 struct trial {
     const char *name;
-    bool lists;
+    enum kind kind;
     const uint8_t *bytes;
     size_t length;
     uint8_t *wanted;
@@ -22,11 +24,27 @@ struct trial {
 
 static uint8_t room[ROOM];
 
+/* Finds notes, and writes their numbers as bytes. */
+static uint32_t find_notes(const uint8_t *bytes, size_t length, uint8_t *out, size_t *written)
+{
+    static struct pef_finding rows[64];
+    uint32_t answer = pef_more_notes(bytes, length, 0, rows, 64, written);
+    for (size_t i = 0; answer == PEF_OK && i < *written; i++)
+        out[i] = (uint8_t)rows[i].number;
+    return answer;
+}
+
 static uint32_t call(const struct trial *trial, uint8_t *out, size_t *written)
 {
     size_t line;
-    return trial->lists ? pef_list(trial->bytes, trial->length, out, ROOM, written)
-                        : pef_link(trial->bytes, trial->length, out, ROOM, written, &line);
+    switch (trial->kind) {
+    case LINK:
+        return pef_link(trial->bytes, trial->length, out, ROOM, written, &line);
+    case LIST:
+        return pef_list(trial->bytes, trial->length, out, ROOM, written);
+    default:
+        return find_notes(trial->bytes, trial->length, out, written);
+    }
 }
 
 static bool is_untouched(size_t written)
@@ -78,12 +96,14 @@ static bool sweep(struct trial *trial)
 
 int main(int count, char **words)
 {
-    static uint8_t container[ROOM], lines[ROOM];
+    static uint8_t container[ROOM], lines[ROOM], numbers[ROOM];
     if (count != 2) {
         fputs("usage: refused SCRIPT\n", stderr);
         return 2;
     }
-    struct trial link = {.name = "pef_link", .wanted = container}, list = {.name = "pef_list", .lists = true, .wanted = lines};
+    struct trial link = {.name = "pef_link", .kind = LINK, .wanted = container};
+    struct trial list = {.name = "pef_list", .kind = LIST, .wanted = lines};
+    struct trial notes = {.name = "pef_more_notes", .kind = NOTES, .wanted = numbers};
     uint8_t *script = read_file(words[1], &link.length);
     if (script == NULL) {
         perror(words[1]);
@@ -94,5 +114,9 @@ int main(int count, char **words)
     free(script);
     list.bytes = container;
     list.length = link.wanted_length;
-    return right && sweep(&list) ? 0 : 1;
+    right = right && sweep(&list);
+    memset(container + link.wanted_length, 1, 6);
+    notes.bytes = container;
+    notes.length = link.wanted_length + 6;
+    return right && sweep(&notes) && notes.wanted_length == 1 && numbers[0] == PEF_NOTE_TRAILING_BYTES ? 0 : 1;
 }

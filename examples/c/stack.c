@@ -146,6 +146,12 @@ static void call_findings(void)
     answer = pef_findings(it.at, it.length, 0, rows, PLACES, &count);
 }
 
+static void call_more_notes(void)
+{
+    static struct pef_finding rows[PLACES];
+    answer = pef_more_notes(it.at, it.length, 0, rows, PLACES, &count);
+}
+
 static void call_partial(void)
 {
     static struct pef_header header;
@@ -229,6 +235,7 @@ static void measure_container(const char *what)
     measure("pef_fixups", what, call_fixups);
     measure("pef_exports", what, call_exports);
     measure("pef_findings", what, call_findings);
+    measure("pef_more_notes", what, call_more_notes);
     measure("a call that reads damaged containers", what, call_partial);
     measure("pef_open", what, call_open);
     if (pef_add(&context, (const uint8_t *)"0", 1, it.at, it.length) != PEF_OK)
