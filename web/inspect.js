@@ -185,7 +185,7 @@ export class Container {
         this.offset = offset;
         this.slice = new Slice(reader.file.address + offset, reader.file.length - offset);
         this.header = this.readHeader();
-        this.sections = this.read("page_sections", 9).map((row, i) => this.section(row, i)).filter((it) => it !== null);
+        this.sections = this.readSections();
         this.loader = this.readLoader();
         this.libraries = this.read("page_libraries", 5).map((row, i) => this.library(row, i));
         this.imports = this.read("page_imports", 3).map((row, i) => this.import(row, i));
@@ -231,10 +231,13 @@ export class Container {
         return { architecture, format, date, oldDef, oldImp, current, sections, instantiated, reserved };
     }
 
+    /** Reads all sections whose headers are in the bytes. */
+    readSections() {
+        const rows = Math.max(0, Math.floor((this.slice.length - CONTAINER_HEADER) / SECTION_HEADER));
+        return this.reader.table("page_sections", [this.slice], 9, 0, { ...ALL, rows }).rows.map((row, i) => this.section(row, i));
+    }
+
     section(row, i) {
-        if (row.bytes === null) {
-            return null;
-        }
         const [address, total, unpacked, packed, offset, kind, share, alignment, reserved] = row.numbers;
         return {
             offset: this.offset + CONTAINER_HEADER + SECTION_HEADER * i,
