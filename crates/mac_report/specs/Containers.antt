@@ -1,11 +1,15 @@
 -- What is printed of the containers of a file, in the order in which a search finds them. The budget, which keeps the
 -- work for a file linear in its length, is this project's own.
-use Rattle.std.specs.Prelude.{◌≡◌, ℕ, ◌+◌, ◌-◌, ◌*◌, ◌^◌, ◌==◌, Bool, true, false, List, [], ◌∷◌, ◌++◌, codes, decimal, drop, length, min, nat_lt, unwrap_or, if◌then◌else◌}
+use Rattle.std.specs.Prelude.{◌≡◌, ℕ, ◌+◌, ◌-◌, ◌*◌, ◌^◌, ◌==◌, ◌&&◌, Bool, true, false, List, [], ◌∷◌, ◌++◌, Option, None, Some, codes, decimal, drop, length, min, nat_le, nat_lt, unwrap_or, if◌then◌else◌}
+use Rattle.std.specs.Option.{option_or}
+use Rattle.mac_forks.specs.Parts.{Lying}
 use Rattle.pef_words.specs.Bytes.{number_at}
 use Rattle.pef_report.specs.Inspection as inspection
 use Rattle.pef_report.specs.Inspection.{Inspected, count_chosen, inspection_object, inspection_text}
 use Rattle.pef_report.specs.Tokens.{at_text}
 use Rattle.pef_report.specs.declared.frames.Counts.{Counts}
+use Rattle.mac_report.specs.MacParts.{readable, wrapping_of}
+pub use Rattle.mac_report.specs.Sums.{up_to}
 use Rattle.mac_report.specs.declared.file.Form.{Form}
 use Rattle.mac_report.specs.declared.file.Form.TheVariants.{Text, Json}
 use Rattle.mac_report.specs.declared.tally.Tally.{Tally}
@@ -16,9 +20,21 @@ pub data RowIs : Type 0 where
   lacking : ℕ → RowIs
   skipped : RowIs
 
--- the bytes of a file from a place on
-abbrev pub rest_from : List ℕ → ℕ → List ℕ
-rest_from bytes at = drop (min at (length bytes)) bytes
+-- all bytes from a place on
+abbrev pub all_from : List ℕ → ℕ → List ℕ
+all_from bytes at = drop (min at (length bytes)) bytes
+
+-- the bytes of a fork from a place of the file on, if the fork has the place
+abbrev pub rest_in : Option Lying → ℕ → Option (List ℕ)
+rest_in None at = None
+rest_in (Some part) at =
+    if nat_le part.offset at && nat_lt (at - part.offset) (length part.bytes) then Some (all_from part.bytes (at - part.offset)) else None
+
+-- the bytes that a container at a place of a file can have: those up to the end of the fork that has the place, or of a file
+-- without such a fork
+unfoldable pub rest_from : List ℕ → ℕ → List ℕ
+rest_from bytes at =
+    unwrap_or (option_or (rest_in (readable (wrapping_of bytes).data_fork) at) (rest_in (readable (wrapping_of bytes).resource_fork) at)) (all_from bytes at)
 
 -- what the inspection of a container takes from the budget, by the bytes from its first on: 64 kilobytes, its header, and
 -- the headers of the sections that it says that it has
@@ -84,10 +100,6 @@ abbrev pub skipped_in : RowIs → ℕ
 skipped_in (inspected i) = 0
 skipped_in (lacking at) = 0
 skipped_in skipped = 1
-
--- a sum, up to the greatest number of 64 bits
-abbrev pub up_to : ℕ → ℕ
-up_to n = min n (2 ^ 64 - 1)
 
 -- what is counted before the first container of a file: nothing, with a budget of 64 megabytes and the file's length
 abbrev pub fresh_tally : List ℕ → Tally

@@ -5,4 +5,5 @@ pub mod Founds
 pub mod Fragments
 pub mod MacParts
 pub mod Reports
+pub mod Sums
 pub mod Views

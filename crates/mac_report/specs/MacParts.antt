@@ -15,7 +15,7 @@ use Rattle.cfm_members.specs.declared.fault.MemberFault.{MemberFault}
 use Rattle.cfm_members.specs.declared.fragment_fault.FragmentFault.TheVariants.{Member, NoContainer}
 use Rattle.cfm_members.specs.declared.member.Locator.{Locator}
 use Rattle.cfm_members.specs.declared.member.Locator.TheVariants as locator
-use Rattle.mac_report.specs.Containers.{up_to}
+use Rattle.mac_report.specs.Sums.{up_to}
 use Rattle.mac_report.specs.declared.scene.Found.{Found}
 
 -- the error of a file's header, and its forks, each with the error of its entry

@@ -4,8 +4,9 @@ ghost use Rattle.pef_ports.specs.Sent.{Sends};
 ghost use Rattle.mac_report.specs.Containers.{Walks, fresh_tally};
 ghost use Rattle.mac_report.specs.declared.tally.Tally.{Tally as TallyIs};
 
-use crate::file::FileReport;
-use crate::row::{cost, read_row, rest_from};
+use crate::contents::Contents;
+use crate::file::{FileReport, Form};
+use crate::row::{cost, read_row};
 use crate::tally::Tally;
 use cfm_members::Containers;
 use pef_ports::{Page, Sink, StreamFault};
@@ -23,11 +24,27 @@ pub(crate) fn print_containers<W: Sink>(
         × Sends result (W.stream out.old) (W.stream out.new) page.old.items page.new.items text
         × IfOk result (λ r. r ≡ tally) }
 {
-    let mut tally = Tally::new(report.bytes);
-    for place in Containers::new(report.bytes) {
-        let row = read_row(alloc, report.bytes, place, tally.budget);
-        row.print(out, page, report.form, tally.containers == 0)?;
-        tally = tally.with_row(cost(rest_from(report.bytes, place)), &row);
+    print_contents(alloc, out, page, report.form, Contents::of(report.bytes))
+}
+
+/// Prints the containers of a file whose forks are known.
+fn print_contents<W: Sink>(
+    alloc: Global,
+    out: &mut W,
+    page: &mut Page,
+    form: Form,
+    contents: Contents<'_>,
+) -> Result<Tally, StreamFault>
+    ensures { (text : List ℕ) × (tally : TallyIs)
+        × Walks form contents.entry.bytes.now (fresh_tally contents.entry.bytes.now) (containers_in contents.entry.bytes.now 0) text tally
+        × Sends result (W.stream out.old) (W.stream out.new) page.old.items page.new.items text
+        × IfOk result (λ r. r ≡ tally) }
+{
+    let mut tally = Tally::new(contents.bytes);
+    for place in Containers::new(contents.bytes) {
+        let row = read_row(alloc, contents, place, tally.budget);
+        row.print(out, page, form, tally.containers == 0)?;
+        tally = tally.with_row(cost(contents.rest_from(place)), &row);
     }
     Ok(tally)
 }

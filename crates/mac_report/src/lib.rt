@@ -3,6 +3,7 @@
 #![tactic(auto)]
 
 mod containers;
+mod contents;
 mod faults;
 mod file;
 mod forks;

@@ -2,9 +2,10 @@
 ghost use Rattle.std.specs.Prelude.{◌≡◌, ◌<◌, ◌^◌, ◌++◌, nat_lt};
 ghost use Rattle.pef_ports.specs.Sent.{Sends};
 ghost use Rattle.pef_report.specs.Views.{inspected};
-ghost use Rattle.mac_report.specs.Containers.{IsInspected, IsRow, cost, errors_in, inspected_object, inspected_text, lacking_line, lacking_object, lacking_text, notes_in, rest_from, row_text, separator, skipped_in};
+ghost use Rattle.mac_report.specs.Containers.{IsInspected, IsRow, cost, errors_in, inspected_object, inspected_text, lacking_line, lacking_object, lacking_text, notes_in, row_text, separator, skipped_in};
 ghost use Rattle.mac_report.specs.Views.{row_seen};
 
+use crate::contents::Contents;
 use crate::file::Form;
 use pef_ports::{Page, Sink, StreamFault, send};
 use pef_report::{Inspection, Token, print_tokens};
@@ -36,10 +37,15 @@ pub(crate) enum Row<'a> {
 }
 
 /// Inspects the container at a place of a file, within what is left of the file's budget.
-pub(crate) fn read_row<'a>(alloc: Global, bytes: &'a [u8], place: usize, budget: u64) -> Row<'a>
-    ensures { IsRow bytes.entry.now budget place (row_seen result) }
+pub(crate) fn read_row<'a>(
+    alloc: Global,
+    contents: Contents<'a>,
+    place: usize,
+    budget: u64,
+) -> Row<'a>
+    ensures { IsRow contents.entry.bytes.now budget place (row_seen result) }
 {
-    let rest = rest_from(bytes, place);
+    let rest = contents.rest_from(place);
     if exceeds(cost(rest), budget) {
         Row::Skipped
     } else {
@@ -62,14 +68,6 @@ fn inspect<'a>(alloc: Global, rest: &'a [u8], at: u64) -> Row<'a>
         Ok(inspection) => Row::Inspected(inspection),
         Err(AllocError) => Row::Lacking(at),
     }
-}
-
-/// Returns the bytes from a place on.
-pub(crate) fn rest_from<'a>(bytes: &'a [u8], place: usize) -> &'a [u8]
-    ensures { result.now ≡ rest_from bytes.entry.now place }
-{
-    let (_, rest) = bytes.split_at(place.min(bytes.len()));
-    rest
 }
 
 /// Returns what the inspection of the container that begins some bytes takes from the budget.

@@ -6,19 +6,19 @@ use Rattle.pef_ports.proofs.Laws.Sending.{Sends-short}
 use Rattle.mac_report.specs.Containers.{Steps, cost, rest_from, row_text, tallied}
 use Rattle.mac_report.specs.Views.{row_seen}
 use Rattle.mac_report.proofs.ContainerLemmas.{no_value, walked-all, walked-more, walked-nothing, walked-short}
-use Rattle.mac_report.proofs.containers.print_containers.Goals as goal
+use Rattle.mac_report.proofs.containers.print_contents.Goals as goal
 
 pub loop-place-init : goal.loop-place-init
 loop-place-init g c =
-    let bytes = c.args.report.bytes.now in
+    let bytes = c.args.contents.bytes.now in
     let left_is = ap places_left c.into_iter-place-iterator.ensures.into_iter_gives ∙ c.new-place-items.ensures.places in
-    rw (c.new-tally.ensures, left_is) (walked-nothing c.args.report.form bytes (g.W.Sink.stream c.args.out.now) c.args.page.now.items (containers_in bytes 0))
+    rw (c.new-tally.ensures, left_is) (walked-nothing c.args.form bytes (g.W.Sink.stream c.args.out.now) c.args.page.now.items (containers_in bytes 0))
 
 pub returns-in_err-print : goal.returns-in_err-print
 returns-in_err-print g c =
     let at = c.loop-place in
-    let form = c.args.report.form in
-    let bytes = c.args.report.bytes.now in
+    let form = c.args.form in
+    let bytes = c.args.contents.bytes.now in
     let row = row_seen c.read_row-row.result in
     let here = row_text form (at.tally.containers == 0) row in
     let next = tallied at.tally (cost (rest_from bytes c.in-Some.place)) row in
@@ -29,8 +29,8 @@ returns-in_err-print g c =
 pub loop-place-preserved-in_ok-print : goal.loop-place-preserved-in_ok-print
 loop-place-preserved-in_ok-print g c =
     let at = c.loop-place in
-    let form = c.args.report.form in
-    let bytes = c.args.report.bytes.now in
+    let form = c.args.form in
+    let bytes = c.args.contents.bytes.now in
     let row = row_seen c.read_row-row.result in
     let here = row_text form (at.tally.containers == 0) row in
     let next = tallied at.tally (cost (rest_from bytes c.in-Some.place)) row in
@@ -41,8 +41,8 @@ loop-place-preserved-in_ok-print g c =
 pub loop-place-preserved : goal.loop-place-preserved
 loop-place-preserved g c =
     let at = c.loop-place in
-    let form = c.args.report.form in
-    let bytes = c.args.report.bytes.now in
+    let form = c.args.form in
+    let bytes = c.args.contents.bytes.now in
     let row = row_seen c.read_row-row.result in
     let here = row_text form (at.tally.containers == 0) row in
     let next = tallied at.tally (cost (rest_from bytes c.in-Some.place)) row in
