@@ -78,7 +78,7 @@ function choose(file, place) {
 }
 
 function containerView(file, place) {
-    return new ContainerView(new Container(reader, place, FIRST), title(file, place)).element;
+    return new ContainerView(new Container(reader, file, place, FIRST), title(file, place)).element;
 }
 
 /** Returns the title of a container: the name of the fragment in it, if one is, and where it is. */

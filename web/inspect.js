@@ -74,6 +74,13 @@ export class File {
         return this.fragmentAt.get(place)?.name ?? null;
     }
 
+    /** Returns how many bytes a container at a place can have: those up to the end of its fork, or of a file without such a fork. */
+    room(place) {
+        const [data, resource] = this.forks;
+        const fork = [data, resource].find((it) => it.length !== null && it.offset <= place && place < it.offset + it.length);
+        return (fork === undefined ? this.bytes.length : fork.offset + fork.length) - place;
+    }
+
     /** Returns whether the file is nothing but a data fork or a resource fork. */
     isBare() {
         return ["other", "container", "resources"].includes(this.format);
@@ -175,15 +182,15 @@ function findContainers(reader) {
     }
 }
 
-/** A container of the file that the reader has open, from an offset on. */
+/** A container of a file, which the reader has open, from an offset on. */
 export class Container {
-    constructor(reader, offset, limits = ALL) {
+    constructor(reader, file, offset, limits = ALL) {
         this.reader = reader;
         this.limits = limits;
         /** The tables of which further rows are to be read. */
         this.more = new Set();
         this.offset = offset;
-        this.slice = new Slice(reader.file.address + offset, reader.file.length - offset);
+        this.slice = new Slice(reader.file.address + offset, file.room(offset));
         this.header = this.readHeader();
         this.sections = this.readSections();
         this.loader = this.readLoader();
@@ -384,7 +391,7 @@ export function fileObject(reader, file) {
         if (cost > budget) {
             skipped += 1;
         } else {
-            const container = new Container(reader, place);
+            const container = new Container(reader, file, place);
             isCut = isCut || container.cut;
             containers.push(containerObject(container));
         }
