@@ -445,15 +445,19 @@ note 109 TrailingBytes container at 000001EC length 499
 error 9 BadAlignment section 0 alignment at 00000042
 note 109 TrailingBytes container at 000003DB length 4""", 0, 0x1EF)
 
-    # The data fork is at 80 (hex) and the container 8 bytes later. The resource fork is at 280, after 500 bytes and 12 zeros, and
-    # has 150 bytes, so the file ends at 380. The container ends at 88 + 1EC.
-    calc = resource_fork(b"cfrg", 0, fragments((b"Calc", 1, 8, 492)))
-    inside("macbinary", mac_binary(b"not yet." + bad, calc), "macbinary", """
-note 109 TrailingBytes container at 00000274 length 268
+    # The data fork is at 80 (hex) and the container 8 bytes later. It ends with the fork. The resource fork is at 280.
+    calc = resource_fork(b"cfrg", 0, fragments((b"Calc", 1, 8, 0)))
+    inside("macbinary", mac_binary(b"not yet." + bad, calc), "macbinary", "error 9 BadAlignment section 0 alignment at 000000CA", 0x88)
+    inside("macbinary-more", mac_binary(b"not yet." + bad + b"more", calc), "macbinary", """
+note 109 TrailingBytes container at 00000274 length 4
 error 9 BadAlignment section 0 alignment at 000000CA""", 0x88)
+    # The data fork ends 11 bytes before the container's end, so the last export is cut. The file goes on with the resource fork.
+    inside("macbinary-cut", mac_binary(b"not yet." + WHOLE[:0x1E1], calc), "macbinary", """
+error 6 SectionOutside section 3 containerOffset at 00000118
+error 6 SectionOutside section 4 containerOffset at 00000134
+error 19 BadExportTable loader exportHashOffset at 000001B4""", 0x88)
     inside("macbinary-wrong-crc", changed(mac_binary(bad, b""), "7C 0000"), "macbinary", """
 error 81 BadMacBinaryCrc fork at 0000007C
-note 109 TrailingBytes container at 0000026C length 20
 error 9 BadAlignment section 0 alignment at 000000C2""", 0x80)
 
     # The data fork has 12 bytes, and the resource fork begins at 100. Its resource begins at 114, so the members at 134, 164 and
@@ -464,12 +468,12 @@ error 80 NoContainer fragment at 00000080
 error 80 NoContainer fragment at 00000084
 error 98 FragmentOutside fragment 2 at 000001AC""")
 
-    # A resource's bytes begin at 14.
+    # A resource's bytes begin at 14. After them are the 50 bytes of the map.
     inside("resource", resource_fork(b"ndrv", 1, bad), "resources", """
 note 109 TrailingBytes container at 00000200 length 50
 error 9 BadAlignment section 0 alignment at 00000056""", 0x14)
     inside("macbinary-resource", mac_binary(b"", resource_fork(b"ndrv", 1, bad)), "macbinary", """
-note 109 TrailingBytes container at 00000280 length 128
+note 109 TrailingBytes container at 00000280 length 50
 error 9 BadAlignment section 0 alignment at 000000D6""", 0x94)
 
     # The resource fork is at 80, its resource at 94, and the member at B4.
@@ -483,15 +487,21 @@ error 96 MemberCut fragment 1 at 000000E4""")
 error 97 MemberNameCut fragment 0 at 000000DE
 error 80 NoContainer fragment at 00000080""")
 
-    # The rows of the two entries are at 1A and 26, and their offsets at 1E and 2A. The data fork is at 32.
+    # The rows of the two entries are at 1A and 26, and their offsets at 1E and 2A. The data fork is at 32. If it isn't known where
+    # it ends, the container goes on to the end of the file, 150 bytes after its own.
     both = apple(0x00051600, [(1, bad), (2, resource_fork(b"cfrg", 0, fragments((b"Calc", 1, 0, 0))))])
-    found = """
-note 109 TrailingBytes container at 0000021E length 150
-error 9 BadAlignment section 0 alignment at 00000074"""
+    found = "error 9 BadAlignment section 0 alignment at 00000074"
+    trailing = "note 109 TrailingBytes container at 0000021E length 150\n"
     inside("applesingle", both, "applesingle", found, 0x32)
-    inside("applesingle-version", changed(both, "04 00030000"), "damaged", "error 83 BadAppleVersion fork at 00000004" + found, 0x32)
-    inside("applesingle-data-outside", changed(both, "22 000003E8"), "applesingle", "error 85 AppleEntryOutside fork 0 at 0000001E" + found, 0x32)
-    inside("applesingle-resources-outside", changed(both, "2E 000003E8"), "applesingle", "error 85 AppleEntryOutside fork 1 at 0000002A" + found, 0x32)
+    inside("applesingle-version", changed(both, "04 00030000"), "damaged", f"""
+error 83 BadAppleVersion fork at 00000004
+{trailing}{found}""", 0x32)
+    inside("applesingle-data-outside", changed(both, "22 000003E8"), "applesingle", f"""
+error 85 AppleEntryOutside fork 0 at 0000001E
+{trailing}{found}""", 0x32)
+    inside("applesingle-resources-outside", changed(both, "2E 000003E8"), "applesingle", f"""
+error 85 AppleEntryOutside fork 1 at 0000002A
+{found}""", 0x32)
     inside("appledouble", apple(0x00051607, [(2, resource_fork(b"cfrg", 0, fragments((b"Calc", 1, 0, 0))))]), "appledouble", "")
 
 
