@@ -149,4 +149,4 @@ lacks_memory port stream (Some (distances script)) files input = ((distances.ref
 lacks_memory port stream (Some version) files input = (inr refl, refl, refl)
 lacks_memory port stream (Some (extract path name out)) files input = ((extract.refuses fault.OutOfMemory, inl refl, refl), refl)
 lacks_memory port stream (Some (inspect json paths)) files input = inr (refl, refl, refl)
-lacks_memory port stream (Some (inspect_listed json)) files input = inr (refl, refl, refl)
+lacks_memory port stream (Some (inspect_listed json)) files input = inr (inr (refl, refl, refl))
