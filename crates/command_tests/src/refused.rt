@@ -106,3 +106,30 @@ fn extract(rt: HostRuntime) -> Result<(), Fail> {
     assert!(rt; written.is_none() || written == Some(VECTORS_LEAST));
     Ok(())
 }
+
+/// What is printed of the container `VECTORS_LEAST`, from its fields.
+const INSPECTED: &[u8] = b"file a size 250 format container
+00000000 container current 1 olddef 0 oldimp 0 date 0 versions - - - time 1904-01-01T00:00:00 sections 3 instantiated 2
+00000028 section 0 kind 0 share 4 align 4 total 8 unpacked 8 packed 8 default 00000000 name - raw 00000080
+00000044 section 1 kind 1 share 1 align 4 total 16 unpacked 16 packed 16 default 00000000 name - raw 00000090
+00000060 section 2 kind 4 share 4 align 4 total 0 unpacked 0 packed 90 default 00000000 name - raw 000000A0
+000000A0 loader libraries 0 imports 0 relocs 1 programs 00000044 strings 00000046 hash 00000048 power 0 exports 1
+000000A0 main 1 00000000
+000000D8 reloc section 1 halfwords 1 first 0
+000000F0 export go class 2 section 1 value 00000000
+total containers 1 errors 0 notes 0
+";
+
+/// A failed allocation is an error of the file or of the container, and nothing is left out.
+#[test]
+fn inspect(rt: HostRuntime) -> Result<(), Fail> {
+    let mut papers = papers(rt.alloc(), VECTORS_LEAST)?;
+    assert_prints_or_lacks_memory(
+        &rt,
+        rt.alloc(),
+        &mut papers,
+        &["inspect", "a"],
+        b"",
+        INSPECTED,
+    )
+}

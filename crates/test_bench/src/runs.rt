@@ -98,7 +98,7 @@ impl Outcome {
         let printed = self.printed.as_slice();
         let told = printed.starts_with(b"refused 71 ")
             || printed.starts_with(b"refused 72 ")
-            || has_unread_file(printed);
+            || has_line(printed, b"error 71 FileUnreadable");
         let failures = self.papers.failures();
         if failures != u64::from(told) {
             return Err(Fail::new(format_args!("{failures} failures of files")));
@@ -112,11 +112,11 @@ impl Outcome {
     }
 }
 
-/// Returns whether `inspect` reported a file that couldn't be read.
-fn has_unread_file(printed: &[u8]) -> bool {
+/// Returns whether a line after the first one begins with some text.
+fn has_line(printed: &[u8], text: &[u8]) -> bool {
     for i in 0..printed.len() {
-        let (_, rest) = printed.split_at(i);
-        if rest.starts_with(b"\nerror 71 ") {
+        let (line, rest) = printed.split_at(i);
+        if line.ends_with(b"\n") && rest.starts_with(text) {
             return true;
         }
     }
@@ -349,7 +349,8 @@ pub fn run_over(
 }
 
 /// Runs the tool over files and an input. One allocation may be refused to it, as by `tools/refuse-memory`. It must
-/// print this and end with 0, or report that an allocation failed, print nothing else and end with 1.
+/// print this and end with 0, or report that an allocation failed, print nothing else and end with 1. `inspect` may also
+/// report it of a file or of a container.
 pub fn assert_prints_or_lacks_memory(
     rt: &impl Print,
     alloc: Global,
@@ -364,7 +365,9 @@ pub fn assert_prints_or_lacks_memory(
     say_begins(rt)?;
     let status = run(alloc, line.as_slice(), papers, &mut input, &mut out);
     let told = out.bytes();
-    let refused = told == b"refused 99 OutOfMemory\n".as_slice() && status == 1;
+    let lacked = told == b"refused 99 OutOfMemory\n".as_slice()
+        || has_line(told, b"error 99 OutOfMemory");
+    let refused = lacked && status == 1;
     if !refused && (told != printed || status != 0) {
         return Err(unlike(words, told, status));
     }
