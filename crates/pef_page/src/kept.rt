@@ -1,5 +1,5 @@
 //! Findings that are kept in an array.
-ghost use Rattle.std.specs.Prelude.{◌≡◌, ◌≤◌, [], take};
+ghost use Rattle.std.specs.Prelude.{◌≡◌, ◌≤◌, ◌∷◌, ◌++◌, [], OnErr, OnOk, take};
 
 use pef_format::{Part, Place};
 use pef_inspect::{Cause, Finding, Findings, Note};
@@ -60,7 +60,10 @@ impl Findings for Kept {
     type Error = Full;
 
     #[tactic(auto, using(crate::proofs::Keeping::one_more))]
-    fn take(&mut self, finding: Finding) -> Result<(), Full> {
+    fn take(&mut self, finding: Finding) -> Result<(), Full>
+        ensures taken { OnOk result (kept_in self.new ≡ kept_in self.old ++ finding ∷ []) }
+        ensures full { OnErr result (self.old.count ≡ 8192) }
+    {
         if self.count >= MOST {
             return Err(Full);
         }
