@@ -84,11 +84,11 @@ name_at-inside bytes from name is =
     omega (arith, less, rest)
 
 -- where one part more ends
-pub greatest_end-more : (extents : List Extent) (e : Extent) → greatest_end (extents ++ e ∷ []) ≡ max (greatest_end extents) e.1
+pub greatest_end-more : (extents : List Extent) (e : Extent) → greatest_end (extents ++ e ∷ []) ≡ max (greatest_end extents) e.2
 greatest_end-more [] e = grind arith
 greatest_end-more (x ∷ extents) e =
     let rest = greatest_end-more extents e in
-    rw rest (sym (max-assoc x.1 (greatest_end extents) e.1))
+    rw rest (sym (max-assoc x.2 (greatest_end extents) e.2))
 
 -- the note on a part, and those on the parts after it
 pub parts_notes-next : (c : Contained) (extents : List Extent) (i : ℕ) (d : Extent) → i < length extents → parts_notes c (take i extents) (drop i extents) ≡ option_to_list (part_note c (greatest_end (take i extents)) (get_or extents i d)) ++ parts_notes c (take (i + 1) extents) (drop (i + 1) extents)

@@ -18,7 +18,7 @@ use Rattle.pef_inspect.specs.Oddities.{note_at}
 use Rattle.pef_inspect.specs.declared.finding.Finding.{Finding}
 use Rattle.pef_inspect.specs.declared.note.Note.TheVariants.{Overlap, TrailingBytes, UnownedBytes}
 
--- where a part begins, where it ends, and which it is: 0 for the headers and the names, or the number of a section and 1
+-- where a part begins, which it is (0 for the headers and the names, or the number of a section and 1), and where it ends
 abbrev pub Extent : Type 0
 Extent = ℕ × ℕ × ℕ
 
@@ -55,7 +55,7 @@ names_end c = names_end_at c (last_name c 0 c.header.section_count)
 
 -- the headers and the names
 abbrev pub head_extent : Contained → Extent
-head_extent c = (0, min (names_end c) (length c.bytes), 0)
+head_extent c = (0, 0, min (names_end c) (length c.bytes))
 
 -- where the raw bytes of a section end in a container of some length
 abbrev pub raw_end : ℕ → SectionHeader → ℕ
@@ -63,7 +63,7 @@ raw_end len s = if s.packed_size == 0 then 0 else min (s.container_offset + s.pa
 
 -- the raw bytes of section i, if it has some
 abbrev pub extent_in : ℕ → ℕ → SectionHeader → Option Extent
-extent_in len i s = if nat_lt s.container_offset (raw_end len s) then Some (s.container_offset, raw_end len s, i + 1) else None
+extent_in len i s = if nat_lt s.container_offset (raw_end len s) then Some (s.container_offset, i + 1, raw_end len s) else None
 
 abbrev pub section_extent : Contained → ℕ → Option Extent
 section_extent c i = views.header_in c i >>= extent_in (length c.bytes) i
@@ -72,14 +72,14 @@ section_extent c i = views.header_in c i >>= extent_in (length c.bytes) i
 unfoldable pub extents_of : Contained → List Extent
 extents_of c = head_extent c ∷ all_among (λ i. option_to_list (section_extent c i)) 0 c.header.section_count
 
--- by their beginnings, then by their ends, then by what they are
+-- by their beginnings, then by what they are, then by their ends
 abbrev pub extent_order : Extent → Extent → Ordering
 extent_order a b = ordering_then (nat_cmp a.0 b.0) (ordering_then (nat_cmp a.1 b.1) (nat_cmp a.2 b.2))
 
 -- where some parts end
 abbrev pub greatest_end : List Extent → ℕ
 greatest_end [] = 0
-greatest_end (e ∷ extents) = max e.1 (greatest_end extents)
+greatest_end (e ∷ extents) = max e.2 (greatest_end extents)
 
 -- bytes that only align the part after them
 abbrev pub are_zero : List ℕ → Bool
@@ -101,7 +101,7 @@ overlap_note c which len = if which == 0 || len == 0 then None else Some (note_a
 
 -- the note on a part, if the parts before it end here
 abbrev pub part_note : Contained → ℕ → Extent → Option Finding
-part_note c end e = if nat_lt end e.0 then gap_note c end e.0 else overlap_note c e.2 (min end e.1 - e.0)
+part_note c end e = if nat_lt end e.0 then gap_note c end e.0 else overlap_note c e.1 (min end e.2 - e.0)
 
 -- the note on the bytes after all parts
 abbrev pub trailing_note : Contained → ℕ → Option Finding

@@ -15,9 +15,9 @@ use std::alloc::{AllocError, Global};
 /// Bytes between two parts that only align the second one are fewer than this, and all 0.
 const ALIGNED: usize = 16;
 
-/// A run of bytes that belongs to a part: where it begins and ends, and the number of its section and 1, or 0 for the headers
-/// and the names. Runs are sorted by their beginnings.
-type Extent = (usize, usize, u32);
+/// A run of bytes that belongs to a part: where it begins, the number of its section and 1, or 0 for the headers and the names,
+/// and where it ends. Runs are sorted by their beginnings.
+type Extent = (usize, u32, usize);
 
 /// Adds the notes on bytes that two parts have, on bytes between parts that belong to none, and on bytes after the last part.
 pub(crate) fn add_extents(
@@ -57,7 +57,7 @@ fn compare(
     let mut end = 0;
     for extent in extents {
         push_some(part_note(container, end, *extent), found)?;
-        end = end.max(extent.1);
+        end = end.max(extent.2);
     }
     Ok(end)
 }
@@ -79,7 +79,7 @@ pub(crate) fn push_some<T: Drop>(item: Option<T>, items: &mut Vec<T>) -> Result<
 fn part_note(container: &PartialContainer<'_>, end: usize, extent: Extent) -> Option<Finding>
     ensures { result ≡ part_note (partly container.now) end extent }
 {
-    let (from, to, part) = extent;
+    let (from, part, to) = extent;
     if end < from {
         gap_note(container, end, from)
     } else {
@@ -159,7 +159,7 @@ fn extents_of(alloc: Global, container: &PartialContainer<'_>) -> Result<Vec<Ext
 fn head_extent(container: &PartialContainer<'_>) -> Extent
     ensures { result ≡ head_extent (partly container.now) }
 {
-    (0, names_end(container).min(container.bytes().len()), 0)
+    (0, 0, names_end(container).min(container.bytes().len()))
 }
 
 /// Returns the raw bytes of section `i` as a part, if it has some.
@@ -170,7 +170,7 @@ fn section_extent(container: &PartialContainer<'_>, i: u16) -> Option<Extent>
     let from = section.container_offset as usize;
     let to = raw_end(container.bytes().len(), section);
     if from < to {
-        Some((from, to, u32::from(i) + 1))
+        Some((from, u32::from(i) + 1, to))
     } else {
         None
     }

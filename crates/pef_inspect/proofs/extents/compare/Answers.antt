@@ -19,7 +19,7 @@ loop-extent-preserved c =
     let ends = c.loop-extent.invariant.ends in
     let note = option_to_list (part_note p (greatest_end (take i extents)) here) in
     record {
-      ends = c.max-end.ensures ∙ ap (λ n. max n here.1) ends ∙ sym (ap greatest_end (take_more extents i d under) ∙ greatest_end-more (take i extents) here);
+      ends = c.max-end.ensures ∙ ap (λ n. max n here.2) ends ∙ sym (ap greatest_end (take_more extents i d under) ∙ greatest_end-more (take i extents) here);
       notes = taken-more c.loop-extent.found.items note _ _ _
           (c.in_ok-push_some.ensures ∙ ap (λ o. c.loop-extent.found.items ++ option_to_list o) (c.part_note.ensures ∙ ap (λ n. part_note p n here) ends))
           (rw (parts_notes-next p extents i d under) at c.loop-extent.invariant.notes);
