@@ -58,7 +58,7 @@ function extents(container, bytes) {
             found.push({ from, to, section: i });
         }
     });
-    return found.sort((a, b) => a.from - b.from || a.to - b.to || (a.section ?? -1) - (b.section ?? -1));
+    return found.sort((a, b) => a.from - b.from || (a.section ?? -1) - (b.section ?? -1) || a.to - b.to);
 }
 
 /** How many words are compared, of all programs together, to find those that are relocated twice. */
