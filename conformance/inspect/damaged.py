@@ -163,6 +163,9 @@ note 101 ReservedNotZero section 4 reservedA at 000000B3""")
 note 113 UnownedBytes container at 000000E8 length 24
 note 112 Overlap section 1 containerOffset at 00000058 length 10
 note 112 Overlap section 2 containerOffset at 00000074 length 8""")
+    case("section-at-the-beginning", "3C 00000000", """
+note 113 UnownedBytes container at 000000BE length 18
+note 112 Overlap section 0 containerOffset at 0000003C length 16""")
     case("section-in-the-headers", "3C 00000004", """
 note 113 UnownedBytes container at 000000BE length 18
 note 112 Overlap section 0 containerOffset at 0000003C length 16""")
