@@ -62,13 +62,13 @@ const ODDITIES: &[Oddity] = &[
         &[(110, 168, 0)],
     ),
     // The two sections at 219 share three bytes, and the program goes back to the word at 4.
-    (RICH, &[], &[(107, 377, 4)], &[(112, 60, 3), (114, 377, 4)]),
+    (RICH, &[], &[(107, 377, 4)], &[(112, 172, 3), (114, 377, 4)]),
     // The first library's current version, and its reserved bytes.
     (
         RICH,
         &[(301, 1), (313, 7)],
         &[(104, 297, 0), (101, 314, 0), (107, 377, 4)],
-        &[(112, 60, 3), (114, 377, 4)],
+        &[(112, 172, 3), (114, 377, 4)],
     ),
 ];
 
