@@ -184,14 +184,17 @@ static void check_against_readers(const uint8_t *bytes, size_t length, const str
     const struct pef_finding *first = first_error(rows, count);
     struct pef_context context = PEF_NO_CONTEXT;
     struct pef_names names = PEF_NO_NAMES;
+    struct pef_options options = PEF_USUAL_OPTIONS;
     uint32_t connection = 0;
     size_t written = 0;
+    options.bytes = 1 << 20;
+    options.steps = 1 << 20;
     uint32_t answer = pef_list(bytes, length, room, ROOM, &written);
     if (answer == PEF_OK || answer == PEF_ROOM_TOO_SMALL)
         expect(first == NULL || first->number > 20, "an error of a container that is listed");
     else
         expect(first != NULL && first->number == answer, "the first error isn't that of pef_list");
-    answer = pef_open(&context, 0x10000000);
+    answer = pef_open_with(&context, &options);
     if (answer == PEF_OK)
         answer = pef_add(&context, (const uint8_t *)"it", 2, bytes, length);
     if (answer == PEF_OK)
