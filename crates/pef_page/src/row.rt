@@ -43,7 +43,7 @@ impl<'a> PageRow<'a> {
     }
 }
 
-/// Returns a number, or the one that stands for none.
+/// Returns a number, or the mark of a missing one.
 pub(crate) fn number_or_none(number: Option<usize>) -> u64
     ensures { result ≡ number_or_none number }
 {
