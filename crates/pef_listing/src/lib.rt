@@ -11,5 +11,6 @@ mod lines;
 mod listing;
 
 pub use fault::ListFault;
-pub use instructions::{InstrNumbers, instr_numbers, kind_name, print_instr};
+pub use instructions::print_instr;
 pub use listing::Listing;
+pub use pef_reloc::{InstrNumbers, instr_numbers, kind_name};

@@ -13,7 +13,9 @@ ghost use Rattle.pef_ports.specs.Pieces.{piece_text};
 use crate::instructions::print_program;
 use pef_format::{ExportView, ImportView};
 use pef_loader::{ImportReader, Loader};
-use pef_ports::{Page, Piece, Sink, StreamFault, print_pieces};
+use pef_ports::{
+    Decimal, Escaped, Hex, Joined, Page, Piece, Printed, Sink, StreamFault, Verbatim, print_pieces,
+};
 use pef_reloc::Program;
 use pef_views::{Container, Header};
 
@@ -209,21 +211,12 @@ fn print_import<'a, W: Sink>(
     ensures same { names.new.loader ≡ names.old.loader }
 {
     let library = names.of(import.library);
-    print_pieces(
-        out,
-        page,
-        &[
-            Piece::Text(b"import "),
-            Piece::Number(j as u64),
-            Piece::Text(b" "),
-            Piece::Name(import.name),
-            Piece::Text(b" of "),
-            Piece::Name(library),
-            Piece::Text(b" class "),
-            Piece::Number(u64::from(import.class)),
-            Piece::Text(strength(import.weak)),
-        ],
-    )
+    let class = u64::from(import.class);
+    let number = Joined(Verbatim(b"import "), Decimal(j as u64));
+    let name = Joined(Joined(number, Verbatim(b" ")), Escaped(import.name));
+    let owner = Joined(Joined(name, Verbatim(b" of ")), Escaped(library));
+    let kind = Joined(Joined(owner, Verbatim(b" class ")), Decimal(class));
+    Joined(kind, Verbatim(strength(import.weak))).print(out, page)
 }
 
 /// The name of the library that was asked for last.
@@ -297,22 +290,13 @@ impl<'a> Lines for Exported<'a> {
             unreachable!()
         };
         let section = section_number(export);
-        print_pieces(
-            out,
-            page,
-            &[
-                Piece::Text(b"export "),
-                Piece::Name(export.name),
-                Piece::Text(b" class "),
-                Piece::Number(u64::from(export.class)),
-                Piece::Text(b" section "),
-                Piece::Text(section.sign),
-                Piece::Number(u64::from(section.magnitude)),
-                Piece::Text(b" value "),
-                Piece::Word(export.value),
-                Piece::Text(b"\n"),
-            ],
-        )
+        let class = u64::from(export.class);
+        let magnitude = u64::from(section.magnitude);
+        let name = Joined(Verbatim(b"export "), Escaped(export.name));
+        let kind = Joined(Joined(name, Verbatim(b" class ")), Decimal(class));
+        let sign = Joined(Joined(kind, Verbatim(b" section ")), Verbatim(section.sign));
+        let number = Joined(Joined(sign, Decimal(magnitude)), Verbatim(b" value "));
+        Joined(Joined(number, Hex(export.value)), Verbatim(b"\n")).print(out, page)
     }
 }
 

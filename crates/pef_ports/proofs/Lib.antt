@@ -1,3 +1,4 @@
+mod DigitLemmas
 mod InputLemmas
 pub mod Laws
 mod NameLemmas

@@ -1,6 +1,8 @@
 -- How the text of a name is put together.
-use Rattle.std.proofs.Common.{◌≡◌, ℕ, ◌+◌, ◌<◌, true, List, [], ◌∷◌, ◌++◌, length, get_or, take, drop, refl, sym, ap, ◌∙◌, append_assoc, arith}
+use Rattle.std.proofs.Common.{◌≡◌, ◌&&◌, ℕ, ◌+◌, ◌<◌, Bool, true, false, List, [], ◌∷◌, ◌++◌, length, get_or, take, drop, refl, sym, ap, ◌∙◌, append_assoc, arith}
 use Rattle.std.proofs.lemmas.List.{at_drop_more, take_more}
+use Rattle.std.proofs.lemmas.Bool.{and_parts}
+use Rattle.pef_ports.specs.Kept.Plain.{are_plain}
 use Rattle.pef_ports.specs.Names.{byte_text, is_plain_byte, name_text}
 
 -- a byte that is printed unchanged
@@ -22,3 +24,15 @@ plain_more name i under plain so_far =
 pub no_text : (name : List ℕ) → length name ≡ 0 → name_text name ≡ []
 no_text [] none = refl
 no_text (b ∷ name) none = absurd (omega arith)
+
+-- a name of plain bytes
+pub plain_name : (name : List ℕ) → are_plain name ≡ true → name_text name ≡ name
+plain_name [] plain = refl
+plain_name (b ∷ name) plain =
+    let parts = and_parts (is_plain_byte b) (are_plain name) plain in
+    ap (λ (t : List ℕ). t ++ name_text name) (plain_text b parts.0) ∙ ap (λ (t : List ℕ). b ∷ t) (plain_name name parts.1)
+
+-- nothing more
+pub and-true : (x : Bool) → (x && true) ≡ x
+and-true true = refl
+and-true false = refl

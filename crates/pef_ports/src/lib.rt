@@ -2,6 +2,7 @@
 //! the printing that commands share: text through a page, lines, names, and memory in hex.
 #![tactic(auto)]
 
+mod chain;
 mod dump;
 mod input;
 mod line;
@@ -11,6 +12,7 @@ mod pieces;
 mod ports;
 pub mod system;
 
+pub use chain::{Decimal, Escaped, Hex, Joined, Printed, Verbatim};
 pub use dump::print_memory;
 pub use input::{InputFault, read_input};
 pub use line::{Line, push_hex};

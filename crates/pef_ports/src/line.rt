@@ -10,6 +10,10 @@ const LINE: usize = 96;
 /// How many bytes a word has.
 const WORD: usize = 4;
 
+/// The two upper-case digits of each byte, one byte after the other.
+static DIGITS: [u8; 512] =
+    *b"000102030405060708090A0B0C0D0E0F101112131415161718191A1B1C1D1E1F202122232425262728292A2B2C2D2E2F303132333435363738393A3B3C3D3E3F404142434445464748494A4B4C4D4E4F505152535455565758595A5B5C5D5E5F606162636465666768696A6B6C6D6E6F707172737475767778797A7B7C7D7E7F808182838485868788898A8B8C8D8E8F909192939495969798999A9B9C9D9E9FA0A1A2A3A4A5A6A7A8A9AAABACADAEAFB0B1B2B3B4B5B6B7B8B9BABBBCBDBEBFC0C1C2C3C4C5C6C7C8C9CACBCCCDCECFD0D1D2D3D4D5D6D7D8D9DADBDCDDDEDFE0E1E2E3E4E5E6E7E8E9EAEBECEDEEEFF0F1F2F3F4F5F6F7F8F9FAFBFCFDFEFF";
+
 /// A line that is put together before it is sent.
 pub type Line = ArrayVec<u8, LINE>;
 
@@ -86,25 +90,16 @@ pub(crate) fn word_digits(bytes: &[u8]) -> [u8; 8]
 
 /// Returns the first digit of a byte.
 #[inline(always)]
-pub(crate) fn high(byte: u8) -> u8
+fn high(byte: u8) -> u8
     ensures { result ≡ hex_digit (byte / 16) }
 {
-    digit(byte / 16)
+    DIGITS[usize::from(byte) * 2]
 }
 
 /// Returns the second digit of a byte.
 #[inline(always)]
-pub(crate) fn low(byte: u8) -> u8
+fn low(byte: u8) -> u8
     ensures { result ≡ hex_digit (byte % 16) }
 {
-    digit(byte % 16)
-}
-
-/// Returns the upper-case digit of a number below sixteen.
-#[inline(always)]
-fn digit(d: u8) -> u8
-    requires { d < 16 }
-    ensures { result ≡ hex_digit d }
-{
-    if d < 10 { b'0' + d } else { b'A' + (d - 10) }
+    DIGITS[usize::from(byte) * 2 + 1]
 }

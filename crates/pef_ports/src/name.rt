@@ -1,4 +1,5 @@
 ghost use Rattle.std.specs.Prelude.{◌≡◌, ◌≤◌, ◌++◌, drop, length, take};
+ghost use Rattle.pef_ports.specs.Kept.Plain.{are_plain};
 ghost use Rattle.pef_ports.specs.Names.{byte_text, is_plain_byte, name_text};
 ghost use Rattle.pef_ports.specs.Sent.{Sends};
 
@@ -7,9 +8,29 @@ use crate::page::{Page, send};
 use crate::ports::{Sink, StreamFault};
 
 /// Prints a name or a path. A byte that could break a line is printed as `%` and two digits.
-///
-/// Bytes that are printed unchanged are sent together.
 pub fn print_name<W: Sink>(out: &mut W, page: &mut Page, name: &[u8]) -> Result<(), StreamFault>
+    ensures { Sends result (W.stream out.old) (W.stream out.new) page.old.items page.new.items (name_text name.now) }
+{
+    if is_plain_name(name) {
+        return send(out, page, name);
+    }
+    print_escaped(out, page, name)
+}
+
+/// Returns whether all bytes of a name are printed unchanged. All are tested, so that the compiler tests many at once.
+fn is_plain_name(name: &[u8]) -> bool
+    ensures { result ≡ are_plain name.now }
+{
+    let mut plain = true;
+    for b in name {
+        plain &= is_plain(*b);
+    }
+    plain
+}
+
+/// Prints a name. Bytes that are printed unchanged are sent together.
+#[inline(never)]
+fn print_escaped<W: Sink>(out: &mut W, page: &mut Page, name: &[u8]) -> Result<(), StreamFault>
     ensures { Sends result (W.stream out.old) (W.stream out.new) page.old.items page.new.items (name_text name.now) }
 {
     let mut rest = name;

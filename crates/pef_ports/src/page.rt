@@ -11,12 +11,22 @@ const PAGE: usize = 8192;
 pub type Page = ArrayVec<u8, PAGE>;
 
 /// Sends `bytes` after those that wait in the page.
+#[inline(always)]
 pub fn send<W: Sink>(out: &mut W, page: &mut Page, bytes: &[u8]) -> Result<(), StreamFault>
     ensures { Sends result (W.stream out.old) (W.stream out.new) page.old.items page.new.items bytes.now }
 {
     if page.try_extend_from_slice(bytes).is_ok() {
         return Ok(());
     }
+    send_anew(out, page, bytes)
+}
+
+/// Sends `bytes` that the page has no place for: those that wait in it are written first. Each `send` would pay for it if it
+/// were part of that.
+#[inline(never)]
+fn send_anew<W: Sink>(out: &mut W, page: &mut Page, bytes: &[u8]) -> Result<(), StreamFault>
+    ensures { Sends result (W.stream out.old) (W.stream out.new) page.old.items page.new.items bytes.now }
+{
     flush(out, page)?;
     if page.try_extend_from_slice(bytes).is_ok() {
         return Ok(());

@@ -1,9 +1,9 @@
-ghost use Rattle.std.specs.Prelude.{◌≡◌, ◌≤◌, length};
+ghost use Rattle.std.specs.Prelude.{◌≡◌, ◌≤◌, decimal, length};
 ghost use Rattle.pef_ports.specs.Pieces.{piece_text, pieces_text};
 ghost use Rattle.pef_ports.specs.Sent.{Sends};
-ghost use Rattle.pef_ports.specs.Text.{digits_text, hex_text, offset_text, without_zeros};
+ghost use Rattle.pef_ports.specs.Text.{digits_text, hex_text, offset_text, without_zeros, word_text};
 
-use crate::line::{Line, push_hex};
+use crate::line::{Line, push_hex, word_digits};
 use crate::name::print_name;
 use crate::page::{Page, send};
 use crate::ports::{Sink, StreamFault};
@@ -49,15 +49,29 @@ fn print_piece<W: Sink>(out: &mut W, page: &mut Page, piece: Piece<'_>) -> Resul
     match piece {
         Piece::Text(text) => send(out, page, text),
         Piece::Name(name) => print_name(out, page, name),
-        Piece::Number(n) => {
-            let mut buffer = Buffer::new();
-            send(out, page, buffer.format(n).as_bytes())
-        }
-        Piece::Word(n) => print_hex(out, page, &n.to_be_bytes()),
+        Piece::Number(n) => print_number(out, page, n),
+        Piece::Word(n) => print_word(out, page, n),
         Piece::Halfword(n) => print_hex(out, page, &n.to_be_bytes()),
         Piece::Byte(n) => print_hex(out, page, &[n]),
         Piece::Offset(n) => print_offset(out, page, n),
     }
+}
+
+/// Prints a number in decimal.
+#[inline(always)]
+pub(crate) fn print_number<W: Sink>(out: &mut W, page: &mut Page, n: u64) -> Result<(), StreamFault>
+    ensures { Sends result (W.stream out.old) (W.stream out.new) page.old.items page.new.items (decimal n) }
+{
+    let mut buffer = Buffer::new();
+    send(out, page, buffer.format(n).as_bytes())
+}
+
+/// Prints a number of 32 bits in eight digits.
+#[inline(always)]
+pub(crate) fn print_word<W: Sink>(out: &mut W, page: &mut Page, n: u32) -> Result<(), StreamFault>
+    ensures { Sends result (W.stream out.old) (W.stream out.new) page.old.items page.new.items (word_text n) }
+{
+    send(out, page, &word_digits(&n.to_be_bytes()))
 }
 
 /// Prints `0x` and the digits of a number.

@@ -3,4 +3,4 @@ use Rattle.pef_listing.proofs.lines.print_import.Goals as goal
 
 pub returns-clause-sends : goal.returns-clause-sends
 unfolding import_lines import_text
-returns-clause-sends g c = rw (c.requires.import, ← c.of-library.ensures.name, ← c.strength.ensures, ← c.from.ensures) c.print_pieces.ensures
+returns-clause-sends g c = rw (c.requires.import, ← c.of-library.ensures.name, ← c.strength.ensures, ← c.from-class.ensures) c.print.ensures

@@ -3,4 +3,4 @@ use Rattle.pef_listing.proofs.lines.ExportedLines.print_at.Goals as goal
 
 pub returns : goal.returns
 unfolding export_lines export_text
-returns g c = rw (← c.in-Some.ensures.value, ← c.section_number-section.ensures.sign, ← c.section_number-section.ensures.magnitude, ← c.from.ensures, ← c.from-2.ensures) c.print_pieces.ensures
+returns g c = rw (← c.in-Some.ensures.value, ← c.section_number-section.ensures.sign, ← c.section_number-section.ensures.magnitude, ← c.from-class.ensures, ← c.from-magnitude.ensures) c.print.ensures

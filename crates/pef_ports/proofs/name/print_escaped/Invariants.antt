@@ -1,7 +1,7 @@
 use Rattle.std.proofs.Common.{length}
 use Rattle.pef_ports.specs.Names.{name_text}
 use Rattle.pef_ports.proofs.Laws.Sending.{IsSentUpTo}
-use Rattle.pef_ports.proofs.name.print_name.Given as goal
+use Rattle.pef_ports.proofs.name.print_escaped.Given as goal
 
 abbrev pub invariant-loop-rest : goal.invariant-loop-rest
 invariant-loop-rest g l = IsSentUpTo (g.W.Sink.stream l.fn.out) (g.W.Sink.stream l.out) l.fn.page.items l.page.items (name_text l.name) (name_text l.rest)
