@@ -9,6 +9,7 @@ pub mod Instrs
 pub mod Kept
 pub mod Left
 pub mod Limits
+pub mod Meanings
 pub mod Steps
 pub mod Traces
 pub mod Unrolled

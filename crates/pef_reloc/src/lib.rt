@@ -13,6 +13,7 @@ mod fixup;
 mod fixups;
 mod instr;
 mod machine;
+mod meaning;
 mod opcode;
 mod program;
 mod recent;
@@ -32,6 +33,7 @@ pub use fixup::{
 };
 pub use fixups::Fixups;
 pub use instr::{Instr, Repeat};
+pub use meaning::{InstrNumbers, instr_numbers, kind_name};
 pub use program::{Instrs, Program};
 pub use recent::MAX_STEPS;
 pub use relocate::apply;

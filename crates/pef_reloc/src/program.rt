@@ -130,9 +130,19 @@ pub struct Instrs<'a> {
 }
 
 impl<'a> Instrs<'a> {
-    ghost use Rattle.std.specs.Prelude.{◌≤◌, [], length};
+    ghost use Rattle.std.specs.Prelude.{◌≤◌, ◌∷◌, MatchOption, [], length};
     ghost use Rattle.pef_reloc.specs.Kept.Executions.{IsPassed, behind};
-    ghost use Rattle.pef_reloc.specs.Views.{TakesFirst, listed};
+    ghost use Rattle.pef_reloc.specs.Unrolled.{steps_from};
+    ghost use Rattle.pef_reloc.specs.Views.{TakesFirst, listed, placed};
+
+    /// Returns an iterator over the instructions of a program that may be damaged. It ends before the first bytes that
+    /// aren't an instruction.
+    #[tactic(auto, unfolding(crate::specs::Unrolled::instrs_of))]
+    pub fn new(bytes: &'a [u8]) -> Instrs<'a>
+        ensures { placed result ≡ steps_from 0 (instrs_of bytes.entry.now) }
+    {
+        Instrs { bytes, at: 0 }
+    }
 
     /// Returns the next instruction and moves past it, or returns `None` at the end.
     pub fn next_instr(&mut self) -> Option<Instr>
@@ -149,6 +159,19 @@ impl<'a> Instrs<'a> {
                 Some(instr)
             }
             Err(_) => None,
+        }
+    }
+
+    /// Returns the next instruction and the offset in the program at which it begins, and moves past it, or returns
+    /// `None` at the end.
+    pub fn next_placed(&mut self) -> Option<(usize, Instr)>
+        ensures takes { MatchOption result ((placed self.old ≡ []) × (placed self.new ≡ [])) (λ step. placed self.old ≡ step ∷ placed self.new) }
+        ensures fits { IfSome result (λ step. instr_fits step.1 ≡ true) }
+    {
+        let at = self.place();
+        match self.next_instr() {
+            Some(instr) => Some((at, instr)),
+            None => None,
         }
     }
 
