@@ -77,6 +77,7 @@ const DAMAGED: &[Damaged] = &[
                000000B0 main 1 00000000\n\
                000000E8 reloc section 9 halfwords 1 first 0\n\
                error 17 BadRelocSection reloc 0 sectionIndex at 000000E8\n\
+               000000F4 4601 TVector8 2\n\
                00000100 export go class 2 section 1 value 00000000\n",
         object: "{\"offset\":16,\"header\":{\"architecture\":\"pwpc\",\"format_version\":1,\"current\":1,\
                  \"current_text\":\"-\",\"olddef\":0,\"olddef_text\":\"-\",\"oldimp\":0,\"oldimp_text\":\"-\",\"date\":0,\
@@ -89,7 +90,8 @@ const DAMAGED: &[Damaged] = &[
                  \"packed\":90,\"default\":0,\"raw\":176,\"name\":null}],\
                  \"loader\":{\"offset\":176,\"libraries\":0,\"imports\":0,\"relocations\":1,\"programs\":68,\
                  \"strings\":70,\"hash\":72,\"power\":0,\"exports\":1},\"libraries\":[],\"imports\":[],\
-                 \"relocations\":[{\"offset\":232,\"section\":9,\"halfwords\":1,\"first\":0}],\
+                 \"relocations\":[{\"offset\":232,\"section\":9,\"halfwords\":1,\"first\":0,\
+                 \"instructions\":[{\"offset\":244,\"code\":\"4601\",\"kind\":\"TVector8\",\"numbers\":[2]}]}],\
                  \"exports\":[{\"offset\":256,\"name\":\"go\",\"class\":2,\"section\":1,\"value\":0}],\
                  \"entries\":{\"main\":{\"offset\":176,\"section\":1,\"value\":0},\"init\":null,\"term\":null},\
                  \"errors\":[{\"number\":6,\"name\":\"SectionOutside\",\"part\":\"section\",\"row\":0,\"field\":20,\

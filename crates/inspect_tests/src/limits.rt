@@ -1,4 +1,8 @@
-use pef_inspect::{Finding, find_errors};
+use pef_inspect::{
+    Finding, Limits, find_errors, find_errors_within, find_more_notes_within, find_notes_within,
+    left_after,
+};
+use pef_report::Inspection;
 use std::alloc::{AllocError, Global};
 
 /// A container with a data section of 16 bytes and a loader section, from 96 on, with five relocation headers. They are 12
@@ -72,4 +76,63 @@ fn too_many_packed_bytes_are_noted(rt: HostRuntime) {
     let mut found = Vec::new(rt.alloc());
     find_errors(&bytes, &mut found).expect(&rt, "memory");
     assert!(rt; is_last(&found, 111, 40 + 28 * 3_091 + 16));
+}
+
+/// Returns limits that are enough for two of the five programs, and for one word.
+fn two_programs() -> Limits {
+    Limits {
+        program_bytes: 36,
+        steps: 33_554_427,
+        packed_bytes: 0,
+        words: 1,
+    }
+}
+
+/// Two programs have 33,554,426 steps, and the third isn't verified. All are read, with 60 bytes, if there are so many.
+#[test]
+fn programs_past_other_limits_are_noted(rt: HostRuntime) {
+    let mut found = Vec::new(rt.alloc());
+    find_errors_within(STEPS, two_programs(), &mut found).expect(&rt, "memory");
+    assert!(rt;
+        found.len() == 4
+            && are_at(&found[1..3], 39, 212)
+            && found[0].place.offset == Some(152 + 3 * 12)
+            && is_last(&found, 110, 152 + 2 * 12)
+    );
+    found.clear();
+    find_notes_within(STEPS, two_programs(), &mut found).expect(&rt, "memory");
+    assert!(rt; found.len() == 0);
+    let more = find_more_notes_within(rt.alloc(), STEPS, two_programs()).expect(&rt, "memory");
+    assert!(rt; more.len() == 0);
+}
+
+/// Three programs of 12 bytes are read, and one step is left of those of two programs. No program adds to a word.
+#[test]
+fn limits_are_left(rt: HostRuntime) {
+    let left = left_after(two_programs(), STEPS);
+    assert!(rt;
+        left.program_bytes == 0 && left.steps == 1 && left.packed_bytes == 0 && left.words == 1
+    );
+    let left = left_after(Limits::for_container(), STEPS);
+    assert!(rt; left.program_bytes == 0x0400_0000 - 60 && left.steps == 12);
+    assert!(rt; left.packed_bytes == 0x1000_0000 && left.words == 0x0010_0000);
+}
+
+/// Returns how many notes an inspection of the five programs has within limits.
+fn notes_within(alloc: Global, limits: Limits) -> Result<u64, AllocError> {
+    Ok(Inspection::read_within(alloc, 0, STEPS, limits)?.note_count())
+}
+
+#[test]
+fn inspections_keep_limits(rt: HostRuntime) {
+    let some = notes_within(rt.alloc(), two_programs()).expect(&rt, "memory");
+    assert!(rt; some == 2);
+    let more = Limits {
+        program_bytes: 60,
+        steps: 83_886_065,
+        packed_bytes: 0,
+        words: 0,
+    };
+    let none = notes_within(rt.alloc(), more).expect(&rt, "memory");
+    assert!(rt; none == 0);
 }

@@ -20,10 +20,11 @@ use Rattle.pef_loader.specs.declared.fault.LoaderFault.{LoaderFault}
 use Rattle.pef_loader.proofs.Laws as loader_laws
 use Rattle.pef_reloc.specs.Unrolled.{program_fault}
 use Rattle.pef_inspect.specs.declared.finding.Finding.{Finding}
-use Rattle.pef_inspect.specs.Errors.{behind_errors, errors_in, errors_of, headers_of, image_errors, loader_errors, opened_errors, program_at, program_cost, program_error, program_errors, programs_unverified, run_errors, tables_errors}
+use Rattle.pef_inspect.specs.Errors.{behind_errors, errors_in, errors_of, errors_within, headers_of, image_errors, loader_errors, opened_errors, program_at, program_cost, program_error, program_errors, programs_unverified, run_errors, tables_errors}
 use Rattle.pef_inspect.specs.Findings.{loader_finding, program_finding, view_finding}
 use Rattle.pef_inspect.specs.First.{IsLimit, first_of_container, first_of_loader, first_program, first_reported, program_refused}
-use Rattle.pef_inspect.specs.Limits.{checked_within, most_program_bytes, rest_of, within}
+use Rattle.pef_inspect.specs.Limits.{checked_within, container_limits, rest_of, within}
+use Rattle.pef_inspect.specs.declared.limits.Limits.{Limits}
 use Rattle.pef_inspect.proofs.Soundness.{loader_there, tables_whole}
 
 first-map : {F G : Type 0} (f : F → G) (xs : List F) → first_fault (map f xs) ≡ option_map f (first_fault xs)
@@ -93,13 +94,13 @@ first-checked cost error unchecked most count f is =
           (each ∙ first_among-at error 0 reached at f under.1 (λ j low below. r.before j low (omega (arith, below))) (rw zero-at r.is)))
     ]
 
-module _ (c : Contained) (l : Loaded) where
+module _ (limits : Limits) (c : Contained) (l : Loaded) where
   -- the programs are those of the relocation headers
-  first-programs : (f : Finding) → loader.findings_in l ≡ [] → first_program c l ≡ Some f → IsFirst (program_errors c l) f
+  first-programs : (f : Finding) → loader.findings_in l ≡ [] → first_program c l ≡ Some f → IsFirst (program_errors limits c l) f
   first-programs f none is =
       let whole = tables_whole l none in
       let same : first_among (program_error c l) 0 (headers_of l) ≡ Some f = ap (first_among (program_error c l) 0) whole ∙ sym each ∙ is in
-      elim (first-checked (program_cost l) (program_error c l) (programs_unverified c) most_program_bytes (headers_of l) f same) [
+      elim (first-checked (program_cost l) (program_error c l) (programs_unverified c) limits.program_bytes (headers_of l) f same) [
         | inl first ↦ inl first
         | inr limit ↦ inr (record { container = c; header = limit.0; is = limit.1 })
       ]
@@ -121,57 +122,61 @@ module _ (c : Contained) (l : Loaded) where
       let found : loader.findings_of c.header.instantiated_section_count c.loader ≡ loader.findings_in l = rw opens refl in
       ap first_fault (sym found) ∙ loader_laws.first_is_reported c.header.instantiated_section_count c.loader
 
-  first-opened : (r : Result Loaded LoaderFault) (f : Finding) → loader.partial_of c.header.instantiated_section_count c.loader ≡ Ok l → loaded_of c.header.instantiated_section_count c.loader ≡ r → first_of_loader c r ≡ Some f → IsFirst (loader_errors c l) f
-  first-opened (Err fault) f opens read is = inl (first-here (map (loader_finding c) (loader.findings_in l)) (program_errors c l ++ (image_errors c ++ run_errors c l)) f
+  first-opened : (r : Result Loaded LoaderFault) (f : Finding) → loader.partial_of c.header.instantiated_section_count c.loader ≡ Ok l → loaded_of c.header.instantiated_section_count c.loader ≡ r → first_of_loader c r ≡ Some f → IsFirst (loader_errors limits c l) f
+  first-opened (Err fault) f opens read is = inl (first-here (map (loader_finding c) (loader.findings_in l)) (program_errors limits c l ++ (image_errors limits c ++ run_errors limits c l)) f
       (first-map (loader_finding c) (loader.findings_in l) ∙ ap (option_map (loader_finding c)) (first-found opens ∙ ap result_err read) ∙ is))
   first-opened (Ok m) f opens read is =
       let none : first_fault (loader.findings_in l) ≡ None = first-found opens ∙ ap result_err read in
       let sound = loader_laws.unrefused_loader c.header.instantiated_section_count c.loader l opens (ap result_err read) in
       let same : m ≡ l = cc (read, sound) in
       let first = first-programs f (none-first (loader.findings_in l) none) (ap (first_program c) (sym same) ∙ is) in
-      is-later (map (loader_finding c) (loader.findings_in l)) (program_errors c l ++ (image_errors c ++ run_errors c l)) f (first-map (loader_finding c) (loader.findings_in l) ∙ ap (option_map (loader_finding c)) none)
-      (is-here (program_errors c l) (image_errors c ++ run_errors c l) f first)
+      is-later (map (loader_finding c) (loader.findings_in l)) (program_errors limits c l ++ (image_errors limits c ++ run_errors limits c l)) f (first-map (loader_finding c) (loader.findings_in l) ∙ ap (option_map (loader_finding c)) none)
+      (is-here (program_errors limits c l) (image_errors limits c ++ run_errors limits c l) f first)
 
 -- the errors behind those of a container
-first-tables : (c : Contained) (r : Result Loaded LoaderFault) (f : Finding) → loader.partial_of c.header.instantiated_section_count c.loader ≡ r → first_of_loader c (loaded_of c.header.instantiated_section_count c.loader) ≡ Some f → IsFirst (tables_errors c r) f
+first-tables : (limits : Limits) (c : Contained) (r : Result Loaded LoaderFault) (f : Finding) → loader.partial_of c.header.instantiated_section_count c.loader ≡ r → first_of_loader c (loaded_of c.header.instantiated_section_count c.loader) ≡ Some f → IsFirst (tables_errors limits c r) f
 unfolding loader.findings_of
-first-tables c (Ok l) f opens is = first-opened c l (loaded_of c.header.instantiated_section_count c.loader) f opens refl is
-first-tables c (Err g) f opens is =
+first-tables limits c (Ok l) f opens is = first-opened limits c l (loaded_of c.header.instantiated_section_count c.loader) f opens refl is
+first-tables limits c (Err g) f opens is =
     let found : loader.findings_of c.header.instantiated_section_count c.loader ≡ g ∷ [] = rw opens refl in
     by (loaded_of c.header.instantiated_section_count c.loader) (ap first_fault (sym found) ∙ loader_laws.first_is_reported c.header.instantiated_section_count c.loader) is
   where
-    by : (r : Result Loaded LoaderFault) → Some g ≡ result_err r → first_of_loader c r ≡ Some f → IsFirst (loader_finding c g ∷ image_errors c) f
+    by : (r : Result Loaded LoaderFault) → Some g ≡ result_err r → first_of_loader c r ≡ Some f → IsFirst (loader_finding c g ∷ image_errors limits c) f
     by (Ok l) same is = absurd (cc same)
     by (Err h) same is = inl (ap (option_map (loader_finding c)) same ∙ is)
 
 -- those of a container
-first-container : (bytes : List ℕ) (c : Contained) (r : Result Contained ViewFault) (f : Finding) → views.partial_of bytes ≡ Ok c → container_of bytes ≡ r → first_of_container r ≡ Some f → IsFirst (errors_in c) f
+first-container : (limits : Limits) (bytes : List ℕ) (c : Contained) (r : Result Contained ViewFault) (f : Finding) → views.partial_of bytes ≡ Ok c → container_of bytes ≡ r → first_of_container r ≡ Some f → IsFirst (errors_in limits c) f
 unfolding views.findings_of
-first-container bytes c r f opens read is =
+first-container limits bytes c r f opens read is =
     let found : views.findings_of bytes ≡ views.findings_in c = rw opens refl in
     by r read (ap first_fault (sym found) ∙ view_laws.first_is_reported bytes ∙ ap result_err read) is
   where
-    by : (r : Result Contained ViewFault) → container_of bytes ≡ r → first_fault (views.findings_in c) ≡ result_err r → first_of_container r ≡ Some f → IsFirst (errors_in c) f
-    by (Err fault) read first is = inl (first-here (map view_finding (views.findings_in c)) (behind_errors c) f (first-map view_finding (views.findings_in c) ∙ ap (option_map view_finding) first ∙ is))
+    by : (r : Result Contained ViewFault) → container_of bytes ≡ r → first_fault (views.findings_in c) ≡ result_err r → first_of_container r ≡ Some f → IsFirst (errors_in limits c) f
+    by (Err fault) read first is = inl (first-here (map view_finding (views.findings_in c)) (behind_errors limits c) f (first-map view_finding (views.findings_in c) ∙ ap (option_map view_finding) first ∙ is))
     by (Ok d) read none is =
         let sound = view_laws.unrefused_container bytes c opens (ap result_err read) in
         let same : d ≡ c = cc (read, sound) in
         let there = loader_there c (none-first (views.findings_in c) none) in
-        let behind : behind_errors c ≡ tables_errors c (loader.partial_of c.header.instantiated_section_count c.loader) = rw there refl in
-        let first = first-tables c (loader.partial_of c.header.instantiated_section_count c.loader) f refl (ap (λ (k : Contained). first_of_loader k (loaded_of k.header.instantiated_section_count k.loader)) (sym same) ∙ is) in
-        is-later (map view_finding (views.findings_in c)) (behind_errors c) f (first-map view_finding (views.findings_in c) ∙ ap (option_map view_finding) none)
+        let behind : behind_errors limits c ≡ tables_errors limits c (loader.partial_of c.header.instantiated_section_count c.loader) = rw there refl in
+        let first = first-tables limits c (loader.partial_of c.header.instantiated_section_count c.loader) f refl (ap (λ (k : Contained). first_of_loader k (loaded_of k.header.instantiated_section_count k.loader)) (sym same) ∙ is) in
+        is-later (map view_finding (views.findings_in c)) (behind_errors limits c) f (first-map view_finding (views.findings_in c) ∙ ap (option_map view_finding) none)
         (subst (λ errors. IsFirst errors f) (sym behind) first)
 
-pub first_is_reported : (bytes : List ℕ) (f : Finding) → first_reported bytes ≡ Some f → (first_fault (errors_of bytes) ≡ Some f) ⊎ IsLimit (first_fault (errors_of bytes))
-unfolding errors_of first_reported views.findings_of
-first_is_reported bytes f is = by (views.partial_of bytes) refl
+pub first_within_is_reported : (limits : Limits) (bytes : List ℕ) (f : Finding) → first_reported bytes ≡ Some f → (first_fault (errors_within limits bytes) ≡ Some f) ⊎ IsLimit (first_fault (errors_within limits bytes))
+unfolding errors_within first_reported views.findings_of
+first_within_is_reported limits bytes f is = by (views.partial_of bytes) refl
   where
     unopened : (g : ViewFault) (r : Result Contained ViewFault) → Some g ≡ result_err r → first_of_container r ≡ Some f → IsFirst (view_finding g ∷ []) f
     unopened g (Ok c) same is = absurd (cc same)
     unopened g (Err h) same is = inl (ap (option_map view_finding) same ∙ is)
 
-    by : (r : Result Contained ViewFault) → views.partial_of bytes ≡ r → IsFirst (opened_errors r) f
-    by (Ok c) opens = first-container bytes c (container_of bytes) f opens refl is
+    by : (r : Result Contained ViewFault) → views.partial_of bytes ≡ r → IsFirst (opened_errors limits r) f
+    by (Ok c) opens = first-container limits bytes c (container_of bytes) f opens refl is
     by (Err g) opens =
         let found : views.findings_of bytes ≡ g ∷ [] = rw opens refl in
         unopened g (container_of bytes) (ap first_fault (sym found) ∙ view_laws.first_is_reported bytes) is
+
+pub first_is_reported : (bytes : List ℕ) (f : Finding) → first_reported bytes ≡ Some f → (first_fault (errors_of bytes) ≡ Some f) ⊎ IsLimit (first_fault (errors_of bytes))
+unfolding errors_of
+first_is_reported bytes f is = first_within_is_reported container_limits bytes f is

@@ -17,9 +17,10 @@ use Rattle.pef_loader.specs.declared.fault.LoaderFault.{LoaderFault}
 use Rattle.pef_loader.specs.declared.fault.LoaderFault.TheVariants.{BadTableOffset}
 use Rattle.pef_loader.proofs.Laws as loader_laws
 use Rattle.pef_inspect.specs.declared.finding.Finding.{Finding}
-use Rattle.pef_inspect.specs.Errors.{behind_errors, errors_in, errors_of, headers_of, image_cost, image_error, image_errors, images_unverified, loader_errors, opened_errors, program_cost, program_error, program_errors, programs_reached, programs_unverified, run_cost, run_error, run_errors, tables_errors}
+use Rattle.pef_inspect.specs.Errors.{behind_errors, errors_in, errors_of, errors_within, headers_of, image_cost, image_error, image_errors, images_unverified, loader_errors, opened_errors, program_cost, program_error, program_errors, programs_reached, programs_unverified, run_cost, run_error, run_errors, tables_errors}
 use Rattle.pef_inspect.specs.Findings.{loader_finding, view_finding}
-use Rattle.pef_inspect.specs.Limits.{checked_within, most_packed, most_program_bytes, most_steps, rest_of, within}
+use Rattle.pef_inspect.specs.Limits.{checked_within, container_limits, rest_of, within}
+use Rattle.pef_inspect.specs.declared.limits.Limits.{Limits}
 use Rattle.pef_inspect.specs.Sound.{IsSound}
 
 none-met : {F : Type 0} (test : Bool) (fault : F) → all_met ((test, fault) ∷ []) ≡ [] → test ≡ false
@@ -81,50 +82,56 @@ tables_whole l none =
     let short = none-met (nat_lt (length l.bytes) (tables_end l.header)) BadTableOffset (none-append (all_met (loader.table_tests l)) _ none).0 in
     rw (le-leb (tables_end l.header) (length l.bytes) (ltb-false (length l.bytes) (tables_end l.header) short)) refl
 
--- a container whose loader section has a header
-sound-loader : (bytes : List ℕ) (c : Contained) (l : Loaded) → container_of bytes ≡ Ok c → loader.partial_of c.header.instantiated_section_count c.loader ≡ Ok l → loader_errors c l ≡ [] → IsSound bytes
-sound-loader bytes c l contained opens none =
-    let tables = none-append (map (loader_finding c) (loader.findings_in l)) _ none in
-    let clean = none-map (loader_finding c) (loader.findings_in l) tables.0 in
-    let programs = none-append (program_errors c l) _ tables.1 in
-    let images = none-append (image_errors c) (run_errors c l) programs.1 in
-    let read = all-checked (program_cost l) (program_error c l) (programs_unverified c) most_program_bytes (headers_of l) programs.0 in
-    let packed = all-checked (image_cost c) (image_error c) (images_unverified c) most_packed c.header.instantiated_section_count images.0 in
-    let run = all-checked (run_cost c l) (run_error c l) (programs_unverified c) most_steps (programs_reached l) images.1 in
-    let whole = tables_whole l clean in
-    record {
-      container = c;
-      contained = contained;
-      loader = l;
-      loaded = loader_is c.header.instantiated_section_count c.loader l opens clean;
-      images = λ i under. none-mapped _ _ (packed.none i under);
-      programs = λ k under. none-mapped _ _ (read.none k (omega (arith, whole, under)));
-      runs = λ k under. none-mapped _ _ (run.none k (omega (arith, whole, under, read.reached)));
-    }
-
-sound-tables : (bytes : List ℕ) (c : Contained) (r : Result Loaded LoaderFault) → container_of bytes ≡ Ok c → loader.partial_of c.header.instantiated_section_count c.loader ≡ r → tables_errors c r ≡ [] → IsSound bytes
-sound-tables bytes c (Ok l) contained opens none = sound-loader bytes c l contained opens none
-sound-tables bytes c (Err fault) contained opens none = absurd (cc none)
-
 -- a container without errors has a loader section
 pub loader_there : (c : Contained) → views.findings_in c ≡ [] → is_none (loader_of c.bytes c.header) ≡ false
 loader_there c clean =
     let rows = (none-append _ _ clean).1 in
     none-met (is_none (loader_of c.bytes c.header)) NoLoader (none-append (all_among (views.section_findings c) 0 c.header.section_count) (all_met (views.loader_tests c)) rows).1
 
--- a container with a header
-sound-container : (bytes : List ℕ) (c : Contained) → views.partial_of bytes ≡ Ok c → errors_in c ≡ [] → IsSound bytes
-sound-container bytes c opens none =
-    let parts = none-append (map view_finding (views.findings_in c)) (behind_errors c) none in
-    let clean = none-map view_finding (views.findings_in c) parts.0 in
-    let there = loader_there c clean in
-    sound-tables bytes c (loader.partial_of c.header.instantiated_section_count c.loader) (container_is bytes c opens clean) refl (rw there at parts.1)
+-- the parts of a container without errors, within any limits
+module _ (limits : Limits) where
+  -- a container whose loader section has a header
+  sound-loader : (bytes : List ℕ) (c : Contained) (l : Loaded) → container_of bytes ≡ Ok c → loader.partial_of c.header.instantiated_section_count c.loader ≡ Ok l → loader_errors limits c l ≡ [] → IsSound bytes
+  sound-loader bytes c l contained opens none =
+      let tables = none-append (map (loader_finding c) (loader.findings_in l)) _ none in
+      let clean = none-map (loader_finding c) (loader.findings_in l) tables.0 in
+      let programs = none-append (program_errors limits c l) _ tables.1 in
+      let images = none-append (image_errors limits c) (run_errors limits c l) programs.1 in
+      let read = all-checked (program_cost l) (program_error c l) (programs_unverified c) limits.program_bytes (headers_of l) programs.0 in
+      let packed = all-checked (image_cost c) (image_error c) (images_unverified c) limits.packed_bytes c.header.instantiated_section_count images.0 in
+      let run = all-checked (run_cost c l) (run_error c l) (programs_unverified c) limits.steps (programs_reached limits l) images.1 in
+      let whole = tables_whole l clean in
+      record {
+        container = c;
+        contained = contained;
+        loader = l;
+        loaded = loader_is c.header.instantiated_section_count c.loader l opens clean;
+        images = λ i under. none-mapped _ _ (packed.none i under);
+        programs = λ k under. none-mapped _ _ (read.none k (omega (arith, whole, under)));
+        runs = λ k under. none-mapped _ _ (run.none k (omega (arith, whole, under, read.reached)));
+      }
+
+  sound-tables : (bytes : List ℕ) (c : Contained) (r : Result Loaded LoaderFault) → container_of bytes ≡ Ok c → loader.partial_of c.header.instantiated_section_count c.loader ≡ r → tables_errors limits c r ≡ [] → IsSound bytes
+  sound-tables bytes c (Ok l) contained opens none = sound-loader bytes c l contained opens none
+  sound-tables bytes c (Err fault) contained opens none = absurd (cc none)
+
+  -- a container with a header
+  sound-container : (bytes : List ℕ) (c : Contained) → views.partial_of bytes ≡ Ok c → errors_in limits c ≡ [] → IsSound bytes
+  sound-container bytes c opens none =
+      let parts = none-append (map view_finding (views.findings_in c)) (behind_errors limits c) none in
+      let clean = none-map view_finding (views.findings_in c) parts.0 in
+      let there = loader_there c clean in
+      sound-tables bytes c (loader.partial_of c.header.instantiated_section_count c.loader) (container_is bytes c opens clean) refl (rw there at parts.1)
 
 -- if no error is found, and nothing is left unverified, the container is sound
+pub no_errors_within_sound : (limits : Limits) (bytes : List ℕ) → errors_within limits bytes ≡ [] → IsSound bytes
+unfolding errors_within
+no_errors_within_sound limits bytes none = by (views.partial_of bytes) refl none
+  where
+    by : (r : Result Contained ViewFault) → views.partial_of bytes ≡ r → opened_errors limits r ≡ [] → IsSound bytes
+    by (Ok c) opens none = sound-container limits bytes c opens none
+    by (Err fault) opens none = absurd (cc none)
+
 pub no_errors_sound : (bytes : List ℕ) → errors_of bytes ≡ [] → IsSound bytes
 unfolding errors_of
-no_errors_sound bytes none = by (views.partial_of bytes) refl none
-  where
-    by : (r : Result Contained ViewFault) → views.partial_of bytes ≡ r → opened_errors r ≡ [] → IsSound bytes
-    by (Ok c) opens none = sound-container bytes c opens none
-    by (Err fault) opens none = absurd (cc none)
+no_errors_sound bytes none = no_errors_within_sound container_limits bytes none

@@ -1,4 +1,5 @@
--- All errors of some bytes as a container, in the order in which a listing and a preparation find the first one.
+-- All errors of some bytes as a container, in the order in which a listing and a preparation find the first one. How much is
+-- verified is bounded (this project's own).
 use Rattle.std.specs.Prelude.{ℕ, ◌&&◌, List, [], ◌∷◌, ◌++◌, Option, None, Some, Result, Ok, Err, length, map, nat_le, nat_lt, if◌then◌else◌}
 use Rattle.std.specs.Option.{is_none, option_and_then, option_map, option_map_or}
 use Rattle.std.specs.Result.{result_err}
@@ -23,7 +24,8 @@ use Rattle.pef_reloc.specs.Unrolled.{steps_of}
 use Rattle.pef_reloc.specs.Verified.{verified}
 use Rattle.pef_reloc.specs.declared.verifying.Sizes.{Sizes}
 use Rattle.pef_inspect.specs.Findings.{image_finding, loader_finding, note_finding, program_finding, view_finding}
-use Rattle.pef_inspect.specs.Limits.{checked_within, most_packed, most_program_bytes, most_steps, within}
+use Rattle.pef_inspect.specs.Limits.{checked_within, container_limits, within}
+use Rattle.pef_inspect.specs.declared.limits.Limits.{Limits}
 use Rattle.pef_inspect.specs.declared.note.Note.TheVariants.{ImagesUnverified, ProgramsUnverified}
 use Rattle.pef_inspect.specs.declared.finding.Finding.{Finding}
 
@@ -47,11 +49,11 @@ abbrev pub programs_unverified : Contained → ℕ → Finding
 programs_unverified c k = note_finding ProgramsUnverified (place_of c part.Relocation k 0)
 
 -- how many programs are read
-abbrev pub programs_reached : Loaded → ℕ
-programs_reached l = within (program_cost l) most_program_bytes 0 (headers_of l)
+abbrev pub programs_reached : Limits → Loaded → ℕ
+programs_reached limits l = within (program_cost l) limits.program_bytes 0 (headers_of l)
 
-abbrev pub program_errors : Contained → Loaded → List Finding
-program_errors c l = checked_within (program_cost l) (program_error c l) (programs_unverified c) most_program_bytes (headers_of l)
+abbrev pub program_errors : Limits → Contained → Loaded → List Finding
+program_errors limits c l = checked_within (program_cost l) (program_error c l) (programs_unverified c) limits.program_bytes (headers_of l)
 
 -- section i, if it is pattern-initialized and all its raw bytes are there
 abbrev pub packed_at : Contained → ℕ → Option SectionHeader
@@ -70,8 +72,8 @@ image_error c i = option_map (image_finding c i) (option_and_then (image_fault c
 abbrev pub images_unverified : Contained → ℕ → Finding
 images_unverified c i = note_finding ImagesUnverified (place_of c part.Section i 16)
 
-abbrev pub image_errors : Contained → List Finding
-image_errors c = checked_within (image_cost c) (image_error c) (images_unverified c) most_packed c.header.instantiated_section_count
+abbrev pub image_errors : Limits → Contained → List Finding
+image_errors limits c = checked_within (image_cost c) (image_error c) (images_unverified c) limits.packed_bytes c.header.instantiated_section_count
 
 -- what the relocation of a section is tested against, if the section is instantiated
 abbrev pub sizes_at : Contained → Loaded → ℕ → Option Sizes
@@ -94,32 +96,36 @@ run_cost c l k = option_map_or (λ (r : Sizes × List ℕ). steps_of r.1) (run_a
 abbrev pub run_error : Contained → Loaded → ℕ → Option Finding
 run_error c l k = option_map (program_finding c k) (option_and_then (λ (r : Sizes × List ℕ). verified r.0 r.1) (run_at c l k))
 
-abbrev pub run_errors : Contained → Loaded → List Finding
-run_errors c l = checked_within (run_cost c l) (run_error c l) (programs_unverified c) most_steps (programs_reached l)
+abbrev pub run_errors : Limits → Contained → Loaded → List Finding
+run_errors limits c l = checked_within (run_cost c l) (run_error c l) (programs_unverified c) limits.steps (programs_reached limits l)
 
 -- the errors of a container whose loader section has a header
-abbrev pub loader_errors : Contained → Loaded → List Finding
-loader_errors c l = map (loader_finding c) (loader.findings_in l) ++ (program_errors c l ++ (image_errors c ++ run_errors c l))
+abbrev pub loader_errors : Limits → Contained → Loaded → List Finding
+loader_errors limits c l = map (loader_finding c) (loader.findings_in l) ++ (program_errors limits c l ++ (image_errors limits c ++ run_errors limits c l))
 
-abbrev pub tables_errors : Contained → Result Loaded LoaderFault → List Finding
-tables_errors c (Ok l) = loader_errors c l
-tables_errors c (Err f) = loader_finding c f ∷ image_errors c
+abbrev pub tables_errors : Limits → Contained → Result Loaded LoaderFault → List Finding
+tables_errors limits c (Ok l) = loader_errors limits c l
+tables_errors limits c (Err f) = loader_finding c f ∷ image_errors limits c
 
 -- the errors behind those of the container itself
-abbrev pub behind_errors : Contained → List Finding
-behind_errors c =
-    if is_none (loader_of c.bytes c.header) then image_errors c
-    else tables_errors c (loader.partial_of c.header.instantiated_section_count c.loader)
+abbrev pub behind_errors : Limits → Contained → List Finding
+behind_errors limits c =
+    if is_none (loader_of c.bytes c.header) then image_errors limits c
+    else tables_errors limits c (loader.partial_of c.header.instantiated_section_count c.loader)
 
 -- the errors of a container with a header
-abbrev pub errors_in : Contained → List Finding
-errors_in c = map view_finding (views.findings_in c) ++ behind_errors c
+abbrev pub errors_in : Limits → Contained → List Finding
+errors_in limits c = map view_finding (views.findings_in c) ++ behind_errors limits c
 
-abbrev pub opened_errors : Result Contained ViewFault → List Finding
-opened_errors (Ok c) = errors_in c
-opened_errors (Err f) = view_finding f ∷ []
+abbrev pub opened_errors : Limits → Result Contained ViewFault → List Finding
+opened_errors limits (Ok c) = errors_in limits c
+opened_errors limits (Err f) = view_finding f ∷ []
 
--- all errors, and a note where the verification of programs or of packed data ended. If this list is empty, the container is
--- sound
+-- all errors, and a note where the verification of programs or of packed data ended at a limit. If this list is empty, the
+-- container is sound, whatever the limits are
+unfoldable pub errors_within : Limits → List ℕ → List Finding
+errors_within limits bytes = opened_errors limits (views.partial_of bytes)
+
+-- the same within the limits for one container
 unfoldable pub errors_of : List ℕ → List Finding
-errors_of bytes = opened_errors (views.partial_of bytes)
+errors_of bytes = errors_within container_limits bytes

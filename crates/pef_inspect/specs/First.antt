@@ -10,9 +10,10 @@ use Rattle.pef_loader.specs.Loader.{Loaded, loaded_of, reloc_of}
 use Rattle.pef_loader.specs.declared.fault.LoaderFault.{LoaderFault}
 use Rattle.pef_reloc.specs.Unrolled.{program_fault}
 use Rattle.pef_reloc.specs.declared.fault.RelocFault.{RelocFault}
-use Rattle.pef_inspect.specs.Errors.{errors_of, programs_unverified}
+use Rattle.pef_inspect.specs.Errors.{errors_of, errors_within, programs_unverified}
 use Rattle.pef_inspect.specs.Findings.{loader_finding, program_finding, view_finding}
 use Rattle.pef_inspect.specs.declared.finding.Finding.{Finding}
+use Rattle.pef_inspect.specs.declared.limits.Limits.{Limits}
 
 -- why the program of relocation header k isn't readable
 abbrev pub program_refused : Loaded → ℕ → Option RelocFault
@@ -44,3 +45,8 @@ pub record IsLimit (finding : Option Finding) : Type 0 where
 abbrev pub FirstIsReported : Type 0
 FirstIsReported = (bytes : List ℕ) (f : Finding) → first_reported bytes ≡ Some f
     → (first_fault (errors_of bytes) ≡ Some f) ⊎ IsLimit (first_fault (errors_of bytes))
+
+-- the same within any limits
+abbrev pub FirstIsReportedWithin : Type 0
+FirstIsReportedWithin = (limits : Limits) (bytes : List ℕ) (f : Finding) → first_reported bytes ≡ Some f
+    → (first_fault (errors_within limits bytes) ≡ Some f) ⊎ IsLimit (first_fault (errors_within limits bytes))

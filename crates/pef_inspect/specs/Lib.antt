@@ -2,6 +2,7 @@ pub mod Errors
 pub mod Extents
 pub mod Findings
 pub mod First
+pub mod Left
 pub mod Limits
 pub mod More
 pub mod Notes
@@ -9,5 +10,6 @@ pub mod Runs
 pub mod Loads
 pub mod Oddities
 pub mod PartsSeen
+pub mod Shown
 pub mod Sound
 pub mod Twice

@@ -30,7 +30,8 @@ use Rattle.pef_reloc.specs.declared.fault.RelocFault.TheVariants.{WordOutside}
 use Rattle.pef_reloc.specs.declared.verifying.Sizes.{Sizes}
 use Rattle.pef_inspect.specs.Errors.{programs_reached, run_cost, run_at}
 use Rattle.pef_inspect.specs.Findings.{note_finding}
-use Rattle.pef_inspect.specs.Limits.{most_steps, within}
+use Rattle.pef_inspect.specs.Limits.{container_limits, within}
+use Rattle.pef_inspect.specs.declared.limits.Limits.{Limits}
 use Rattle.pef_inspect.specs.declared.note.Note.{Note}
 use Rattle.pef_inspect.specs.declared.note.Note.TheVariants.{ReservedNotZero, UnknownKind, UnknownShare, VersionBelowOldest, EntryOutside, ExportOutside, WordOutsideImage, IrregularExports}
 use Rattle.pef_inspect.specs.declared.finding.Finding.{Finding}
@@ -129,34 +130,34 @@ abbrev pub word_note : Contained → Loaded → ℕ → Option Finding
 word_note c l k = option_and_then (λ image. option_and_then (λ run. option_map (λ (w : ℕ × ℕ). note_at c (WordOutsideImage w.1) part.Program k w.0) (word_outside image run)) (run_at c l k)) (image_size c l k)
 
 -- how many programs are verified
-abbrev pub runs_reached : Contained → Loaded → ℕ
-runs_reached c l = within (run_cost c l) most_steps 0 (programs_reached l)
+abbrev pub runs_reached : Limits → Contained → Loaded → ℕ
+runs_reached limits c l = within (run_cost c l) limits.steps 0 (programs_reached limits l)
 
 -- the notes on a loader section, without that on irregular exports
-abbrev pub loader_notes : Contained → Loaded → List Finding
-loader_notes c l = all_among (library_row c l) 0 (rows_in l (library_place 0) 24 l.header.library_count)
+abbrev pub loader_notes : Limits → Contained → Loaded → List Finding
+loader_notes limits c l = all_among (library_row c l) 0 (rows_in l (library_place 0) 24 l.header.library_count)
     ++ (all_met (entry_notes c l)
     ++ (all_among (relocation_row c l) 0 (rows_in l (relocs_from l.header) 12 l.header.reloc_count)
     ++ (all_among (export_row c l) 0 (exports_in l)
-    ++ all_among (λ k. option_to_list (word_note c l k)) 0 (runs_reached c l))))
+    ++ all_among (λ k. option_to_list (word_note c l k)) 0 (runs_reached limits c l))))
 
 -- the note on exports that aren't searched by their hash words
 abbrev pub irregular_note : Contained → Bool → List Finding
 irregular_note c irregular = if irregular then note_at c IrregularExports part.LoaderHeader 0 44 ∷ [] else []
 
-abbrev pub behind_notes : Contained → Result Loaded LoaderFault → Bool → List Finding
-behind_notes c (Ok l) irregular = loader_notes c l ++ irregular_note c irregular
-behind_notes c (Err f) irregular = []
+abbrev pub behind_notes : Limits → Contained → Result Loaded LoaderFault → Bool → List Finding
+behind_notes limits c (Ok l) irregular = loader_notes limits c l ++ irregular_note c irregular
+behind_notes limits c (Err f) irregular = []
 
 -- the notes on a container
-abbrev pub notes_in : Contained → Bool → List Finding
-notes_in c irregular = all_met (header_notes c)
+abbrev pub notes_in : Limits → Contained → Bool → List Finding
+notes_in limits c irregular = all_met (header_notes c)
     ++ (all_among (section_row c) 0 c.header.section_count
-    ++ behind_notes c (loader.partial_of c.header.instantiated_section_count c.loader) irregular)
+    ++ behind_notes limits c (loader.partial_of c.header.instantiated_section_count c.loader) irregular)
 
-abbrev pub opened_notes : Result Contained ViewFault → Bool → List Finding
-opened_notes (Ok c) irregular = notes_in c irregular
-opened_notes (Err f) irregular = []
+abbrev pub opened_notes : Limits → Result Contained ViewFault → Bool → List Finding
+opened_notes limits (Ok c) irregular = notes_in limits c irregular
+opened_notes limits (Err f) irregular = []
 
 -- there are exports, and their table isn't one that is searched by its slots
 abbrev pub IrregularLoader : Result Loaded LoaderFault → Type 0
@@ -180,6 +181,11 @@ pub record Adds (before after : List Finding) (notes : Bool → List Finding) (h
   pub exact : IsTrue answer ↔ holds
   pub taken : after ≡ before ++ notes answer
 
--- the notes on some bytes as a container, except those that need memory
+-- the notes on some bytes as a container, except those that need memory. Programs that pass a limit have no note on their
+-- words
+unfoldable pub notes_within : Limits → List ℕ → Bool → List Finding
+notes_within limits bytes irregular = opened_notes limits (views.partial_of bytes) irregular
+
+-- the same within the limits for one container
 unfoldable pub notes_of : List ℕ → Bool → List Finding
-notes_of bytes irregular = opened_notes (views.partial_of bytes) irregular
+notes_of bytes irregular = notes_within container_limits bytes irregular

@@ -6,7 +6,8 @@ use Rattle.pef_loader.specs.Loader.{Loaded, loaded_of}
 use Rattle.pef_reloc.specs.Unrolled.{program_fault}
 use Rattle.pef_reloc.specs.Verified.{verified}
 use Rattle.pef_reloc.specs.declared.verifying.Sizes.{Sizes}
-use Rattle.pef_inspect.specs.Errors.{errors_of, image_fault, packed_at, program_at, run_at}
+use Rattle.pef_inspect.specs.Errors.{errors_of, errors_within, image_fault, packed_at, program_at, run_at}
+use Rattle.pef_inspect.specs.declared.limits.Limits.{Limits}
 
 -- the bytes are a container, with a loader section; each packed image expands, each program is readable, and each is applied
 -- to its section, whatever addresses it is given
@@ -22,3 +23,7 @@ pub record IsSound (bytes : List ℕ) : Type 0 where
 -- if no error is found, and nothing is left unverified, the container is sound
 abbrev pub FindsAll : Type 0
 FindsAll = (bytes : List ℕ) → errors_of bytes ≡ [] → IsSound bytes
+
+-- the same within any limits
+abbrev pub FindsAllWithin : Type 0
+FindsAllWithin = (limits : Limits) (bytes : List ℕ) → errors_within limits bytes ≡ [] → IsSound bytes

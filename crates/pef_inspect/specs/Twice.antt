@@ -1,5 +1,5 @@
 -- Words to which a program adds more than one address. How many words are compared is bounded (this project's own).
-use Rattle.std.specs.Prelude.{ℕ, ◌+◌, ◌==◌, ◌||◌, Bool, false, min, List, [], ◌∷◌, Option, None, Some, Result, Ok, Err, length, map, if◌then◌else◌}
+use Rattle.std.specs.Prelude.{ℕ, ◌==◌, ◌||◌, Bool, false, List, [], ◌∷◌, Option, None, Some, Result, Ok, Err, length, map, if◌then◌else◌}
 use Rattle.std.specs.Option.{option_map, option_map_or}
 use Rattle.pef_format.specs.declared.place.Part.TheVariants as part
 use Rattle.pef_views.specs.Container.{Contained}
@@ -10,7 +10,8 @@ use Rattle.pef_reloc.specs.Traces.{fixups_of}
 use Rattle.pef_reloc.specs.declared.fixup.Fixup.{Fixup}
 use Rattle.pef_reloc.specs.declared.verifying.Sizes.{Sizes}
 use Rattle.pef_inspect.specs.Errors.{programs_unverified, run_at}
-use Rattle.pef_inspect.specs.Limits.{checked_within, most_words}
+use Rattle.pef_inspect.specs.Limits.{checked_within, within}
+use Rattle.pef_inspect.specs.declared.limits.Limits.{Limits}
 use Rattle.pef_inspect.specs.Oddities.{note_at, runs_reached}
 use Rattle.pef_inspect.specs.declared.finding.Finding.{Finding}
 use Rattle.pef_inspect.specs.declared.note.Note.TheVariants.{WordRelocatedTwice}
@@ -35,20 +36,24 @@ first_again before (word ∷ words) = if is_among before word then Some word els
 
 -- how many words of a program are compared
 abbrev pub words_cost : Contained → Loaded → ℕ → ℕ
-words_cost c l k = min (length (words_at c l k)) (most_words + 1)
+words_cost c l k = length (words_at c l k)
 
 -- the note on the first such word of the program of relocation header k
 abbrev pub twice_note : Contained → Loaded → ℕ → Option Finding
 twice_note c l k = option_map (λ word. note_at c (WordRelocatedTwice word) part.Program k 0) (first_again [] (words_at c l k))
 
 -- the notes on the programs that are verified, and that on those with too many words
-abbrev pub twice_notes : Contained → Loaded → List Finding
-twice_notes c l = checked_within (words_cost c l) (twice_note c l) (programs_unverified c) most_words (runs_reached c l)
+abbrev pub twice_notes : Limits → Contained → Loaded → List Finding
+twice_notes limits c l = checked_within (words_cost c l) (twice_note c l) (programs_unverified c) limits.words (runs_reached limits c l)
 
-abbrev pub loader_twice : Contained → Result Loaded LoaderFault → List Finding
-loader_twice c (Ok l) = twice_notes c l
-loader_twice c (Err f) = []
+-- how many programs are searched for such words
+abbrev pub words_reached : Limits → Contained → Loaded → ℕ
+words_reached limits c l = within (words_cost c l) limits.words 0 (runs_reached limits c l)
+
+abbrev pub loader_twice : Limits → Contained → Result Loaded LoaderFault → List Finding
+loader_twice limits c (Ok l) = twice_notes limits c l
+loader_twice limits c (Err f) = []
 
 -- the notes on a container
-unfoldable pub twice_in : Contained → List Finding
-twice_in c = loader_twice c (partial_of c.header.instantiated_section_count c.loader)
+unfoldable pub twice_in : Limits → Contained → List Finding
+twice_in limits c = loader_twice limits c (partial_of c.header.instantiated_section_count c.loader)

@@ -1,7 +1,7 @@
-ghost use Rattle.std.specs.Prelude.{◌≡◌, ◌++◌, ◌≤◌, ℕ, IfOk, List, OnOk, Option};
+ghost use Rattle.std.specs.Prelude.{◌≡◌, ◌++◌, ◌≤◌, ℕ, List, OnOk, Option};
 ghost use Rattle.std.specs.Option.{option_to_list};
 ghost use Rattle.pef_words.specs.Findings.{all_among};
-ghost use Rattle.pef_inspect.specs.Limits.{checked_within, within};
+ghost use Rattle.pef_inspect.specs.Limits.{checked_within, left_within, less, within};
 ghost use Rattle.pef_inspect.specs.declared.finding.Finding.{Finding};
 
 use crate::finding::Finding;
@@ -12,9 +12,9 @@ pub(crate) trait Costed {
     /// What each part costs.
     ghost cost: { Self → ℕ → ℕ };
 
-    /// Returns what part `i` costs.
-    fn cost(&self, i: u32) -> u64
-        ensures { result ≡ cost self.now i };
+    /// Returns what is left of a limit after part `i`, unless the part costs more.
+    fn rest(&self, i: u32, limit: u64) -> Option<u64>
+        ensures { result ≡ less limit (cost self.now i) };
 }
 
 /// Parts that are checked.
@@ -34,20 +34,38 @@ pub(crate) trait Checked: Costed {
         ensures { result ≡ unchecked self.now i };
 }
 
+/// How many parts are within a limit, and what is left of it after them.
+#[derive(Clone, Copy, Debug)]
+pub(crate) struct Reach {
+    pub count: u32,
+    pub left: u64,
+}
+
 /// Returns how many of the first `count` parts cost no more than `most` together.
-pub(crate) fn within<C: Costed>(parts: &C, most: u64, count: u32) -> u32
-    ensures value { result ≡ within (C.cost parts.now) most 0 count }
-    ensures below { result ≤ count }
+pub(crate) fn within<C: Costed>(parts: &C, most: u64, count: u32) -> Reach
+    ensures value { result.count ≡ within (C.cost parts.now) most 0 count }
+    ensures left { result.left ≡ left_within (C.cost parts.now) most 0 count }
+    ensures below { result.count ≤ count }
 {
     let mut left = most;
     for i in 0..count {
-        let cost = parts.cost(i);
-        if cost > left {
-            return i;
+        match parts.rest(i, left) {
+            Some(rest) => left = rest,
+            None => return Reach { count: i, left },
         }
-        left -= cost;
     }
-    count
+    Reach { count, left }
+}
+
+/// Returns what is left of a limit after a cost, unless the cost is more.
+pub(crate) fn less(limit: u64, cost: u64) -> Option<u64>
+    ensures { result ≡ less limit cost }
+{
+    if cost > limit {
+        None
+    } else {
+        Some(limit - cost)
+    }
 }
 
 /// Hands the errors of the first `count` parts to a sink, up to a limit of what they cost, and the note if the limit is passed.
@@ -59,7 +77,7 @@ pub(crate) fn check_within<C: Checked, S: Findings>(
 ) -> Result<(), S::Error>
     ensures { OnOk result (S.taken sink.new ≡ S.taken sink.old ++ checked_within (C.cost parts.now) (C.error parts.now) (C.unchecked parts.now) most count) }
 {
-    let reached = within(parts, most, count);
+    let reached = within(parts, most, count).count;
     check_each(parts, reached, sink)?;
     if reached < count {
         sink.take(parts.unchecked(reached))?;

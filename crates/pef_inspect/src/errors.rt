@@ -1,11 +1,12 @@
 ghost use Rattle.std.specs.Prelude.{◌≡◌, ◌++◌, OnOk};
 ghost use Rattle.pef_views.specs.PartialViews.{partly};
 ghost use Rattle.pef_loader.specs.PartialViews.{partly_loaded};
-ghost use Rattle.pef_inspect.specs.Errors.{behind_errors, errors_in, errors_of, loader_errors};
+ghost use Rattle.pef_inspect.specs.Errors.{behind_errors, errors_in, errors_of, errors_within, loader_errors};
 
 use crate::finding::Finding;
 use crate::images::find_in_images;
-use crate::programs::{find_in_programs, programs_within};
+use crate::limits::Limits;
+use crate::programs::find_in_programs;
 use crate::rows::{find_in_sections, find_in_tables};
 use crate::runs::find_in_runs;
 use crate::sink::Findings;
@@ -17,7 +18,7 @@ use pef_views::PartialContainer;
 ///
 /// They come in the order in which a listing and a preparation find the first one: those of the container, of the loader
 /// section, of the relocation programs, of packed data, and of what the programs would do. The notes that programs or packed
-/// data weren't verified are among them.
+/// data weren't verified are among them: they pass the limits for one container.
 ///
 /// # Errors
 ///
@@ -26,8 +27,24 @@ use pef_views::PartialContainer;
 pub fn find_errors<S: Findings>(bytes: &[u8], sink: &mut S) -> Result<(), S::Error>
     ensures { OnOk result (S.taken sink.new ≡ S.taken sink.old ++ errors_of bytes.now) }
 {
+    find_errors_within(bytes, Limits::for_container(), sink)
+}
+
+/// Hands the same errors to a sink, within any limits.
+///
+/// # Errors
+///
+/// Only those of the sink.
+#[tactic(auto, unfolding(crate::specs::Errors::errors_within))]
+pub fn find_errors_within<S: Findings>(
+    bytes: &[u8],
+    limits: Limits,
+    sink: &mut S,
+) -> Result<(), S::Error>
+    ensures { OnOk result (S.taken sink.new ≡ S.taken sink.old ++ errors_within limits bytes.now) }
+{
     match PartialContainer::read(bytes) {
-        Ok(container) => find_in_container(&container, sink),
+        Ok(container) => find_in_container(&container, limits, sink),
         Err(fault) => sink.take(Finding::of_view(fault)),
     }
 }
@@ -35,29 +52,34 @@ pub fn find_errors<S: Findings>(bytes: &[u8], sink: &mut S) -> Result<(), S::Err
 /// Hands the errors of a container to a sink.
 fn find_in_container<S: Findings>(
     container: &PartialContainer<'_>,
+    limits: Limits,
     sink: &mut S,
 ) -> Result<(), S::Error>
-    ensures { OnOk result (S.taken sink.new ≡ S.taken sink.old ++ errors_in (partly container.now)) }
+    ensures { OnOk result (S.taken sink.new ≡ S.taken sink.old ++ errors_in limits (partly container.now)) }
 {
     take_views(&container.header_tests(), sink)?;
     find_in_sections(container, sink)?;
     take_views(&container.loader_tests(), sink)?;
-    find_behind(container, sink)?;
+    find_behind(container, limits, sink)?;
     Ok(())
 }
 
 /// Hands the errors of the loader section, of programs and of packed data to a sink.
-fn find_behind<S: Findings>(container: &PartialContainer<'_>, sink: &mut S) -> Result<(), S::Error>
-    ensures { OnOk result (S.taken sink.new ≡ S.taken sink.old ++ behind_errors (partly container.now)) }
+fn find_behind<S: Findings>(
+    container: &PartialContainer<'_>,
+    limits: Limits,
+    sink: &mut S,
+) -> Result<(), S::Error>
+    ensures { OnOk result (S.taken sink.new ≡ S.taken sink.old ++ behind_errors limits (partly container.now)) }
 {
     if container.loader().is_none() {
-        return find_in_images(container, sink);
+        return find_in_images(container, limits, sink);
     }
     match PartialLoader::read(container) {
-        Ok(loader) => find_in_loader(container, &loader, sink),
+        Ok(loader) => find_in_loader(container, &loader, limits, sink),
         Err(fault) => {
             sink.take(Finding::of_loader(container, fault))?;
-            find_in_images(container, sink)?;
+            find_in_images(container, limits, sink)?;
             Ok(())
         }
     }
@@ -67,15 +89,15 @@ fn find_behind<S: Findings>(container: &PartialContainer<'_>, sink: &mut S) -> R
 fn find_in_loader<S: Findings>(
     container: &PartialContainer<'_>,
     loader: &PartialLoader<'_>,
+    limits: Limits,
     sink: &mut S,
 ) -> Result<(), S::Error>
     requires { partly loader.now.container ≡ partly container.now }
-    ensures { OnOk result (S.taken sink.new ≡ S.taken sink.old ++ loader_errors (partly container.now) (partly_loaded loader.now)) }
+    ensures { OnOk result (S.taken sink.new ≡ S.taken sink.old ++ loader_errors limits (partly container.now) (partly_loaded loader.now)) }
 {
     find_in_tables(container, loader, sink)?;
-    find_in_programs(container, loader, sink)?;
-    find_in_images(container, sink)?;
-    let programs = programs_within(container, loader);
-    find_in_runs(container, loader, programs, sink)?;
+    find_in_programs(container, loader, limits, sink)?;
+    find_in_images(container, limits, sink)?;
+    find_in_runs(container, loader, limits, sink)?;
     Ok(())
 }

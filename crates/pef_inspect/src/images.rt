@@ -2,9 +2,11 @@ ghost use Rattle.std.specs.Prelude.{◌≡◌, ◌++◌, OnOk};
 ghost use Rattle.pef_views.specs.PartialViews.{partly};
 ghost use Rattle.pef_inspect.specs.Errors.{image_errors, packed_at};
 ghost use Rattle.pef_inspect.specs.Findings.{image_finding};
+ghost use Rattle.pef_inspect.specs.Left.{left_packed};
 
-use crate::checked::{Checked, Costed, check_within};
+use crate::checked::{Checked, Costed, Reach, check_within, less, within};
 use crate::finding::{Cause, Finding};
+use crate::limits::Limits;
 use crate::note::Note;
 use crate::sink::Findings;
 use pef_format::Part;
@@ -12,9 +14,6 @@ use pef_format::layout::PACKED_SIZE_AT;
 use pef_loader::partial_place;
 use pef_pidata::{PackFault, verify};
 use pef_views::{PartialContainer, SectionHeader};
-
-/// How many bytes of packed data are verified together.
-pub const MAX_PACKED_BYTES: u64 = 0x1000_0000;
 
 /// The pattern-initialized sections of a container.
 #[derive(Clone, Copy)]
@@ -28,10 +27,10 @@ impl<'c, 'a> Costed for Images<'c, 'a> {
 
     ghost cost = { λ parts i. image_cost (partly parts.container.now) i };
 
-    fn cost(&self, i: u32) -> u64 {
+    fn rest(&self, i: u32, limit: u64) -> Option<u64> {
         match packed_section(self.container, i) {
-            Some(section) => u64::from(section.packed_size),
-            None => 0,
+            Some(section) => less(limit, u64::from(section.packed_size)),
+            None => Some(limit),
         }
     }
 }
@@ -65,12 +64,21 @@ impl<'c, 'a> Checked for Images<'c, 'a> {
 /// the container have no packed data to test.
 pub(crate) fn find_in_images<S: Findings>(
     container: &PartialContainer<'_>,
+    limits: Limits,
     sink: &mut S,
 ) -> Result<(), S::Error>
-    ensures { OnOk result (S.taken sink.new ≡ S.taken sink.old ++ image_errors (partly container.now)) }
+    ensures { OnOk result (S.taken sink.new ≡ S.taken sink.old ++ image_errors limits (partly container.now)) }
 {
     let count = u32::from(container.header().instantiated_section_count);
-    check_within(&Images { container }, MAX_PACKED_BYTES, count, sink)
+    check_within(&Images { container }, limits.packed_bytes, count, sink)
+}
+
+/// Returns how many sections have their packed data verified, if it is packed, and what is left of the limit.
+pub(crate) fn images_within(limits: Limits, container: &PartialContainer<'_>) -> Reach
+    ensures { result.left ≡ left_packed limits (partly container.now) }
+{
+    let count = u32::from(container.header().instantiated_section_count);
+    within(&Images { container }, limits.packed_bytes, count)
 }
 
 /// Returns the header of section `i`, if it is pattern-initialized and all its raw bytes are there.

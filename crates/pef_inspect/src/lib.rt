@@ -2,7 +2,8 @@
 //! errors and oddities, each at its place.
 //!
 //! [`find_errors`] and [`find_notes`] hand each finding to a sink, in order, and allocate nothing. [`find_more_notes`]
-//! returns the notes that need memory.
+//! returns the notes that need memory. How much of a container they verify is bounded by [`Limits`]. The calls that end in
+//! `within` take these, and [`left_after`] returns what is left of them for the next container of a file.
 #![tactic(auto)]
 
 mod checked;
@@ -10,6 +11,8 @@ mod errors;
 mod extents;
 mod finding;
 mod images;
+mod left;
+mod limits;
 mod more;
 mod note;
 mod notes;
@@ -22,15 +25,17 @@ mod tables;
 mod theorems;
 mod twice;
 
-pub use errors::find_errors;
+pub use errors::{find_errors, find_errors_within};
 pub use finding::{Cause, Finding};
-pub use images::MAX_PACKED_BYTES;
-pub use more::find_more_notes;
+pub use left::left_after;
+pub use limits::{Limits, MAX_PACKED_BYTES, MAX_PROGRAM_BYTES, MAX_STEPS, MAX_WORDS};
+pub use more::{find_more_notes, find_more_notes_within};
 pub use note::Note;
-pub use notes::find_notes;
+pub use notes::{find_notes, find_notes_within};
 pub use parts::Parts;
-pub use programs::MAX_PROGRAM_BYTES;
-pub use runs::MAX_STEPS;
+pub use programs::programs_shown;
 pub use sink::Findings;
-pub use theorems::{first_error_is_reported, no_errors_are_sound};
-pub use twice::MAX_WORDS;
+pub use theorems::{
+    first_error_is_reported, first_error_within_is_reported, no_errors_are_sound,
+    no_errors_within_are_sound,
+};

@@ -1,8 +1,9 @@
 ghost use Rattle.std.specs.Prelude.{IfOk};
-ghost use Rattle.pef_inspect.specs.More.{AreMore};
+ghost use Rattle.pef_inspect.specs.More.{AreMore, AreMoreWithin};
 
 use crate::extents::add_extents;
 use crate::finding::Finding;
+use crate::limits::Limits;
 use crate::twice::add_twice;
 use pef_views::PartialContainer;
 use std::alloc::{AllocError, Global};
@@ -18,11 +19,27 @@ use std::alloc::{AllocError, Global};
 pub fn find_more_notes(alloc: Global, bytes: &[u8]) -> Result<Vec<Finding>, AllocError>
     ensures { IfOk result (λ found. AreMore bytes.now found.items) }
 {
+    find_more_notes_within(alloc, bytes, Limits::for_container())
+}
+
+/// Returns the same notes, within any limits.
+///
+/// # Errors
+///
+/// Only want of memory.
+#[tactic(auto, unfolding(crate::specs::More::AreMoreWithin))]
+pub fn find_more_notes_within(
+    alloc: Global,
+    bytes: &[u8],
+    limits: Limits,
+) -> Result<Vec<Finding>, AllocError>
+    ensures { IfOk result (λ found. AreMoreWithin limits bytes.now found.items) }
+{
     let mut found = Vec::new(alloc);
     match PartialContainer::read(bytes) {
         Ok(container) => {
             add_extents(alloc, &container, &mut found)?;
-            add_twice(alloc, &container, &mut found)?;
+            add_twice(alloc, &container, limits, &mut found)?;
             Ok(found)
         }
         Err(_) => Ok(found),

@@ -2,11 +2,12 @@ ghost use Rattle.std.specs.Prelude.{◌≡◌, ◌++◌, OnOk, Some};
 ghost use Rattle.std.specs.Option.{option_to_list};
 ghost use Rattle.pef_views.specs.PartialViews.{partly};
 ghost use Rattle.pef_loader.specs.PartialViews.{partly_loaded};
-ghost use Rattle.pef_inspect.specs.Oddities.{Adds, HasIrregularExports, IrregularContainer, behind_notes, entry_notes, header_notes, image_size, irregular_note, is_past, is_past_entry, is_past_value, is_unknown_kind, is_unknown_share, loader_notes, note_at, notes_in, notes_of, section_notes, word_inside, word_note, word_outside};
+ghost use Rattle.pef_inspect.specs.Oddities.{Adds, HasIrregularExports, IrregularContainer, behind_notes, entry_notes, header_notes, image_size, irregular_note, is_past, is_past_entry, is_past_value, is_unknown_kind, is_unknown_share, loader_notes, note_at, notes_in, notes_of, notes_within, section_notes, word_inside, word_note, word_outside};
 ghost use Rattle.pef_inspect.specs.Runs.{run_seen};
 ghost use Rattle.pef_loader.specs.Partial.{partial_of};
 
 use crate::finding::Finding;
+use crate::limits::Limits;
 use crate::note::Note;
 use crate::runs::{Run, runs_within};
 use crate::sink::{Findings, Rows, take_met, take_rows, take_some};
@@ -26,12 +27,28 @@ use pef_views::{PartialContainer, SectionHeader};
 /// # Errors
 ///
 /// Only those of the sink.
-#[tactic(auto, unfolding(crate::specs::Oddities::notes_of, crate::specs::Oddities::HasIrregularExports))]
+#[tactic(auto, unfolding(crate::specs::Oddities::notes_of))]
 pub fn find_notes<S: Findings>(bytes: &[u8], sink: &mut S) -> Result<(), S::Error>
     ensures { OnOk result (Adds (S.taken sink.old) (S.taken sink.new) (notes_of bytes.now) (HasIrregularExports bytes.now)) }
 {
+    find_notes_within(bytes, Limits::for_container(), sink)
+}
+
+/// Hands the same notes to a sink, within any limits.
+///
+/// # Errors
+///
+/// Only those of the sink.
+#[tactic(auto, unfolding(crate::specs::Oddities::notes_within, crate::specs::Oddities::HasIrregularExports))]
+pub fn find_notes_within<S: Findings>(
+    bytes: &[u8],
+    limits: Limits,
+    sink: &mut S,
+) -> Result<(), S::Error>
+    ensures { OnOk result (Adds (S.taken sink.old) (S.taken sink.new) (notes_within limits bytes.now) (HasIrregularExports bytes.now)) }
+{
     match PartialContainer::read(bytes) {
-        Ok(container) => find_in_container(&container, sink),
+        Ok(container) => find_in_container(&container, limits, sink),
         Err(_) => Ok(()),
     }
 }
@@ -39,24 +56,29 @@ pub fn find_notes<S: Findings>(bytes: &[u8], sink: &mut S) -> Result<(), S::Erro
 /// Hands the notes on a container to a sink.
 fn find_in_container<S: Findings>(
     container: &PartialContainer<'_>,
+    limits: Limits,
     sink: &mut S,
 ) -> Result<(), S::Error>
-    ensures { OnOk result (Adds (S.taken sink.old) (S.taken sink.new) (notes_in (partly container.now)) (IrregularContainer (partly container.now))) }
+    ensures { OnOk result (Adds (S.taken sink.old) (S.taken sink.new) (notes_in limits (partly container.now)) (IrregularContainer (partly container.now))) }
 {
     take_met(&header_notes(container), sink)?;
     let count = u32::from(container.header().section_count);
     take_rows(&mut Sections { container }, count, sink)?;
-    find_behind(container, sink)?;
+    find_behind(container, limits, sink)?;
     Ok(())
 }
 
 /// Hands the notes on the loader section to a sink.
-fn find_behind<S: Findings>(container: &PartialContainer<'_>, sink: &mut S) -> Result<(), S::Error>
-    ensures { OnOk result (Adds (S.taken sink.old) (S.taken sink.new) (behind_notes (partly container.now) (partial_of (partly container.now).header.instantiated_section_count (partly container.now).loader)) (IrregularContainer (partly container.now))) }
+fn find_behind<S: Findings>(
+    container: &PartialContainer<'_>,
+    limits: Limits,
+    sink: &mut S,
+) -> Result<(), S::Error>
+    ensures { OnOk result (Adds (S.taken sink.old) (S.taken sink.new) (behind_notes limits (partly container.now) (partial_of (partly container.now).header.instantiated_section_count (partly container.now).loader)) (IrregularContainer (partly container.now))) }
 {
     match PartialLoader::read(container) {
         Ok(loader) => {
-            find_in_loader(container, &loader, sink)?;
+            find_in_loader(container, &loader, limits, sink)?;
             let irregular = loader.is_irregular();
             take_some(irregular_note(container, irregular), sink)?;
             Ok(())
@@ -69,9 +91,10 @@ fn find_behind<S: Findings>(container: &PartialContainer<'_>, sink: &mut S) -> R
 fn find_in_loader<S: Findings>(
     container: &PartialContainer<'_>,
     loader: &PartialLoader<'_>,
+    limits: Limits,
     sink: &mut S,
 ) -> Result<(), S::Error>
-    ensures { OnOk result (S.taken sink.new ≡ S.taken sink.old ++ loader_notes (partly container.now) (partly_loaded loader.now)) }
+    ensures { OnOk result (S.taken sink.new ≡ S.taken sink.old ++ loader_notes limits (partly container.now) (partly_loaded loader.now)) }
 {
     let libraries = loader.libraries() as u32;
     take_rows(&mut Libraries { container, loader }, libraries, sink)?;
@@ -80,7 +103,7 @@ fn find_in_loader<S: Findings>(
     take_rows(&mut Relocations { container, loader }, relocations, sink)?;
     let exports = loader.exports() as u32;
     take_rows(&mut Exported { container, loader }, exports, sink)?;
-    let programs = runs_within(container, loader);
+    let programs = runs_within(limits, container, loader).count;
     take_rows(&mut Words { container, loader }, programs, sink)?;
     Ok(())
 }

@@ -2,20 +2,20 @@ ghost use Rattle.std.specs.Prelude.{◌≡◌, ◌++◌, OnOk};
 ghost use Rattle.std.specs.Option.{option_copied};
 ghost use Rattle.pef_views.specs.PartialViews.{partly};
 ghost use Rattle.pef_loader.specs.PartialViews.{partly_loaded};
-ghost use Rattle.pef_inspect.specs.Errors.{headers_of, program_at, program_errors, programs_reached, programs_unverified};
+ghost use Rattle.pef_inspect.specs.Errors.{headers_of, program_at, program_cost, program_errors, programs_reached, programs_unverified};
 ghost use Rattle.pef_inspect.specs.Findings.{program_finding};
+ghost use Rattle.pef_inspect.specs.Limits.{left_within};
+ghost use Rattle.pef_inspect.specs.Shown.{programs_shown, shown_in_container, shown_in_loader};
 
-use crate::checked::{Checked, Costed, check_within, within};
+use crate::checked::{Checked, Costed, Reach, check_within, less, within};
 use crate::finding::{Cause, Finding};
+use crate::limits::{Limits, MAX_PROGRAM_BYTES};
 use crate::note::Note;
 use crate::sink::Findings;
 use pef_format::Part;
 use pef_loader::{PartialLoader, partial_place};
 use pef_reloc::{Program, RelocFault};
 use pef_views::PartialContainer;
-
-/// How many bytes the relocation programs that are read may have together.
-pub const MAX_PROGRAM_BYTES: u64 = 0x0400_0000;
 
 /// The relocation programs of a loader section, as they are read.
 #[derive(Clone, Copy)]
@@ -30,10 +30,10 @@ impl<'c, 'a> Costed for Programs<'c, 'a> {
 
     ghost cost = { λ parts k. program_cost (partly_loaded parts.loader.now) k };
 
-    fn cost(&self, i: u32) -> u64 {
+    fn rest(&self, i: u32, limit: u64) -> Option<u64> {
         match program(self.loader, i) {
-            Some(bytes) => bytes.len() as u64,
-            None => 0,
+            Some(bytes) => less(limit, bytes.len() as u64),
+            None => Some(limit),
         }
     }
 }
@@ -64,23 +64,56 @@ impl<'c, 'a> Checked for Programs<'c, 'a> {
 pub(crate) fn find_in_programs<S: Findings>(
     container: &PartialContainer<'_>,
     loader: &PartialLoader<'_>,
+    limits: Limits,
     sink: &mut S,
 ) -> Result<(), S::Error>
-    ensures { OnOk result (S.taken sink.new ≡ S.taken sink.old ++ program_errors (partly container.now) (partly_loaded loader.now)) }
+    ensures { OnOk result (S.taken sink.new ≡ S.taken sink.old ++ program_errors limits (partly container.now) (partly_loaded loader.now)) }
 {
     let parts = Programs { container, loader };
-    check_within(&parts, MAX_PROGRAM_BYTES, headers(loader), sink)
+    check_within(&parts, limits.program_bytes, headers(loader), sink)
 }
 
-/// Returns how many programs are read.
-pub(crate) fn programs_within(container: &PartialContainer<'_>, loader: &PartialLoader<'_>) -> u32
-    ensures { result ≡ programs_reached (partly_loaded loader.now) }
+/// Returns how many programs are read, and what is left of the limit.
+pub(crate) fn programs_within(
+    limits: Limits,
+    container: &PartialContainer<'_>,
+    loader: &PartialLoader<'_>,
+) -> Reach
+    ensures value { result.count ≡ programs_reached limits (partly_loaded loader.now) }
+    ensures left { result.left ≡ left_within (program_cost (partly_loaded loader.now)) limits.program_bytes 0 (headers_of (partly_loaded loader.now)) }
 {
-    within(
-        &Programs { container, loader },
-        MAX_PROGRAM_BYTES,
-        headers(loader),
-    )
+    let parts = Programs { container, loader };
+    within(&parts, limits.program_bytes, headers(loader))
+}
+
+/// Returns how many relocation programs of some bytes as a container are printed instruction by instruction: those of the first
+/// headers that together have no more bytes than the loader section, nor than [`MAX_PROGRAM_BYTES`].
+#[tactic(auto, unfolding(crate::specs::Shown::programs_shown))]
+pub fn programs_shown(bytes: &[u8]) -> u32
+    ensures { result ≡ programs_shown bytes.now }
+{
+    match PartialContainer::read(bytes) {
+        Ok(container) => shown_in_container(&container),
+        Err(_) => 0,
+    }
+}
+
+/// Returns how many programs of a container are printed.
+fn shown_in_container(container: &PartialContainer<'_>) -> u32
+    ensures { result ≡ shown_in_container (partly container.now) }
+{
+    match PartialLoader::read(container) {
+        Ok(loader) => shown_in_loader(container, &loader),
+        Err(_) => 0,
+    }
+}
+
+/// Returns how many programs of a loader section are printed.
+fn shown_in_loader(container: &PartialContainer<'_>, loader: &PartialLoader<'_>) -> u32
+    ensures { result ≡ shown_in_loader (partly_loaded loader.now) }
+{
+    let most = (loader.bytes().len() as u64).min(MAX_PROGRAM_BYTES);
+    within(&Programs { container, loader }, most, headers(loader)).count
 }
 
 /// Returns how many relocation headers there are, or 0 if one isn't in the loader section.

@@ -1,19 +1,18 @@
 ghost use Rattle.std.specs.Prelude.{◌≡◌, ◌++◌, OnOk, option_map};
 ghost use Rattle.pef_views.specs.PartialViews.{partly};
 ghost use Rattle.pef_loader.specs.PartialViews.{partly_loaded};
-ghost use Rattle.pef_inspect.specs.Errors.{programs_reached, run_at, run_errors, sizes_at};
+ghost use Rattle.pef_inspect.specs.Errors.{programs_reached, run_at, run_cost, run_errors, sizes_at};
+ghost use Rattle.pef_inspect.specs.Limits.{left_within};
 ghost use Rattle.pef_inspect.specs.Oddities.{runs_reached};
 
-use crate::checked::{Checked, Costed, check_within, within};
+use crate::checked::{Checked, Costed, Reach, check_within, less, within};
 use crate::finding::Finding;
+use crate::limits::Limits;
 use crate::programs::{program_finding, programs_unverified, programs_within};
 use crate::sink::Findings;
 use pef_loader::PartialLoader;
 use pef_reloc::{Program, Sizes, verify};
 use pef_views::PartialContainer;
-
-/// How many instructions the programs that are verified may execute together.
-pub const MAX_STEPS: u64 = 0x0400_0000;
 
 /// The readable relocation programs of a loader section, as they are verified.
 #[derive(Clone, Copy)]
@@ -29,10 +28,10 @@ impl<'c, 'a> Costed for Runs<'c, 'a> {
 
     ghost cost = { λ parts k. run_cost (partly parts.container.now) (partly_loaded parts.loader.now) k };
 
-    fn cost(&self, i: u32) -> u64 {
+    fn rest(&self, i: u32, limit: u64) -> Option<u64> {
         match Run::at(self.container, self.loader, i) {
-            Some(run) => u64::from(run.program.steps()),
-            None => 0,
+            Some(run) => less(limit, u64::from(run.program.steps())),
+            None => Some(limit),
         }
     }
 }
@@ -59,26 +58,30 @@ impl<'c, 'a> Checked for Runs<'c, 'a> {
     }
 }
 
-/// Hands the error of each readable program that would be refused in its section to a sink. `count` says how many programs
-/// were read.
+/// Hands the error of each readable program that would be refused in its section to a sink.
 pub(crate) fn find_in_runs<S: Findings>(
     container: &PartialContainer<'_>,
     loader: &PartialLoader<'_>,
-    count: u32,
+    limits: Limits,
     sink: &mut S,
 ) -> Result<(), S::Error>
-    requires { count ≡ programs_reached (partly_loaded loader.now) }
-    ensures { OnOk result (S.taken sink.new ≡ S.taken sink.old ++ run_errors (partly container.now) (partly_loaded loader.now)) }
+    ensures { OnOk result (S.taken sink.new ≡ S.taken sink.old ++ run_errors limits (partly container.now) (partly_loaded loader.now)) }
 {
-    check_within(&Runs { container, loader }, MAX_STEPS, count, sink)
+    let programs = programs_within(limits, container, loader).count;
+    check_within(&Runs { container, loader }, limits.steps, programs, sink)
 }
 
-/// Returns how many programs are verified.
-pub(crate) fn runs_within(container: &PartialContainer<'_>, loader: &PartialLoader<'_>) -> u32
-    ensures { result ≡ runs_reached (partly container.now) (partly_loaded loader.now) }
+/// Returns how many programs are verified, and what is left of the limit.
+pub(crate) fn runs_within(
+    limits: Limits,
+    container: &PartialContainer<'_>,
+    loader: &PartialLoader<'_>,
+) -> Reach
+    ensures value { result.count ≡ runs_reached limits (partly container.now) (partly_loaded loader.now) }
+    ensures left { result.left ≡ left_within (run_cost (partly container.now) (partly_loaded loader.now)) limits.steps 0 (programs_reached limits (partly_loaded loader.now)) }
 {
-    let programs = programs_within(container, loader);
-    within(&Runs { container, loader }, MAX_STEPS, programs)
+    let programs = programs_within(limits, container, loader).count;
+    within(&Runs { container, loader }, limits.steps, programs)
 }
 
 /// A readable program, and what its section is tested against.

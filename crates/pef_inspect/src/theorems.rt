@@ -1,6 +1,6 @@
 //! Laws of the errors of a container. The functions do nothing.
-ghost use Rattle.pef_inspect.specs.First.{FirstIsReported};
-ghost use Rattle.pef_inspect.specs.Sound.{FindsAll};
+ghost use Rattle.pef_inspect.specs.First.{FirstIsReported, FirstIsReportedWithin};
+ghost use Rattle.pef_inspect.specs.Sound.{FindsAll, FindsAllWithin};
 
 /// A container in which no error is found, and nothing is left unverified, is sound: nothing of it is refused when it is read,
 /// expanded or relocated.
@@ -14,4 +14,16 @@ pub fn no_errors_are_sound()
 #[tactic(auto, using(crate::proofs::FirstLemmas::first_is_reported))]
 pub fn first_error_is_reported()
     ensures { FirstIsReported }
+{}
+
+/// The first law holds within any limits.
+#[tactic(auto, using(crate::proofs::Soundness::no_errors_within_sound))]
+pub fn no_errors_within_are_sound()
+    ensures { FindsAllWithin }
+{}
+
+/// So does the second.
+#[tactic(auto, using(crate::proofs::FirstLemmas::first_within_is_reported))]
+pub fn first_error_within_is_reported()
+    ensures { FirstIsReportedWithin }
 {}

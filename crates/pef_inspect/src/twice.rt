@@ -1,15 +1,16 @@
-ghost use Rattle.std.specs.Prelude.{◌≡◌, ◌+◌, ◌++◌, [], IfOk, OnOk, length, min};
+ghost use Rattle.std.specs.Prelude.{◌≡◌, ◌++◌, ◌≤◌, [], IfOk, OnOk, length};
 ghost use Rattle.std.specs.Option.{option_to_list};
 ghost use Rattle.pef_words.specs.Findings.{all_among};
 ghost use Rattle.pef_views.specs.PartialViews.{partly};
 ghost use Rattle.pef_loader.specs.PartialViews.{partly_loaded};
 ghost use Rattle.pef_reloc.specs.Left.{fixups_left};
-ghost use Rattle.pef_inspect.specs.Limits.{most_words};
-ghost use Rattle.pef_inspect.specs.Twice.{first_again, twice_in, twice_note, twice_notes, words_of};
+ghost use Rattle.pef_inspect.specs.Limits.{left_within, less, within};
+ghost use Rattle.pef_inspect.specs.Twice.{first_again, twice_in, twice_note, twice_notes, words_cost, words_of};
 
-use crate::checked::{Costed, within};
+use crate::checked::{Costed, Reach, within};
 use crate::extents::push_some;
 use crate::finding::Finding;
+use crate::limits::Limits;
 use crate::note::Note;
 use crate::programs::programs_unverified;
 use crate::runs::{Run, runs_within};
@@ -20,20 +21,18 @@ use pef_views::PartialContainer;
 use std::alloc::{AllocError, Global};
 use std::collections::BTreeSet;
 
-/// How many words may be compared, of all programs together, to find those that are relocated twice.
-pub const MAX_WORDS: u64 = 0x0010_0000;
-
 /// Adds the note on the first word that is relocated twice of each program.
 #[tactic(auto, unfolding(crate::specs::Twice::twice_in))]
 pub(crate) fn add_twice(
     alloc: Global,
     container: &PartialContainer<'_>,
+    limits: Limits,
     found: &mut Vec<Finding>,
 ) -> Result<(), AllocError>
-    ensures { OnOk result (found.new.items ≡ found.old.items ++ twice_in (partly container.now)) }
+    ensures { OnOk result (found.new.items ≡ found.old.items ++ twice_in limits (partly container.now)) }
 {
     match PartialLoader::read(container) {
-        Ok(loader) => add_in_loader(alloc, container, &loader, found),
+        Ok(loader) => add_in_loader(alloc, container, &loader, limits, found),
         Err(_) => Ok(()),
     }
 }
@@ -43,18 +42,33 @@ fn add_in_loader(
     alloc: Global,
     container: &PartialContainer<'_>,
     loader: &PartialLoader<'_>,
+    limits: Limits,
     found: &mut Vec<Finding>,
 ) -> Result<(), AllocError>
-    ensures { OnOk result (found.new.items ≡ found.old.items ++ twice_notes (partly container.now) (partly_loaded loader.now)) }
+    ensures { OnOk result (found.new.items ≡ found.old.items ++ twice_notes limits (partly container.now) (partly_loaded loader.now)) }
 {
-    let runs = runs_within(container, loader);
-    let searched = within(&Words { container, loader }, MAX_WORDS, runs);
+    let runs = runs_within(limits, container, loader).count;
+    let searched = words_within(limits, container, loader, runs).count;
     add_each(alloc, Words { container, loader }, searched, found)?;
     if searched < runs {
         found.push(programs_unverified(container, searched))?;
         return Ok(());
     }
     Ok(())
+}
+
+/// Returns how many of the first `runs` programs are searched for words that are relocated twice, and what is left of the limit.
+pub(crate) fn words_within(
+    limits: Limits,
+    container: &PartialContainer<'_>,
+    loader: &PartialLoader<'_>,
+    runs: u32,
+) -> Reach
+    ensures value { result.count ≡ within (words_cost (partly container.now) (partly_loaded loader.now)) limits.words 0 runs }
+    ensures left { result.left ≡ left_within (words_cost (partly container.now) (partly_loaded loader.now)) limits.words 0 runs }
+    ensures below { result.count ≤ runs }
+{
+    within(&Words { container, loader }, limits.words, runs)
 }
 
 /// Adds those of the first `count` programs.
@@ -86,10 +100,10 @@ impl<'c, 'a> Costed for Words<'c, 'a> {
 
     ghost cost = { λ words k. words_cost (partly words.container.now) (partly_loaded words.loader.now) k };
 
-    fn cost(&self, i: u32) -> u64 {
+    fn rest(&self, i: u32, limit: u64) -> Option<u64> {
         match Run::at(self.container, self.loader, i) {
-            Some(run) => count(run.program.fixups()),
-            None => 0,
+            Some(run) => words_left(run.program.fixups(), limit),
+            None => Some(limit),
         }
     }
 }
@@ -112,19 +126,19 @@ impl<'c, 'a> Words<'c, 'a> {
     }
 }
 
-/// Returns how many words a program adds to, or one more than the most that are compared.
-fn count(fixups: Fixups<'_>) -> u64
-    ensures { result ≡ min (length (fixups_left fixups.entry)) (most_words + 1) }
+/// Returns what is left of a limit after the words that a program adds to, unless it adds to more.
+fn words_left(fixups: Fixups<'_>, limit: u64) -> Option<u64>
+    ensures { result ≡ less limit (length (fixups_left fixups.entry)) }
 {
-    let mut left = fixups;
-    let mut count = 0;
-    while count <= MAX_WORDS {
-        match left.next() {
-            Some(_) => count += 1,
-            None => return count,
+    let mut rest = fixups;
+    let mut left = limit;
+    while let Some(_) = rest.next() {
+        if left == 0 {
+            return None;
         }
+        left -= 1;
     }
-    count
+    Some(left)
 }
 
 /// Returns the first word to which a program adds a second time.

@@ -22,7 +22,7 @@ returns g c =
     let header = map view_finding (all_met (field_tests p.header (length p.bytes))) in
     let sections = all_among (λ i. map view_finding (section_findings p i)) 0 p.header.section_count in
     let loader = map view_finding (all_met (loader_tests p)) in
-    let rest = behind_errors p in
+    let rest = behind_errors c.args.limits p in
     let first : t1 ≡ t0 ++ header = c.in_ok-take_views.ensures ∙ ap (λ (tests : List (Bool × ViewFault)). t0 ++ map view_finding (all_met tests)) c.header_tests.ensures in
     let third : t3 ≡ t2 ++ loader = c.in_ok-take_views-2.ensures ∙ ap (λ (tests : List (Bool × ViewFault)). t2 ++ map view_finding (all_met tests)) c.loader_tests.ensures in
     taken-two t0 t1 t4 header (sections ++ (loader ++ rest)) first (taken-two t1 t2 t4 sections (loader ++ rest) c.in_ok-find_in_sections.ensures (taken-two t2 t3 t4 loader rest third c.in_ok-find_behind.ensures))

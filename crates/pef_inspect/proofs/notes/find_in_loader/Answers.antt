@@ -26,12 +26,12 @@ returns g c =
     let entries = all_met (entry_notes p l) in
     let relocs = all_among (relocation_row p l) 0 (rows_in l (relocs_from l.header) 12 l.header.reloc_count) in
     let exports = all_among (export_row p l) 0 (exports_in l) in
-    let words = all_among (λ k. option_to_list (word_note p l k)) 0 (runs_reached p l) in
+    let words = all_among (λ k. option_to_list (word_note p l k)) 0 (runs_reached c.args.limits p l) in
     let e1 : t1 ≡ t0 ++ libraries = c.in_ok-take_rows.ensures ∙ ap (λ n. t0 ++ all_among (library_row p l) 0 n) c.libraries-libraries.ensures.value in
     let e2 : t2 ≡ t1 ++ entries = c.in_ok-take_met.ensures ∙ ap (λ (tests : List (Bool × Finding)). t1 ++ all_met tests) c.entry_notes.ensures in
     let e3 : t3 ≡ t2 ++ relocs = c.in_ok-take_rows-2.ensures ∙ ap (λ n. t2 ++ all_among (relocation_row p l) 0 n) c.relocations-relocations.ensures.value in
     let e4 : t4 ≡ t3 ++ exports = c.in_ok-take_rows-3.ensures ∙ ap (λ n. t3 ++ all_among (export_row p l) 0 n) c.exports-exports.ensures.value in
-    let e5 : t5 ≡ t4 ++ words = c.in_ok-take_rows-4.ensures ∙ ap (λ n. t4 ++ all_among (λ k. option_to_list (word_note p l k)) 0 n) c.runs_within-programs.ensures in
+    let e5 : t5 ≡ t4 ++ words = c.in_ok-take_rows-4.ensures ∙ ap (λ n. t4 ++ all_among (λ k. option_to_list (word_note p l k)) 0 n) c.runs_within-programs.ensures.value in
     taken-two t0 t1 t5 libraries (entries ++ (relocs ++ (exports ++ words))) e1
     (taken-two t1 t2 t5 entries (relocs ++ (exports ++ words)) e2
     (taken-two t2 t3 t5 relocs (exports ++ words) e3
