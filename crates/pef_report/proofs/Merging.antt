@@ -6,7 +6,8 @@ use Rattle.pef_format.specs.declared.place.Part.TheVariants.{Header}
 use Rattle.pef_inspect.specs.declared.finding.Cause.TheVariants.{View}
 use Rattle.pef_inspect.specs.declared.finding.Finding.{Finding}
 use Rattle.pef_views.specs.declared.fault.ViewFault.TheVariants.{TooShort}
-use Rattle.pef_report.specs.Inspection.{Row, element, elements, finding_json, finding_text, findings_json, findings_text, is_chosen, merged_left, merged_text, row_at, rows_among, separator}
+use Rattle.pef_report.specs.Inspection.{Row, element, elements, finding_json, finding_text, findings_json, findings_text, is_chosen, merged_left, merged_text, row_at, rows_among, rows_below}
+use Rattle.pef_report.specs.Objects.{separator}
 use Rattle.pef_report.specs.Order.{after, before, count_before}
 use Rattle.pef_report.specs.Readable.{Readable}
 use Rattle.pef_report.specs.Theorems.{blank}
@@ -16,8 +17,8 @@ use Rattle.pef_report.specs.declared.members.Member.{Member}
 abbrev pub no_finding : Finding
 no_finding = record { cause = View TooShort; place = record { part = Header; row = 0; field = 0; offset = None } }
 
--- the first of the rows that are left
-pub rows_among-next : (r : Readable) (kind : Part) (i n : ℕ) → i < n → rows_among r kind i (n - i) ≡ row_at r kind i ∷ rows_among r kind (i + 1) (n - (i + 1))
+-- the first of the rows that are left, and what belongs to it
+pub rows_among-next : (r : Readable) (kind : Part) (i n : ℕ) → i < n → rows_among r kind i (n - i) ≡ (row_at r kind i ∷ rows_below r kind i) ++ rows_among r kind (i + 1) (n - (i + 1))
 rows_among-next r kind i n under =
     let e : n - i ≡ suc (n - (i + 1)) = omega arith in
     rw e refl

@@ -1,5 +1,6 @@
 -- The line and the object of an error or a note. Fields have the names of PEFBinaryFormat.h.
 use Rattle.std.specs.Prelude.{ℕ, ◌+◌, ◌/◌, ◌^◌, ◌==◌, ◌||◌, Bool, true, false, List, [], ◌++◌, Option, None, Some, codes, decimal, nat_lt, if◌then◌else◌}
+use Rattle.std.specs.Option.{unwrap_or}
 use Rattle.pef_format.specs.declared.place.Part.{Part}
 use Rattle.pef_format.specs.declared.place.Part.TheVariants as part
 use Rattle.pef_format.specs.declared.place.Place.{Place}
@@ -165,6 +166,10 @@ field_number part.Line field = []
 abbrev pub offset_in_file : ℕ → Option ℕ → Option ℕ
 offset_in_file base None = None
 offset_in_file base (Some offset) = if nat_lt (base + offset) (2 ^ 64) then Some (base + offset) else None
+
+-- the same, and the container's own offset if there is none
+abbrev pub file_offset : ℕ → Option ℕ → ℕ
+file_offset base offset = unwrap_or (offset_in_file base offset) base
 
 abbrev pub at_word : Option ℕ → List ℕ
 at_word None = []

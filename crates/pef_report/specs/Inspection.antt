@@ -1,44 +1,60 @@
 -- The inspection of a container as text and as JSON.
-use Rattle.std.specs.Prelude.{◌≡◌, ◌↔◌, ℕ, zero, suc, ◌+◌, ◌==◌, Bool, IsTrue, true, false, not, List, [], ◌∷◌, ◌++◌, codes, decimal, if◌then◌else◌}
+use Rattle.std.specs.Prelude.{◌≡◌, ◌↔◌, ℕ, zero, suc, ◌+◌, ◌==◌, Bool, IsTrue, true, false, not, List, [], ◌∷◌, ◌++◌, Option, None, Some, codes, decimal, map, if◌then◌else◌}
 use Rattle.std.specs.Option.{unwrap_or}
 use Rattle.pef_format.specs.declared.place.Part.{Part}
 use Rattle.pef_format.specs.declared.place.Part.TheVariants as part
-use Rattle.pef_inspect.specs.Errors.{errors_of}
+use Rattle.pef_inspect.specs.Errors.{errors_within}
 use Rattle.pef_inspect.specs.Findings.{finding_name, finding_number, is_error}
-use Rattle.pef_inspect.specs.More.{AreMore}
-use Rattle.pef_inspect.specs.Oddities.{HasIrregularExports, notes_of}
+use Rattle.pef_inspect.specs.Limits.{container_limits}
+use Rattle.pef_inspect.specs.More.{AreMoreWithin}
+use Rattle.pef_inspect.specs.Oddities.{HasIrregularExports, notes_within}
+use Rattle.pef_inspect.specs.Shown.{programs_shown}
 use Rattle.pef_inspect.specs.declared.finding.Cause.{Cause}
 use Rattle.pef_inspect.specs.declared.finding.Cause.TheVariants as cause
 use Rattle.pef_inspect.specs.declared.finding.Finding.{Finding}
+use Rattle.pef_inspect.specs.declared.limits.Limits.{Limits}
 use Rattle.pef_inspect.specs.declared.note.Note.{Note}
 use Rattle.pef_inspect.specs.declared.note.Note.TheVariants.{ReservedNotZero, UnknownKind, UnknownShare, VersionBelowOldest, EntryOutside, ExportOutside, WordOutsideImage, IrregularExports, TrailingBytes, ProgramsUnverified, ImagesUnverified, Overlap, UnownedBytes, WordRelocatedTwice}
+use Rattle.pef_reloc.specs.Faults.{fault_word}
+use Rattle.pef_reloc.specs.Unrolled.{Step}
 use Rattle.pef_report.specs.Findings.{finding_line, finding_object}
+use Rattle.pef_report.specs.Objects.{separator}
 use Rattle.pef_report.specs.Order.{IsInOrder, after, before, rank}
-use Rattle.pef_report.specs.Readable.{Readable, line_at, object_at, readable_at, row_count}
+use Rattle.pef_report.specs.Programs.{Program, instr_line, step_offset, steps_in}
+use Rattle.pef_report.specs.Readable.{Readable, line_at, object_at, program_of, readable_at, row_count}
 use Rattle.pef_report.specs.declared.rows.Detail.{Detail}
 use Rattle.pef_report.specs.declared.rows.Detail.TheVariants as detail
 
--- the bytes of a container, their offset in the file, and all errors and notes in the order of their rows
+-- the bytes of a container, their offset in the file, how many relocation programs are printed, and all errors and notes in the
+-- order of their rows
 pub record Inspected : Type 0 where
   pub base : ℕ
   pub bytes : List ℕ
+  pub programs : ℕ
   pub findings : List Finding
 
--- all errors and notes of some bytes as a container: the errors, the notes, and the notes that need memory
-pub record AreAll (bytes : List ℕ) (all : List Finding) : Type 0 where
+-- all errors and notes of some bytes as a container that are found within limits: the errors, the notes, and the notes that
+-- need memory
+pub record AreAll (limits : Limits) (bytes : List ℕ) (all : List Finding) : Type 0 where
   pub irregular : Bool
   pub irregular_is : IsTrue irregular ↔ HasIrregularExports bytes
   pub more : List Finding
-  pub more_are : AreMore bytes more
-  pub are : all ≡ errors_of bytes ++ (notes_of bytes irregular ++ more)
+  pub more_are : AreMoreWithin limits bytes more
+  pub are : all ≡ errors_within limits bytes ++ (notes_within limits bytes irregular ++ more)
 
--- the inspection of some bytes: all errors and notes, in the order of their rows
-pub record Inspects (base : ℕ) (bytes : List ℕ) (i : Inspected) : Type 0 where
+-- the inspection of some bytes within limits: the programs that are printed, and all errors and notes, in the order of their
+-- rows
+pub record InspectsWithin (limits : Limits) (base : ℕ) (bytes : List ℕ) (i : Inspected) : Type 0 where
   pub base_is : i.base ≡ base
   pub bytes_are : i.bytes ≡ bytes
+  pub programs_are : i.programs ≡ programs_shown bytes
   pub all : List Finding
-  pub all_are : AreAll bytes all
+  pub all_are : AreAll limits bytes all
   pub in_order : IsInOrder all i.findings
+
+-- the same within the limits for one container
+abbrev pub Inspects : ℕ → List ℕ → Inspected → Type 0
+Inspects base bytes i = InspectsWithin container_limits base bytes i
 
 -- the errors among findings, or the notes
 abbrev pub is_chosen : Bool → Finding → Bool
@@ -66,12 +82,18 @@ note_detail IrregularExports = detail.None
 note_detail ProgramsUnverified = detail.None
 note_detail ImagesUnverified = detail.None
 
+-- the offset of a word, if there is one
+abbrev pub word_detail : Option ℕ → Detail
+word_detail None = detail.None
+word_detail (Some word) = detail.Word word
+
+-- the number that an error or a note has beside its place: an error of a relocation program can name a word
 abbrev pub detail_of : Cause → Detail
 detail_of (cause.Note n) = note_detail n
 detail_of (cause.View f) = detail.None
 detail_of (cause.Loader f) = detail.None
 detail_of (cause.Pack f) = detail.None
-detail_of (cause.Reloc f) = detail.None
+detail_of (cause.Reloc f) = word_detail (fault_word f)
 
 -- the line of an error or a note, and its object
 unfoldable pub finding_text : ℕ → Finding → List ℕ
@@ -85,18 +107,31 @@ abbrev pub findings_text : ℕ → List Finding → List ℕ
 findings_text base [] = []
 findings_text base (f ∷ fs) = finding_text base f ++ findings_text base fs
 
--- a row: its place in the order, and its line, which is empty if it can't be read
+-- a row, or an instruction: its place in the order, and its line, which is empty if it can't be read
 pub record Row : Type 0 where
   pub rank : ℕ
   pub text : List ℕ
 
 abbrev pub row_at : Readable → Part → ℕ → Row
-row_at r kind i = record { rank = rank kind i; text = unwrap_or (line_at r kind i) [] }
+row_at r kind i = record { rank = rank kind i 0; text = unwrap_or (line_at r kind i) [] }
+
+-- an instruction of the program of relocation header k, which begins at `base`
+abbrev pub instr_row : ℕ → ℕ → Step → Row
+instr_row k base step = record { rank = rank part.Program k step.0; text = instr_line (step_offset base step) step.1 }
+
+abbrev pub program_rows : ℕ → Option Program → List Row
+program_rows k None = []
+program_rows k (Some p) = map (instr_row k p.at) (steps_in p)
+
+-- what belongs to a row: the instructions of a relocation header
+abbrev pub rows_below : Readable → Part → ℕ → List Row
+rows_below r part.Relocation k = program_rows k (program_of r k)
+rows_below r kind i = []
 
 -- n rows of a kind
 abbrev pub rows_among : Readable → Part → ℕ → ℕ → List Row
 rows_among r kind from zero = []
-rows_among r kind from (suc n) = row_at r kind from ∷ rows_among r kind (from + 1) n
+rows_among r kind from (suc n) = (row_at r kind from ∷ rows_below r kind from) ++ rows_among r kind (from + 1) n
 
 -- all rows of some kinds
 abbrev pub rows_of : Readable → List Part → List Row
@@ -121,12 +156,8 @@ merged_left (row ∷ rows) left = merged_left rows (after row.rank left)
 -- the text of an inspection: the rows that can be read, each with the errors and notes about it below it
 unfoldable pub inspection_text : Inspected → List ℕ
 inspection_text i =
-    let rows = rows_of (readable_at i.base i.bytes) row_parts in
+    let rows = rows_of (readable_at i.base i.bytes i.programs) row_parts in
     merged_text i.base rows i.findings ++ findings_text i.base (merged_left rows i.findings)
-
--- what is between the members of a list
-abbrev pub separator : Bool → List ℕ
-separator is_first = if is_first then [] else codes ","
 
 -- the objects of the errors among findings, or of the notes, with commas between them
 abbrev pub findings_json : ℕ → Bool → Bool → List Finding → List ℕ
@@ -173,7 +204,7 @@ row_members = (codes ",\"header\":", part.Header)
 
 -- the rows of a container as members of its object
 unfoldable pub rows_json : Inspected → List ℕ
-rows_json i = (codes "{\"offset\":" ++ decimal i.base) ++ members_text (readable_at i.base i.bytes) row_members
+rows_json i = (codes "{\"offset\":" ++ decimal i.base) ++ members_text (readable_at i.base i.bytes i.programs) row_members
 
 -- the list of errors, or of notes
 unfoldable pub list_json : List ℕ → Inspected → Bool → List ℕ

@@ -6,6 +6,7 @@ pub mod Lines
 pub mod Members
 pub mod Objects
 pub mod Order
+pub mod Programs
 pub mod Readable
 pub mod RowViews
 pub mod Strings

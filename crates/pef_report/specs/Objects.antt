@@ -1,5 +1,5 @@
 -- The objects of JSON of rows.
-use Rattle.std.specs.Prelude.{ℕ, ℤ, Bool, List, ◌++◌, Option, None, Some, codes, decimal, if◌then◌else◌}
+use Rattle.std.specs.Prelude.{ℕ, ℤ, Bool, List, [], ◌++◌, Option, None, Some, codes, decimal, if◌then◌else◌}
 use Rattle.pef_listing.specs.Listing.{magnitude, sign_text}
 use Rattle.pef_loader.specs.declared.header.LoaderHeader.{LoaderHeader}
 use Rattle.pef_report.specs.Dates.{date_text}
@@ -13,6 +13,10 @@ use Rattle.pef_views.specs.declared.section.SectionHeader.{SectionHeader}
 abbrev pub number_or_null : Option ℕ → List ℕ
 number_or_null None = codes "null"
 number_or_null (Some n) = decimal n
+
+-- what is between the members of a list
+abbrev pub separator : Bool → List ℕ
+separator is_first = if is_first then [] else codes ","
 
 abbrev pub truth : Bool → List ℕ
 truth holds = if holds then codes "true" else codes "false"
@@ -85,11 +89,11 @@ entry_object label at section offset =
     (label ++ codes "{\"offset\":" ++ decimal at ++ codes ",\"section\":" ++ sign_text section
     ++ decimal (magnitude section) ++ codes ",\"value\":" ++ decimal offset ++ codes "}")
 
--- a relocation header
-unfoldable pub relocation_object : ℕ → ℕ → ℕ → ℕ → List ℕ
-relocation_object at section count first =
+-- a relocation header, up to its instructions
+unfoldable pub relocation_front : ℕ → ℕ → ℕ → ℕ → List ℕ
+relocation_front at section count first =
     codes "{\"offset\":" ++ decimal at ++ codes ",\"section\":" ++ decimal section ++ codes ",\"halfwords\":"
-    ++ decimal count ++ codes ",\"first\":" ++ decimal first ++ codes "}"
+    ++ decimal count ++ codes ",\"first\":" ++ decimal first ++ codes ",\"instructions\":"
 
 -- an export
 unfoldable pub export_object : ℕ → Option (List ℕ) → ℕ → ℤ → ℕ → List ℕ

@@ -1,5 +1,5 @@
 -- The order in which rows are printed, and errors and notes among them.
-use Rattle.std.specs.Prelude.{ℕ, suc, ◌+◌, ◌*◌, ◌^◌, List, [], ◌∷◌, drop, take, nat_lt, if◌then◌else◌}
+use Rattle.std.specs.Prelude.{ℕ, suc, ◌+◌, ◌-◌, ◌*◌, ◌^◌, List, [], ◌∷◌, drop, min, take, nat_lt, if◌then◌else◌}
 use Rattle.std.specs.List.Sorted.{IsNonDecreasingBy, IsPermutation, IsStableByKey}
 use Rattle.std.specs.Ordering.{nat_cmp}
 use Rattle.pef_format.specs.Places.{part_code}
@@ -23,15 +23,21 @@ row_part part.Relocation = part.Relocation
 row_part part.Export = part.Export
 row_part part.Line = part.Line
 
--- the place of a row in the order: by the kind of its part, then by its number, which is below 2^64
-unfoldable pub rank : Part → ℕ → ℕ
-rank kind row = part_code (row_part kind) * 2 ^ 64 + row
+-- the place after a row: an instruction of a relocation header's program has one by its offset in the program
+abbrev pub place_after : Part → ℕ → ℕ
+place_after part.Program field = field + 1
+place_after kind field = 0
 
--- the place of the row that an error or a note is about
+-- the place of a row in the order, or of an instruction: by the kind of its part, then by its number, which is below 2^32,
+-- then by the offset of the instruction
+unfoldable pub rank : Part → ℕ → ℕ → ℕ
+rank kind row field = (part_code (row_part kind) * 2 ^ 32 + min row (2 ^ 32 - 1)) * 2 ^ 65 + place_after kind field
+
+-- the place of the row or of the instruction that an error or a note is about
 abbrev pub finding_rank : Finding → ℕ
-finding_rank f = rank f.place.part f.place.row
+finding_rank f = rank f.place.part f.place.row f.place.field
 
--- how many of the first findings are about rows before the one with a rank
+-- how many of the first findings are about what comes before the place with a rank
 abbrev pub count_before : ℕ → List Finding → ℕ
 count_before rank [] = 0
 count_before rank (f ∷ fs) = if nat_lt (finding_rank f) rank then suc (count_before rank fs) else 0
@@ -43,7 +49,8 @@ before rank fs = take (count_before rank fs) fs
 abbrev pub after : ℕ → List Finding → List Finding
 after rank fs = drop (count_before rank fs) fs
 
--- findings in the order of their rows: those about one row are in the order in which they were found
+-- findings in the order of their rows and of the instructions below a row: those about one row, or one instruction, are in
+-- the order in which they were found
 pub record IsInOrder (found ordered : List Finding) : Type 0 where
   pub permutation : IsPermutation found ordered
   pub rises : IsNonDecreasingBy finding_rank ordered

@@ -1,6 +1,6 @@
 -- The rows of a container that may be damaged, as far as each can be read, and their lines and objects.
-use Rattle.std.specs.Prelude.{ℕ, ◌-◌, ◌/◌, min, List, [], codes, length, Option, None, Some}
-use Rattle.std.specs.Option.{option_and_then, option_map_or, unwrap_or}
+use Rattle.std.specs.Prelude.{ℕ, ◌-◌, ◌/◌, min, List, [], codes, length, nat_lt, Option, None, Some, option_map, if◌then◌else◌}
+use Rattle.std.specs.Option.{option_and_then, option_map_or}
 use Rattle.std.specs.Result.{result_ok}
 use Rattle.pef_words.specs.Refusals.{◌>>=◌}
 use Rattle.pef_format.specs.declared.place.Part.{Part}
@@ -11,23 +11,26 @@ use Rattle.pef_loader.specs.Header.{imports_from, library_place, relocs_from}
 use Rattle.pef_loader.specs.Loader.{Loaded}
 use Rattle.pef_loader.specs.Partial.{LibraryRow, export_row, exports_in, import_row, library_row, partial_of, relocation_row, rows_in}
 use Rattle.pef_loader.specs.Places.{place_of}
-use Rattle.pef_report.specs.Findings.{offset_in_file}
+use Rattle.pef_report.specs.Findings.{file_offset}
 use Rattle.pef_report.specs.Lines.{entry_line, export_line, header_line, import_line, library_line, loader_line, relocation_line, section_line}
-use Rattle.pef_report.specs.Objects.{entry_object, export_object, header_object, import_object, library_object, loader_object, relocation_object, section_object}
+use Rattle.pef_report.specs.Objects.{entry_object, export_object, header_object, import_object, library_object, loader_object, section_object}
+use Rattle.pef_report.specs.Programs.{Program, relocation_object}
 
--- what can be read of some bytes of a file, from an offset on: a container, and its loader section
+-- what can be read of some bytes of a file, from an offset on: a container, its loader section, and how many of its
+-- relocation programs are printed
 pub record Readable : Type 0 where
   pub base : ℕ
   pub container : Option Contained
   pub loader : Option Loaded
+  pub programs : ℕ
 
 abbrev pub loader_in : Contained → Option Loaded
 loader_in c = result_ok (partial_of c.header.instantiated_section_count c.loader)
 
-unfoldable pub readable_at : ℕ → List ℕ → Readable
-readable_at base bytes =
+unfoldable pub readable_at : ℕ → List ℕ → ℕ → Readable
+readable_at base bytes programs =
     let container = result_ok (views.partial_of bytes) in
-    record { base = base; container = container; loader = option_and_then loader_in container }
+    record { base = base; container = container; loader = option_and_then loader_in container; programs = programs }
 
 -- how many rows of each kind can be read: a row can be if its bytes are there
 
@@ -54,13 +57,17 @@ row_count r part.Header = option_map_or (λ c. 1) r.container 0
 row_count r part.Section = option_map_or sections_in r.container 0
 row_count r kind = option_map_or (loader_count kind) r.loader 0
 
--- an offset in a container as one in the file. If there is none, it is the container's
-abbrev pub file_offset : ℕ → Option ℕ → ℕ
-file_offset base offset = unwrap_or (offset_in_file base offset) base
-
 -- the offset in the file of row i of a kind
 abbrev pub row_offset : Readable → Contained → Part → ℕ → ℕ
 row_offset r c kind i = file_offset r.base (place_of c kind i 0).offset
+
+-- the program of relocation header k, if it is printed and its bytes are there
+abbrev pub program_in : Readable → Contained → ℕ → Option (List ℕ) → Option Program
+program_in r c k bytes =
+    if nat_lt k r.programs then option_map (λ b. record { at = row_offset r c part.Program k; bytes = b }) bytes else None
+
+abbrev pub program_of : Readable → ℕ → Option Program
+program_of r k = r.container >>= (λ c. r.loader >>= (λ l. relocation_row l k >>= (λ row. program_in r c k row.program)))
 
 -- the name of an import's library
 abbrev pub library_name : Loaded → Option ℕ → Option (List ℕ)
@@ -162,7 +169,7 @@ term_row_object r = r.container >>= (λ c. r.loader >>= (λ l.
 
 abbrev pub relocation_row_object : Readable → ℕ → Option (List ℕ)
 relocation_row_object r k = r.container >>= (λ c. r.loader >>= (λ l. relocation_row l k >>= (λ row.
-    Some (relocation_object (row_offset r c part.Relocation k) row.section row.count row.first))))
+    Some (relocation_object (row_offset r c part.Relocation k) row.section row.count row.first (program_in r c k row.program)))))
 
 abbrev pub export_row_object : Readable → ℕ → Option (List ℕ)
 export_row_object r i = r.container >>= (λ c. r.loader >>= (λ l. export_row l i >>= (λ row.

@@ -1,10 +1,15 @@
 -- The line and the object of a row that was read.
 use Rattle.std.specs.Prelude.{ℕ, List, [], codes}
-use Rattle.std.specs.Option.{option_copied}
+use Rattle.std.specs.Option.{option_copied, option_map}
 use Rattle.pef_report.specs.Lines.{entry_line, export_line, header_line, import_line, library_line, loader_line, relocation_line, section_line}
-use Rattle.pef_report.specs.Objects.{entry_object, export_object, header_object, import_object, library_object, loader_object, relocation_object, section_object}
+use Rattle.pef_report.specs.Objects.{entry_object, export_object, header_object, import_object, library_object, loader_object, section_object}
+use Rattle.pef_report.specs.Programs.{Program, relocation_object}
 use Rattle.pef_report.specs.declared.reading.Row.{Row}
 use Rattle.pef_report.specs.declared.reading.Row.TheVariants as row
+use Rattle.pef_report.specs.declared.rows.ProgramRow.{ProgramRow}
+
+abbrev pub program_seen : ProgramRow → Program
+program_seen p = record { at = p.at; bytes = p.bytes.now }
 
 abbrev pub line_of : Row → List ℕ
 line_of (row.Header r) = header_line r.at r.header
@@ -27,5 +32,5 @@ object_of (row.Import r) = import_object r.at (option_copied r.name) r.library r
 object_of (row.Main r) = entry_object [] r.at r.section r.offset
 object_of (row.Init r) = entry_object [] r.at r.section r.offset
 object_of (row.Term r) = entry_object [] r.at r.section r.offset
-object_of (row.Relocation r) = relocation_object r.at r.section r.count r.first
+object_of (row.Relocation r) = relocation_object r.at r.section r.count r.first (option_map program_seen r.program)
 object_of (row.Export r) = export_object r.at (option_copied r.name) r.class r.section r.value

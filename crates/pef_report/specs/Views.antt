@@ -10,8 +10,8 @@ use Rattle.pef_report.specs.declared.reading.Reading.{Reading}
 
 -- what an inspection has
 abbrev pub inspected : Inspection → Inspected
-inspected i = record { base = i.base; bytes = i.bytes.now; findings = i.findings.items }
+inspected i = record { base = i.base; bytes = i.bytes.now; programs = i.programs; findings = i.findings.items }
 
 -- what can be read
 abbrev pub readable : Reading → Readable
-readable r = record { base = r.base; container = option_map partly r.container; loader = option_map (λ (l : LoaderReading). partly_loaded l.loader) r.loader }
+readable r = record { base = r.base; container = option_map partly r.container; loader = option_map (λ (l : LoaderReading). partly_loaded l.loader) r.loader; programs = r.programs }

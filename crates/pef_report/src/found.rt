@@ -2,7 +2,8 @@
 ghost use Rattle.std.specs.Prelude.{◌≡◌, ◌++◌, true};
 ghost use Rattle.pef_ports.specs.Sent.{Sends};
 ghost use Rattle.pef_report.specs.Findings.{finding_line, finding_object};
-ghost use Rattle.pef_report.specs.Inspection.{count_chosen, detail_of, finding_json, finding_text, findings_json, findings_text, is_chosen, note_detail, separator};
+ghost use Rattle.pef_report.specs.Inspection.{count_chosen, detail_of, finding_json, finding_text, findings_json, findings_text, is_chosen, note_detail, word_detail};
+ghost use Rattle.pef_report.specs.Objects.{separator};
 
 use crate::finding::{print_finding, print_finding_object};
 use crate::rows::{Detail, FindingRow};
@@ -145,7 +146,18 @@ fn detail_of(cause: Cause) -> Detail
 {
     match cause {
         Cause::Note(note) => note_detail(note),
-        Cause::View(_) | Cause::Loader(_) | Cause::Pack(_) | Cause::Reloc(_) => Detail::None,
+        Cause::Reloc(fault) => word_detail(fault.word()),
+        Cause::View(_) | Cause::Loader(_) | Cause::Pack(_) => Detail::None,
+    }
+}
+
+/// Returns the offset of a word, if there is one.
+fn word_detail(word: Option<u64>) -> Detail
+    ensures { result ≡ word_detail word }
+{
+    match word {
+        Some(word) => Detail::Word(word),
+        None => Detail::None,
     }
 }
 

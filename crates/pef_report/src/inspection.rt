@@ -1,6 +1,6 @@
 ghost use Rattle.std.specs.Prelude.{◌≡◌, IfOk, OnOk, true, false};
 ghost use Rattle.pef_ports.specs.Sent.{Sends};
-ghost use Rattle.pef_report.specs.Inspection.{AreAll, Inspects, count_chosen, inspection_object, inspection_text, list_json, rows_json};
+ghost use Rattle.pef_report.specs.Inspection.{AreAll, Inspects, InspectsWithin, count_chosen, inspection_object, inspection_text, list_json, rows_json};
 ghost use Rattle.pef_report.specs.Order.{IsInOrder};
 
 use crate::found::{Chosen, count_chosen, print_chosen, print_findings};
@@ -10,7 +10,9 @@ use crate::reading::Reading;
 use crate::tokens::{Token, print_tokens};
 use crate::walk::Walk;
 use pef_format::Part;
-use pef_inspect::{Finding, find_errors, find_more_notes, find_notes};
+use pef_inspect::{
+    Finding, Limits, find_errors_within, find_more_notes_within, find_notes_within, programs_shown,
+};
 use pef_ports::{Page, Sink, StreamFault, send};
 use std::alloc::{AllocError, Global};
 
@@ -33,13 +35,15 @@ const ROW_PARTS: [Part; 10] = [
 pub struct Inspection<'a> {
     base: u64,
     bytes: &'a [u8],
+    /// How many relocation programs are printed.
+    programs: u32,
     findings: Vec<Finding>,
 }
 
 impl<'a> Inspection<'a> {
     ghost use Rattle.pef_report.specs.Views.{inspected};
 
-    /// Inspects the container `bytes`, which begins at the offset `base` of its file.
+    /// Inspects the container `bytes`, which begins at the offset `base` of its file, within the limits for one container.
     ///
     /// # Errors
     ///
@@ -47,11 +51,29 @@ impl<'a> Inspection<'a> {
     pub fn read(alloc: Global, base: u64, bytes: &'a [u8]) -> Result<Inspection<'a>, AllocError>
         ensures { IfOk result (λ i. Inspects base bytes.entry.now (inspected i)) }
     {
-        let mut findings = find_all(alloc, bytes)?;
+        Inspection::read_within(alloc, base, bytes, Limits::for_container())
+    }
+
+    /// Inspects the container `bytes` within any limits. [`left_after`](pef_inspect::left_after) says what is left of them for the
+    /// next container of the file.
+    ///
+    /// # Errors
+    ///
+    /// Only want of memory.
+    pub fn read_within(
+        alloc: Global,
+        base: u64,
+        bytes: &'a [u8],
+        limits: Limits,
+    ) -> Result<Inspection<'a>, AllocError>
+        ensures { IfOk result (λ i. InspectsWithin limits base bytes.entry.now (inspected i)) }
+    {
+        let mut findings = find_all(alloc, bytes, limits)?;
         put_in_order(&mut findings)?;
         Ok(Inspection {
             base,
             bytes,
+            programs: programs_shown(bytes),
             findings,
         })
     }
@@ -70,13 +92,14 @@ impl<'a> Inspection<'a> {
         count_chosen(&self.findings, false)
     }
 
-    /// Prints a line for each row that can be read. Below a row are the errors and notes about it.
+    /// Prints a line for each row that can be read, and for each instruction of a relocation program. Below a row or an
+    /// instruction are the errors and notes about it.
     pub fn print<W: Sink>(&self, out: &mut W, page: &mut Page) -> Result<(), StreamFault>
         ensures { Sends result (W.stream out.old) (W.stream out.new) page.old.items page.new.items (inspection_text (inspected self.now)) }
     {
         let mut walk = Walk {
             base: self.base,
-            reading: Reading::new(self.base, self.bytes),
+            reading: Reading::new(self.base, self.bytes, self.programs),
             left: &self.findings,
         };
         walk.print_parts(out, page, &ROW_PARTS)?;
@@ -98,7 +121,7 @@ impl<'a> Inspection<'a> {
     fn print_rows<W: Sink>(&self, out: &mut W, page: &mut Page) -> Result<(), StreamFault>
         ensures { Sends result (W.stream out.old) (W.stream out.new) page.old.items page.new.items (rows_json (inspected self.now)) }
     {
-        let mut reading = Reading::new(self.base, self.bytes);
+        let mut reading = Reading::new(self.base, self.bytes, self.programs);
         print_tokens(
             out,
             page,
@@ -132,18 +155,18 @@ impl<'a> Inspection<'a> {
 }
 
 /// Returns all errors and notes of a container: errors, notes, and then the notes that need memory.
-fn find_all(alloc: Global, bytes: &[u8]) -> Result<Vec<Finding>, AllocError>
-    ensures { IfOk result (λ found. AreAll bytes.now found.items) }
+fn find_all(alloc: Global, bytes: &[u8], limits: Limits) -> Result<Vec<Finding>, AllocError>
+    ensures { IfOk result (λ found. AreAll limits bytes.now found.items) }
 {
     let mut findings = Vec::new(alloc);
-    find_errors(bytes, &mut findings)?;
-    find_notes(bytes, &mut findings)?;
-    let mut more = find_more_notes(alloc, bytes)?;
+    find_errors_within(bytes, limits, &mut findings)?;
+    find_notes_within(bytes, limits, &mut findings)?;
+    let mut more = find_more_notes_within(alloc, bytes, limits)?;
     findings.append(&mut more)?;
     Ok(findings)
 }
 
-/// Puts errors and notes into the order of their rows.
+/// Puts errors and notes into the order of their rows, and of the instructions below a row.
 fn put_in_order(findings: &mut Vec<Finding>) -> Result<(), AllocError>
     ensures { OnOk result (IsInOrder findings.old.items findings.new.items) }
 {

@@ -11,6 +11,7 @@ mod members;
 mod objects;
 mod optional;
 mod order;
+mod programs;
 mod reading;
 mod rows;
 mod strings;
@@ -31,11 +32,12 @@ pub use lines::{
 };
 pub use objects::{
     print_entry_object, print_export_object, print_header_object, print_import_object,
-    print_library_object, print_loader_object, print_relocation_object, print_section_object,
+    print_library_object, print_loader_object, print_section_object,
 };
+pub use programs::{print_instr_line, print_instr_object, print_relocation_object};
 pub use rows::{
-    Detail, EntryRow, ExportRow, FindingRow, HeaderRow, ImportRow, LibraryRow, LoaderRow,
-    RelocationRow, SectionRow,
+    Detail, EntryRow, ExportRow, FindingRow, HeaderRow, ImportRow, InstrRow, LibraryRow, LoaderRow,
+    ProgramRow, RelocationRow, SectionRow,
 };
 pub use theorems::each_finding_is_printed_once;
 pub use tokens::{Token, print_tokens};

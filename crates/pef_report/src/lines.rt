@@ -10,7 +10,7 @@ use crate::rows::{
     EntryRow, ExportRow, HeaderRow, ImportRow, LibraryRow, LoaderRow, RelocationRow, SectionRow,
 };
 use crate::tokens::{Token, print_tokens};
-use pef_ports::{Page, Sink, StreamFault};
+use pef_ports::{Decimal, Hex, Joined, Page, Printed, Sink, StreamFault, Verbatim};
 
 /// Prints the line of a container's header.
 #[tactic(auto, unfolding(crate::specs::Lines::header_line))]
@@ -183,22 +183,16 @@ pub fn print_import<W: Sink>(
 ) -> Result<(), StreamFault>
     ensures { Sends result (W.stream out.old) (W.stream out.new) page.old.items page.new.items (import_line row.entry.at row.entry.number (option_copied row.entry.name) (option_copied row.entry.library_name) row.entry.class row.entry.weak) }
 {
-    print_tokens(
-        out,
-        page,
-        &[
-            Token::At(row.at),
-            Token::Text(b" import "),
-            Token::Number(row.number),
-            Token::Text(b" "),
-            name_or_mark(row.name),
-            Token::Text(b" of "),
-            name_or_mark(row.library_name),
-            Token::Text(b" class "),
-            Token::Number(u64::from(row.class)),
-            Token::Text(if row.weak { b" weak\n" } else { b" strong\n" }),
-        ],
-    )
+    let class = u64::from(row.class);
+    let start = Joined(Token::At(row.at), Verbatim(b" import "));
+    let number = Joined(Joined(start, Decimal(row.number)), Verbatim(b" "));
+    let name = Joined(Joined(number, name_or_mark(row.name)), Verbatim(b" of "));
+    let owner = Joined(
+        Joined(name, name_or_mark(row.library_name)),
+        Verbatim(b" class "),
+    );
+    let strength = Verbatim(if row.weak { b" weak\n" } else { b" strong\n" });
+    Joined(Joined(owner, Decimal(class)), strength).print(out, page)
 }
 
 /// Prints the line of an entry point, if the section isn't -1.
@@ -234,9 +228,9 @@ pub fn print_entry<W: Sink>(
 pub fn print_relocation<W: Sink>(
     out: &mut W,
     page: &mut Page,
-    row: RelocationRow,
+    row: RelocationRow<'_>,
 ) -> Result<(), StreamFault>
-    ensures { Sends result (W.stream out.old) (W.stream out.new) page.old.items page.new.items (relocation_line row.at row.section row.count row.first) }
+    ensures { Sends result (W.stream out.old) (W.stream out.new) page.old.items page.new.items (relocation_line row.entry.at row.entry.section row.entry.count row.entry.first) }
 {
     print_tokens(
         out,
@@ -263,23 +257,13 @@ pub fn print_export<W: Sink>(
 ) -> Result<(), StreamFault>
     ensures { Sends result (W.stream out.old) (W.stream out.new) page.old.items page.new.items (export_line row.entry.at (option_copied row.entry.name) row.entry.class row.entry.section row.entry.value) }
 {
-    print_tokens(
-        out,
-        page,
-        &[
-            Token::At(row.at),
-            Token::Text(b" export "),
-            name_or_mark(row.name),
-            Token::Text(b" class "),
-            Token::Number(u64::from(row.class)),
-            Token::Text(b" section "),
-            sign(row.section),
-            magnitude(row.section),
-            Token::Text(b" value "),
-            Token::Word(row.value),
-            Token::Text(b"\n"),
-        ],
-    )
+    let class = u64::from(row.class);
+    let start = Joined(Token::At(row.at), Verbatim(b" export "));
+    let name = Joined(Joined(start, name_or_mark(row.name)), Verbatim(b" class "));
+    let kind = Joined(Joined(name, Decimal(class)), Verbatim(b" section "));
+    let number = Joined(Joined(kind, sign(row.section)), magnitude(row.section));
+    let value = Joined(Joined(number, Verbatim(b" value ")), Hex(row.value));
+    Joined(value, Verbatim(b"\n")).print(out, page)
 }
 
 /// Returns a name, or `?` for one that can't be read.

@@ -11,8 +11,9 @@ ghost use Rattle.pef_report.specs.Views.{readable};
 use crate::found::print_separator;
 use crate::objects::{
     print_entry_object, print_export_object, print_header_object, print_import_object,
-    print_library_object, print_loader_object, print_relocation_object, print_section_object,
+    print_library_object, print_loader_object, print_section_object,
 };
+use crate::programs::print_relocation_object;
 use crate::reading::{Reading, Row};
 use pef_format::Part;
 use pef_ports::{Page, Sink, StreamFault, send};

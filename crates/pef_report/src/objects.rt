@@ -3,12 +3,10 @@ ghost use Rattle.std.specs.Prelude.{◌≡◌};
 ghost use Rattle.std.specs.Option.{option_copied};
 ghost use Rattle.pef_ports.specs.Sent.{Sends};
 ghost use Rattle.pef_report.specs.Tokens.{token_text};
-ghost use Rattle.pef_report.specs.Objects.{truth, entry_object, export_object, header_counts, header_object, header_versions, import_object, library_imports, library_object, library_versions, loader_object, relocation_object, section_object};
+ghost use Rattle.pef_report.specs.Objects.{truth, entry_object, export_object, header_counts, header_object, header_versions, import_object, library_imports, library_object, library_versions, loader_object, section_object};
 
 use crate::optional::{is_none_entry, magnitude, number_or_null, sign};
-use crate::rows::{
-    EntryRow, ExportRow, HeaderRow, ImportRow, LibraryRow, LoaderRow, RelocationRow, SectionRow,
-};
+use crate::rows::{EntryRow, ExportRow, HeaderRow, ImportRow, LibraryRow, LoaderRow, SectionRow};
 use crate::tokens::{Token, print_tokens};
 use pef_ports::{Page, Sink, StreamFault};
 use pef_views::Header;
@@ -280,32 +278,6 @@ pub fn print_entry_object<W: Sink>(
             magnitude(row.section),
             Token::Text(b",\"value\":"),
             Token::Number(u64::from(row.offset)),
-            Token::Text(b"}"),
-        ],
-    )
-}
-
-/// Prints a relocation header.
-#[tactic(auto, unfolding(crate::specs::Objects::relocation_object))]
-pub fn print_relocation_object<W: Sink>(
-    out: &mut W,
-    page: &mut Page,
-    row: RelocationRow,
-) -> Result<(), StreamFault>
-    ensures { Sends result (W.stream out.old) (W.stream out.new) page.old.items page.new.items (relocation_object row.at row.section row.count row.first) }
-{
-    print_tokens(
-        out,
-        page,
-        &[
-            Token::Text(b"{\"offset\":"),
-            Token::Number(row.at),
-            Token::Text(b",\"section\":"),
-            Token::Number(u64::from(row.section)),
-            Token::Text(b",\"halfwords\":"),
-            Token::Number(u64::from(row.count)),
-            Token::Text(b",\"first\":"),
-            Token::Number(u64::from(row.first)),
             Token::Text(b"}"),
         ],
     )

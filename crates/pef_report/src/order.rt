@@ -1,19 +1,48 @@
 //! The order in which rows are printed, and errors and notes among them.
-ghost use Rattle.std.specs.Prelude.{◌≡◌, ◌≤◌, length};
-ghost use Rattle.pef_report.specs.Order.{after, before, count_before, finding_rank, rank, row_part};
+ghost use Rattle.std.specs.Prelude.{◌≡◌, ◌≤◌, ◌^◌, length};
+ghost use Rattle.pef_report.specs.Order.{after, before, count_before, finding_rank, place_after, rank, row_part};
 
 use pef_format::Part;
 use pef_inspect::Finding;
 
 /// How far apart the first rows of two kinds are. No kind has as many rows.
-const ROWS: u128 = 0x1_0000_0000_0000_0000;
+const ROWS: u128 = 0x1_0000_0000;
 
-/// Returns the place of a row in the order.
+/// The greatest number of a row.
+const MAX_ROW: usize = 0xFFFF_FFFF;
+
+/// How far apart two rows are. No program has as many bytes.
+const PLACES: u128 = 0x2_0000_0000_0000_0000;
+
+/// Returns the place of a row in the order, or that of an instruction, by its offset in its program.
 #[tactic(auto, unfolding(crate::specs::Order::rank))]
-pub(crate) fn rank(part: Part, row: usize) -> u128
-    ensures { result ≡ rank part row }
+pub(crate) fn rank(part: Part, row: usize, field: usize) -> u128
+    ensures { result ≡ rank part row field }
 {
-    u128::from(row_part(part).code()) * ROWS + row as u128
+    let row = u128::from(row_part(part).code()) * ROWS + row.min(MAX_ROW) as u128;
+    row * PLACES + place_after(part, field)
+}
+
+/// Returns the place after its row of an instruction, or 0 for a row.
+fn place_after(part: Part, field: usize) -> u128
+    ensures value { result ≡ place_after part field }
+    ensures small { result ≤ 2 ^ 64 }
+{
+    match part {
+        Part::Program => field as u128 + 1,
+        Part::Header
+        | Part::Section
+        | Part::LoaderHeader
+        | Part::Library
+        | Part::Import
+        | Part::Main
+        | Part::Init
+        | Part::Term
+        | Part::Relocation
+        | Part::Export
+        | Part::PackedData
+        | Part::Line => 0,
+    }
 }
 
 /// Returns the kind of the row that a part is printed with.
@@ -37,14 +66,14 @@ fn row_part(part: Part) -> Part
     }
 }
 
-/// Returns the place of the row that an error or a note is about.
+/// Returns the place of the row or of the instruction that an error or a note is about.
 pub(crate) fn finding_rank(finding: &Finding) -> u128
     ensures { result ≡ finding_rank finding.now }
 {
-    rank(finding.place.part, finding.place.row)
+    rank(finding.place.part, finding.place.row, finding.place.field)
 }
 
-/// Returns the findings that are about rows before the one with this place in the order, and the others.
+/// Returns the first findings, which are about what comes before a place in the order, and the others.
 pub(crate) fn split_before<'f>(
     findings: &'f [Finding],
     rank: u128,
@@ -55,7 +84,7 @@ pub(crate) fn split_before<'f>(
     findings.split_at(count_before(findings, rank))
 }
 
-/// Returns how many of the first findings are about rows before the one with this place in the order.
+/// Returns how many of the first findings are about what comes before a place in the order.
 fn count_before(findings: &[Finding], rank: u128) -> usize
     ensures value { result ≡ count_before rank findings.now }
     ensures below { result ≤ length findings.now }

@@ -4,12 +4,14 @@ ghost use Rattle.std.specs.Option.{option_copied, option_map_or};
 ghost use Rattle.pef_views.specs.PartialViews.{partly};
 ghost use Rattle.pef_loader.specs.PartialViews.{partly_loaded};
 ghost use Rattle.pef_loader.specs.Places.{place_of};
-ghost use Rattle.pef_report.specs.RowViews.{line_of, object_of};
-ghost use Rattle.pef_report.specs.Readable.{export_row_line, export_row_object, file_offset, header_row_line, header_row_object, import_line_in, import_object_in, import_row_line, import_row_object, init_row_line, init_row_object, library_name, library_row_line, library_row_object, line_at, loader_count, loader_in, loader_row_line, loader_row_object, main_row_line, main_row_object, object_at, readable_at, relocation_row_line, relocation_row_object, row_count, section_row_line, section_row_object, sections_in, term_row_line, term_row_object};
+ghost use Rattle.pef_report.specs.Findings.{file_offset};
+ghost use Rattle.pef_report.specs.RowViews.{line_of, object_of, program_seen};
+ghost use Rattle.pef_report.specs.Readable.{export_row_line, export_row_object, header_row_line, header_row_object, import_line_in, import_object_in, import_row_line, import_row_object, init_row_line, init_row_object, library_name, library_row_line, library_row_object, line_at, loader_count, loader_in, loader_row_line, loader_row_object, main_row_line, main_row_object, object_at, program_in, program_of, readable_at, relocation_row_line, relocation_row_object, row_count, section_row_line, section_row_object, sections_in, term_row_line, term_row_object};
 
 use crate::finding::offset_in_file;
 use crate::rows::{
-    EntryRow, ExportRow, HeaderRow, ImportRow, LibraryRow, LoaderRow, RelocationRow, SectionRow,
+    EntryRow, ExportRow, HeaderRow, ImportRow, LibraryRow, LoaderRow, ProgramRow, RelocationRow,
+    SectionRow,
 };
 use pef_format::Part;
 use pef_format::layout::{CONTAINER_HEADER_SIZE, SECTION_HEADER_SIZE};
@@ -27,7 +29,7 @@ pub(crate) enum Row<'a> {
     Main(EntryRow),
     Init(EntryRow),
     Term(EntryRow),
-    Relocation(RelocationRow),
+    Relocation(RelocationRow<'a>),
     Export(ExportRow<'a>),
 }
 
@@ -37,6 +39,7 @@ pub(crate) struct Reading<'a> {
     base: u64,
     container: Option<PartialContainer<'a>>,
     loader: Option<LoaderReading<'a>>,
+    programs: u32,
 }
 
 /// A loader section, and the reader of its imports.
@@ -50,21 +53,24 @@ struct LoaderReading<'a> {
 impl<'a> Reading<'a> {
     ghost use Rattle.pef_report.specs.Views.{readable};
 
-    /// Reads what can be read of `bytes`, which begin at the offset `base` of a file.
+    /// Reads what can be read of `bytes`, which begin at the offset `base` of a file. The first `programs` relocation
+    /// programs are printed.
     #[tactic(auto, unfolding(crate::specs::Readable::readable_at))]
-    pub(crate) fn new(base: u64, bytes: &'a [u8]) -> Reading<'a>
-        ensures { readable result ≡ readable_at base bytes.entry.now }
+    pub(crate) fn new(base: u64, bytes: &'a [u8], programs: u32) -> Reading<'a>
+        ensures { readable result ≡ readable_at base bytes.entry.now programs }
     {
         match PartialContainer::read(bytes) {
             Ok(container) => Reading {
                 base,
                 container: Some(container),
                 loader: LoaderReading::new(&container),
+                programs,
             },
             Err(_) => Reading {
                 base,
                 container: None,
                 loader: None,
+                programs,
             },
         }
     }
@@ -274,7 +280,37 @@ impl<'a> Reading<'a> {
             section: relocation.section,
             count: relocation.count,
             first: relocation.first,
+            program: self.program_in(container, k, relocation.program),
         }))
+    }
+
+    /// Returns the program of relocation header `k`, if it is printed and its bytes are there.
+    pub(crate) fn program(&self, k: u32) -> Option<ProgramRow<'a>>
+        ensures { option_map program_seen result ≡ program_of (readable self.now) k }
+    {
+        let container = self.container.as_ref()?;
+        let reading = self.loader.as_ref()?;
+        let relocation = reading.loader.relocation(k as usize)?;
+        self.program_in(container, k, relocation.program)
+    }
+
+    /// Returns the program of relocation header `k` with these bytes.
+    fn program_in(
+        &self,
+        container: &PartialContainer<'_>,
+        k: u32,
+        bytes: Option<&'a [u8]>,
+    ) -> Option<ProgramRow<'a>>
+        ensures { option_map program_seen result ≡ program_in (readable self.now) (partly container.now) k (option_copied bytes.entry) }
+    {
+        if k >= self.programs {
+            return None;
+        }
+        let at = self.at(container, Part::Program, k);
+        match bytes {
+            Some(bytes) => Some(ProgramRow { at, bytes }),
+            None => None,
+        }
     }
 
     fn export_row(&self, i: u32) -> Option<Row<'a>>
@@ -371,7 +407,7 @@ fn library_name<'a>(loader: &PartialLoader<'a>, library: Option<usize>) -> Optio
 }
 
 /// Returns an offset in a container as one in the file, or that of the container if there is none.
-fn file_offset(base: u64, offset: Option<usize>) -> u64
+pub(crate) fn file_offset(base: u64, offset: Option<usize>) -> u64
     ensures { result ≡ file_offset base offset }
 {
     match offset_in_file(base, offset) {

@@ -1,6 +1,7 @@
 //! The rows of a container as they are printed. `at` is the offset in the file of each.
 use pef_format::Place;
 use pef_loader::LoaderHeader;
+use pef_reloc::Instr;
 use pef_views::{Header, SectionHeader};
 
 /// A container's header.
@@ -64,11 +65,27 @@ pub struct EntryRow {
 
 /// A relocation header.
 #[derive(Clone, Copy)]
-pub struct RelocationRow {
+pub struct RelocationRow<'a> {
     pub at: u64,
     pub section: u16,
     pub count: u32,
     pub first: u32,
+    /// Its program, if the instructions are printed.
+    pub program: Option<ProgramRow<'a>>,
+}
+
+/// A relocation program. Its instructions are printed up to the first bytes that aren't one.
+#[derive(Clone, Copy)]
+pub struct ProgramRow<'a> {
+    pub at: u64,
+    pub bytes: &'a [u8],
+}
+
+/// A relocation instruction.
+#[derive(Clone, Copy)]
+pub struct InstrRow {
+    pub at: u64,
+    pub instr: Instr,
 }
 
 /// An exported symbol.

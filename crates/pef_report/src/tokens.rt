@@ -6,7 +6,10 @@ ghost use Rattle.pef_report.specs.Tokens.{at_text, cut_member, hex_bytes, hex_me
 use crate::dates::print_date;
 use crate::strings::{is_ascii, print_string};
 use crate::versions::print_version;
-use pef_ports::{Page, Piece, Sink, StreamFault, print_pieces, send};
+use pef_ports::{
+    Decimal, Escaped, Hex, Joined, Page, Piece, Printed, Sink, StreamFault, Verbatim, print_name,
+    print_pieces, send,
+};
 
 /// How many bytes of the name of a row are printed. Many rows can share one long name.
 const MAX_NAME_BYTES: usize = 1024;
@@ -44,6 +47,16 @@ pub enum Token<'a> {
     Member(&'a [u8], Option<&'a [u8]>),
 }
 
+impl<'a> Printed for Token<'a> {
+    ghost use Rattle.pef_report.specs.Tokens.{token_text};
+
+    ghost text = { token_text };
+
+    fn print<W: Sink>(&self, out: &mut W, page: &mut Page) -> Result<(), StreamFault> {
+        print_token(out, page, *self)
+    }
+}
+
 /// Prints tokens one after the other.
 pub fn print_tokens<W: Sink>(
     out: &mut W,
@@ -64,11 +77,11 @@ fn print_token<W: Sink>(out: &mut W, page: &mut Page, token: Token<'_>) -> Resul
 {
     match token {
         Token::Text(text) => send(out, page, text),
-        Token::Number(n) => print_pieces(out, page, &[Piece::Number(n)]),
-        Token::Word(n) => print_pieces(out, page, &[Piece::Word(n)]),
+        Token::Number(n) => Decimal(n).print(out, page),
+        Token::Word(n) => Hex(n).print(out, page),
         Token::Halfword(n) => print_pieces(out, page, &[Piece::Halfword(n)]),
         Token::Byte(n) => print_pieces(out, page, &[Piece::Byte(n)]),
-        Token::Name(name) => print_pieces(out, page, &[Piece::Name(name)]),
+        Token::Name(name) => print_name(out, page, name),
         Token::Label(name) => print_label(out, page, name),
         Token::Path(path) => print_path(out, page, path),
         Token::At(n) => print_at(out, page, n),
@@ -95,11 +108,11 @@ fn print_at<W: Sink>(out: &mut W, page: &mut Page, n: u64) -> Result<(), StreamF
     ensures { Sends result (W.stream out.old) (W.stream out.new) page.old.items page.new.items (at_text n) }
 {
     if n < 0x1_0000_0000 {
-        return print_pieces(out, page, &[Piece::Word(n as u32)]);
+        return Hex(n as u32).print(out, page);
     }
-    let high = Piece::Word((n / 0x1_0000_0000) as u32);
-    let low = Piece::Word((n % 0x1_0000_0000) as u32);
-    print_pieces(out, page, &[high, low])
+    let high = Hex((n / 0x1_0000_0000) as u32);
+    let low = Hex((n % 0x1_0000_0000) as u32);
+    Joined(high, low).print(out, page)
 }
 
 /// Prints the four characters of a number, inside a JSON string.
@@ -126,10 +139,10 @@ fn print_label<W: Sink>(out: &mut W, page: &mut Page, name: &[u8]) -> Result<(),
     ensures { Sends result (W.stream out.old) (W.stream out.new) page.old.items page.new.items (label_text name.now) }
 {
     if name.len() <= MAX_NAME_BYTES {
-        return print_pieces(out, page, &[Piece::Name(name)]);
+        return print_name(out, page, name);
     }
     let (front, _) = name.split_at(MAX_NAME_BYTES);
-    print_pieces(out, page, &[Piece::Name(front), Piece::Text(b"%..")])
+    Joined(Escaped(front), Verbatim(b"%..")).print(out, page)
 }
 
 /// Prints the name of a row as a member of a JSON object.

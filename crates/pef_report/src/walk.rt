@@ -1,11 +1,13 @@
-//! The text of an inspection: rows, with the errors and notes about each below it.
-ghost use Rattle.std.specs.Prelude.{◌≡◌, ◌++◌, [], ◌∷◌, OnOk};
+//! The text of an inspection: rows and instructions, with the errors and notes about each below it.
+ghost use Rattle.std.specs.Prelude.{◌≡◌, ◌++◌, [], ◌∷◌, OnOk, map, true};
 ghost use Rattle.std.specs.Option.{unwrap_or};
 ghost use Rattle.pef_ports.specs.Sent.{Sends};
-ghost use Rattle.pef_report.specs.Inspection.{findings_text, merged_text, row_at, rows_among, rows_of};
+ghost use Rattle.pef_reloc.specs.Instrs.{instr_fits};
+ghost use Rattle.pef_report.specs.Inspection.{findings_text, instr_row, merged_text, program_rows, row_at, rows_among, rows_below, rows_of};
 ghost use Rattle.pef_report.specs.Order.{before, rank};
-ghost use Rattle.pef_report.specs.Readable.{line_at, row_count};
-ghost use Rattle.pef_report.specs.RowViews.{line_of};
+ghost use Rattle.pef_report.specs.Programs.{instr_line, steps_in};
+ghost use Rattle.pef_report.specs.Readable.{line_at, program_of, row_count};
+ghost use Rattle.pef_report.specs.RowViews.{line_of, program_seen};
 ghost use Rattle.pef_report.specs.Views.{readable};
 
 use crate::found::print_findings;
@@ -14,12 +16,15 @@ use crate::lines::{
     print_relocation, print_section,
 };
 use crate::order::{rank, split_before};
-use crate::reading::{Reading, Row};
+use crate::programs::print_instr_line;
+use crate::reading::{Reading, Row, file_offset};
+use crate::rows::{InstrRow, ProgramRow};
 use pef_format::Part;
 use pef_inspect::Finding;
 use pef_ports::{Page, Sink, StreamFault};
+use pef_reloc::Instrs;
 
-/// Rows that are printed in order, and the errors and notes that are left to be printed among them.
+/// Rows that are printed in order with their instructions, and the errors and notes that are left to be printed among them.
 #[derive(Drop)]
 pub(crate) struct Walk<'f, 'a> {
     pub base: u64,
@@ -28,7 +33,7 @@ pub(crate) struct Walk<'f, 'a> {
 }
 
 impl<'f, 'a> Walk<'f, 'a> {
-    ghost use Rattle.pef_report.specs.Walks.{Passes};
+    ghost use Rattle.pef_report.specs.Walks.{Passes, PassesBefore};
 
     /// Prints all rows of some kinds, and the errors and notes about rows before each.
     pub(crate) fn print_parts<W: Sink>(
@@ -62,7 +67,7 @@ impl<'f, 'a> Walk<'f, 'a> {
         Ok(())
     }
 
-    /// Prints row `i` of a kind.
+    /// Prints row `i` of a kind and what belongs to it.
     fn print_next<W: Sink>(
         &mut self,
         out: &mut W,
@@ -70,13 +75,126 @@ impl<'f, 'a> Walk<'f, 'a> {
         part: Part,
         i: u32,
     ) -> Result<(), StreamFault>
-        ensures sends { Sends result (W.stream out.old) (W.stream out.new) page.old.items page.new.items (findings_text self.old.base (before (rank part i) self.old.left.now) ++ (row_at (readable self.old.reading) part i).text) }
+        ensures sends { Sends result (W.stream out.old) (W.stream out.new) page.old.items page.new.items (merged_text self.old.base (row_at (readable self.old.reading) part i ∷ rows_below (readable self.old.reading) part i) self.old.left.now) }
+        ensures passes { OnOk result (Passes self.old self.new (row_at (readable self.old.reading) part i ∷ rows_below (readable self.old.reading) part i)) }
+    {
+        self.print_alone(out, page, part, i)?;
+        self.print_below(out, page, part, i)?;
+        Ok(())
+    }
+
+    /// Prints row `i` of a kind alone.
+    fn print_alone<W: Sink>(
+        &mut self,
+        out: &mut W,
+        page: &mut Page,
+        part: Part,
+        i: u32,
+    ) -> Result<(), StreamFault>
+        ensures sends { Sends result (W.stream out.old) (W.stream out.new) page.old.items page.new.items (findings_text self.old.base (before (rank part i 0) self.old.left.now) ++ (row_at (readable self.old.reading) part i).text) }
         ensures passes { OnOk result (Passes self.old self.new (row_at (readable self.old.reading) part i ∷ [])) }
     {
-        let (before, after) = split_before(self.left, rank(part, i as usize));
+        self.print_before(out, page, rank(part, i as usize, 0))?;
+        print_row_at(out, page, &mut self.reading, part, i)?;
+        Ok(())
+    }
+
+    /// Prints the errors and notes that are left about what comes before a place in the order.
+    fn print_before<W: Sink>(
+        &mut self,
+        out: &mut W,
+        page: &mut Page,
+        rank: u128,
+    ) -> Result<(), StreamFault>
+        ensures sends { Sends result (W.stream out.old) (W.stream out.new) page.old.items page.new.items (findings_text self.old.base (before rank self.old.left.now)) }
+        ensures passes { OnOk result (PassesBefore self.old self.new rank) }
+    {
+        let (before, after) = split_before(self.left, rank);
         print_findings(out, page, self.base, before)?;
         self.left = after;
-        print_row_at(out, page, &mut self.reading, part, i)?;
+        Ok(())
+    }
+
+    /// Prints what belongs to row `i` of a kind: the instructions of a relocation header.
+    fn print_below<W: Sink>(
+        &mut self,
+        out: &mut W,
+        page: &mut Page,
+        part: Part,
+        i: u32,
+    ) -> Result<(), StreamFault>
+        ensures sends { Sends result (W.stream out.old) (W.stream out.new) page.old.items page.new.items (merged_text self.old.base (rows_below (readable self.old.reading) part i) self.old.left.now) }
+        ensures passes { OnOk result (Passes self.old self.new (rows_below (readable self.old.reading) part i)) }
+    {
+        match part {
+            Part::Relocation => self.print_program(out, page, i),
+            Part::Header
+            | Part::Section
+            | Part::LoaderHeader
+            | Part::Library
+            | Part::Import
+            | Part::Main
+            | Part::Init
+            | Part::Term
+            | Part::Export
+            | Part::PackedData
+            | Part::Program
+            | Part::Line => Ok(()),
+        }
+    }
+
+    /// Prints the instructions of relocation header `k`.
+    fn print_program<W: Sink>(
+        &mut self,
+        out: &mut W,
+        page: &mut Page,
+        k: u32,
+    ) -> Result<(), StreamFault>
+        ensures sends { Sends result (W.stream out.old) (W.stream out.new) page.old.items page.new.items (merged_text self.old.base (program_rows k (program_of (readable self.old.reading) k)) self.old.left.now) }
+        ensures passes { OnOk result (Passes self.old self.new (program_rows k (program_of (readable self.old.reading) k))) }
+    {
+        match self.reading.program(k) {
+            Some(program) => self.print_instrs(out, page, k, program),
+            None => Ok(()),
+        }
+    }
+
+    /// Prints the instructions of a program, which is that of relocation header `k`.
+    fn print_instrs<W: Sink>(
+        &mut self,
+        out: &mut W,
+        page: &mut Page,
+        k: u32,
+        program: ProgramRow<'_>,
+    ) -> Result<(), StreamFault>
+        ensures sends { Sends result (W.stream out.old) (W.stream out.new) page.old.items page.new.items (merged_text self.old.base (map (instr_row k program.entry.at) (steps_in (program_seen program.entry))) self.old.left.now) }
+        ensures passes { OnOk result (Passes self.old self.new (map (instr_row k program.entry.at) (steps_in (program_seen program.entry)))) }
+    {
+        let mut instrs = Instrs::new(program.bytes);
+        while let Some(step) = instrs.next_placed() {
+            let row = InstrRow {
+                at: file_offset(program.at, Some(step.0)),
+                instr: step.1,
+            };
+            self.print_instr(out, page, rank(Part::Program, k as usize, step.0), row)?;
+        }
+        Ok(())
+    }
+
+    /// Prints an instruction that has a place in the order.
+    fn print_instr<W: Sink>(
+        &mut self,
+        out: &mut W,
+        page: &mut Page,
+        rank: u128,
+        row: InstrRow,
+    ) -> Result<(), StreamFault>
+        requires { instr_fits row.instr ≡ true }
+        ensures sends { Sends result (W.stream out.old) (W.stream out.new) page.old.items page.new.items (findings_text self.old.base (before rank self.old.left.now) ++ instr_line row.at row.instr) }
+        ensures passes { OnOk result (PassesBefore self.old self.new rank) }
+    {
+        self.print_before(out, page, rank)?;
+        print_instr_line(out, page, row)?;
         Ok(())
     }
 }
