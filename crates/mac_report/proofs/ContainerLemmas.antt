@@ -4,6 +4,7 @@ use Rattle.std.specs.Prelude.{◌==◌, nat_lt}
 use Rattle.pef_ports.specs.Ports.{Stream}
 use Rattle.pef_ports.specs.Sent.{Prints, StopsShort}
 use Rattle.pef_ports.proofs.Laws.Sending.{Prints-then, StopsShort-longer, StopsShort-then, sent-nothing}
+use Rattle.pef_inspect.specs.declared.limits.Limits.{Limits}
 use Rattle.mac_report.specs.Containers.{IsRowIf, RowIs, Steps, Walks, cost, fresh_tally, lacking, rest_from, row_text, skipped, tallied}
 use Rattle.mac_report.specs.declared.file.Form.{Form}
 use Rattle.mac_report.specs.declared.tally.Tally.{Tally}
@@ -15,16 +16,16 @@ pub record HasWalked (form : Form) (bytes : List ℕ) (before after : Stream) (p
   pub walks : (text : List ℕ) (last : Tally) → Walks form bytes tally left text last → Walks form bytes (fresh_tally bytes) places (sent ++ text) last
 
 -- a row that is known of each container
-some_row : (b : Bool) (rest : List ℕ) (at : ℕ) → (row : RowIs) × IsRowIf b rest at row
-some_row true rest at = (skipped, refl)
-some_row false rest at = (lacking at, refl)
+some_row : (b : Bool) (limits : Limits) (rest : List ℕ) (at : ℕ) → (row : RowIs) × IsRowIf b limits rest at row
+some_row true limits rest at = (skipped, refl)
+some_row false limits rest at = (lacking at, refl)
 
 -- containers that weren't reached add some text
 pub some_walk : (form : Form) (bytes : List ℕ) (tally : Tally) (places : List ℕ) → (text : List ℕ) × (last : Tally) × Walks form bytes tally places text last
 some_walk form bytes tally [] = ([], tally, (refl, refl))
 some_walk form bytes tally (at ∷ places) =
-    let row = some_row (nat_lt tally.budget (cost (rest_from bytes at))) (rest_from bytes at) at in
-    let next = tallied tally (cost (rest_from bytes at)) row.0 in
+    let row = some_row (nat_lt tally.budget (cost (rest_from bytes at))) tally.limits (rest_from bytes at) at in
+    let next = tallied tally (rest_from bytes at) row.0 in
     let here = row_text form (tally.containers == 0) row.0 in
     let others = some_walk form bytes next places in
     (here ++ others.0, others.1, (here, next, others.0, record { row = row.0; is = row.1; printed = refl; counted = refl }, others.2, refl))

@@ -1,9 +1,15 @@
--- What is printed of the containers of a file, in the order in which a search finds them. The budget, which keeps the
--- work for a file linear in its length, is this project's own.
-use Rattle.std.specs.Prelude.{◌≡◌, ℕ, ◌+◌, ◌-◌, ◌*◌, ◌^◌, ◌==◌, ◌&&◌, Bool, true, false, List, [], ◌∷◌, ◌++◌, Option, None, Some, codes, decimal, drop, length, min, nat_le, nat_lt, unwrap_or, if◌then◌else◌}
+-- What is printed of the containers of a file, in the order in which a search finds them. The budget and the limits, which
+-- keep the work for a file linear in its length, are this project's own.
+use Rattle.std.specs.Prelude.{◌≡◌, ℕ, ◌+◌, ◌-◌, ◌*◌, ◌^◌, ◌==◌, ◌&&◌, Bool, true, false, List, [], ◌∷◌, ◌++◌, Option, None, Some, Result, Ok, Err, codes, decimal, drop, length, min, nat_le, nat_lt, unwrap_or, if◌then◌else◌}
 use Rattle.std.specs.Option.{option_or}
 use Rattle.mac_forks.specs.Parts.{Lying}
 use Rattle.pef_words.specs.Bytes.{number_at}
+use Rattle.pef_views.specs.Container.{Contained}
+use Rattle.pef_views.specs.Partial.{partial_of}
+use Rattle.pef_views.specs.declared.fault.ViewFault.{ViewFault}
+use Rattle.pef_inspect.specs.Left.{left_after}
+use Rattle.pef_inspect.specs.Limits.{most_packed, most_program_bytes, most_steps, most_words}
+use Rattle.pef_inspect.specs.declared.limits.Limits.{Limits}
 use Rattle.pef_report.specs.Inspection as inspection
 use Rattle.pef_report.specs.Inspection.{Inspected, count_chosen, inspection_object, inspection_text}
 use Rattle.pef_report.specs.Tokens.{at_text}
@@ -38,21 +44,29 @@ rest_from bytes at =
 
 -- what the inspection of a container takes from the budget, by the bytes from its first on: 64 kilobytes, its header, and
 -- the headers of the sections that it says that it has
+unfoldable pub headers_cost : List ℕ → ℕ
+headers_cost rest = 2 ^ 16 + 40 + 28 * unwrap_or (number_at 2 rest 32) 0
+
+-- .. and its loader section, as far as it is there
+abbrev pub loader_length : Result Contained ViewFault → ℕ
+loader_length (Ok c) = length c.loader
+loader_length (Err f) = 0
+
 unfoldable pub cost : List ℕ → ℕ
-cost rest = 2 ^ 16 + 40 + 28 * unwrap_or (number_at 2 rest 32) 0
+cost rest = headers_cost rest + loader_length (partial_of rest)
 
 -- what is known of the container at a place, if so much of the budget is left
-abbrev pub IsInspected : List ℕ → ℕ → RowIs → Type 0
-IsInspected rest at (inspected i) = inspection.Inspects at rest i
-IsInspected rest at (lacking offset) = offset ≡ at
-IsInspected rest at skipped = ⊥
+abbrev pub IsInspected : Limits → List ℕ → ℕ → RowIs → Type 0
+IsInspected limits rest at (inspected i) = inspection.InspectsWithin limits at rest i
+IsInspected limits rest at (lacking offset) = offset ≡ at
+IsInspected limits rest at skipped = ⊥
 
-abbrev pub IsRowIf : Bool → List ℕ → ℕ → RowIs → Type 0
-IsRowIf true rest at row = row ≡ skipped
-IsRowIf false rest at row = IsInspected rest at row
+abbrev pub IsRowIf : Bool → Limits → List ℕ → ℕ → RowIs → Type 0
+IsRowIf true limits rest at row = row ≡ skipped
+IsRowIf false limits rest at row = IsInspected limits rest at row
 
-abbrev pub IsRow : List ℕ → ℕ → ℕ → RowIs → Type 0
-IsRow bytes budget at row = IsRowIf (nat_lt budget (cost (rest_from bytes at))) (rest_from bytes at) at row
+abbrev pub IsRow : List ℕ → Tally → ℕ → RowIs → Type 0
+IsRow bytes t at row = IsRowIf (nat_lt t.budget (cost (rest_from bytes at))) t.limits (rest_from bytes at) at row
 
 -- the comma between two objects
 abbrev pub separator : Bool → List ℕ
@@ -101,14 +115,32 @@ skipped_in (inspected i) = 0
 skipped_in (lacking at) = 0
 skipped_in skipped = 1
 
--- what is counted before the first container of a file: nothing, with a budget of 64 megabytes and the file's length
+-- the limits of a file: those for one container, each with the file's length
+abbrev pub file_limits : ℕ → Limits
+file_limits n = record { program_bytes = most_program_bytes + n; steps = most_steps + n; packed_bytes = most_packed + n; words = most_words + n }
+
+-- what is counted before the first container of a file: nothing, with the limits of the file, and a budget of 64 megabytes
+-- and the file's length
 abbrev pub fresh_tally : List ℕ → Tally
-fresh_tally bytes = record { budget = 2 ^ 26 + length bytes; containers = 0; errors = 0; notes = 0; skipped = 0 }
+fresh_tally bytes = record { budget = 2 ^ 26 + length bytes; limits = file_limits (length bytes); containers = 0; errors = 0; notes = 0; skipped = 0 }
+
+-- what is left of the budget after a container: nothing, if the container passes it
+abbrev pub budget_after : ℕ → List ℕ → RowIs → ℕ
+budget_after budget rest (inspected i) = budget - cost rest
+budget_after budget rest (lacking at) = budget - cost rest
+budget_after budget rest skipped = 0
+
+-- what is left of the limits
+abbrev pub limits_after : Limits → List ℕ → RowIs → Limits
+limits_after limits rest (inspected i) = left_after limits rest
+limits_after limits rest (lacking at) = left_after limits rest
+limits_after limits rest skipped = limits
 
 -- what is counted after a container
-abbrev pub tallied : Tally → ℕ → RowIs → Tally
-tallied t n row = record {
-  budget = t.budget - n;
+abbrev pub tallied : Tally → List ℕ → RowIs → Tally
+tallied t rest row = record {
+  budget = budget_after t.budget rest row;
+  limits = limits_after t.limits rest row;
   containers = up_to (t.containers + 1);
   errors = up_to (t.errors + errors_in row);
   notes = up_to (t.notes + notes_in row);
@@ -118,9 +150,9 @@ tallied t n row = record {
 -- what one container adds to a text and to what is counted
 pub record Steps (form : Form) (bytes : List ℕ) (before : Tally) (at : ℕ) (text : List ℕ) (after : Tally) : Type 0 where
   pub row : RowIs
-  pub is : IsRow bytes before.budget at row
+  pub is : IsRow bytes before at row
   pub printed : text ≡ row_text form (before.containers == 0) row
-  pub counted : after ≡ tallied before (cost (rest_from bytes at)) row
+  pub counted : after ≡ tallied before (rest_from bytes at) row
 
 -- what the containers at some places add
 abbrev pub Walks : Form → List ℕ → Tally → List ℕ → List ℕ → Tally → Type 0

@@ -15,7 +15,7 @@ use Rattle.cfm_members.specs.declared.fragment_fault.FragmentFault.TheVariants.{
 use Rattle.mac_report.specs.MacParts.{PlaceIs, SceneIs, WrappingIs, elsewhere, lying, missing, place_of, readable, resources_in, scene_of, wrapping_of}
 use Rattle.mac_report.specs.declared.scene.Found.{Found}
 
--- the error of the header of a file, and of the entry of a fork
+-- the error of the header of a file or of its rows of entries, and of the entry of a fork
 abbrev pub header_faults : Option ForkFault → List Found
 header_faults None = []
 header_faults (Some fault) = record { fault = Fork fault; base = 0 } ∷ []
@@ -99,7 +99,9 @@ parts_faults data_fork (Some part) = read_faults data_fork part.offset (resource
 
 abbrev pub wrapping_faults : WrappingIs → List Found
 wrapping_faults w =
-    header_faults w.fault ++ (entry_faults w.data_fork ++ (entry_faults w.resource_fork ++ parts_faults (readable w.data_fork) (readable w.resource_fork)))
+    header_faults w.fault
+    ++ (header_faults w.cut
+    ++ (entry_faults w.data_fork ++ (entry_faults w.resource_fork ++ parts_faults (readable w.data_fork) (readable w.resource_fork))))
 
 -- all errors of a file but those of its containers
 unfoldable pub faults_of : List ℕ → List Found

@@ -2,9 +2,11 @@
 -- are in the file.
 use Rattle.std.specs.Prelude.{ℕ, ◌+◌, ◌%◌, ◌^◌, ◌==◌, pos, List, Option, None, Some, Result, Ok, Err, length, if◌then◌else◌}
 use Rattle.std.specs.Int.{cast_signed, w16}
-use Rattle.pef_words.specs.Refusals.{◌>>=◌}
+use Rattle.pef_words.specs.Refusals.{◌>>=◌, first_among}
+use Rattle.mac_forks.specs.Apple.{AppleIs, entry_of}
 use Rattle.mac_forks.specs.MacFile.{MacFileIs, apple, bare, data_fork_in, fault_in, mac_binary, mac_file_of}
 use Rattle.mac_forks.specs.Parts.{Lying}
+use Rattle.mac_forks.specs.declared.apple.AppleEntry.{AppleEntry}
 use Rattle.mac_forks.specs.declared.fault.ForkFault.{ForkFault}
 use Rattle.mac_resources.specs.Fork.{ForkIs, fork_of}
 use Rattle.mac_resources.specs.Resources.{ResourceIs, resource_with}
@@ -18,9 +20,10 @@ use Rattle.cfm_members.specs.declared.member.Locator.TheVariants as locator
 use Rattle.mac_report.specs.Sums.{up_to}
 use Rattle.mac_report.specs.declared.scene.Found.{Found}
 
--- the error of a file's header, and its forks, each with the error of its entry
+-- the error of a file's header, that of its rows of entries, and its forks, each with the error of its entry
 pub record WrappingIs : Type 0 where
   pub fault : Option ForkFault
+  pub cut : Option ForkFault
   pub data_fork : Option (Result Lying ForkFault)
   pub resource_fork : Option (Result Lying ForkFault)
 
@@ -30,9 +33,25 @@ wrapped_data (bare bytes) = None
 wrapped_data (mac_binary m) = data_fork_in (mac_binary m)
 wrapped_data (apple a) = data_fork_in (apple a)
 
+-- the error of an entry's row: it passes the end
+abbrev pub row_error : Option (Result AppleEntry ForkFault) → Option ForkFault
+row_error None = None
+row_error (Some (Ok entry)) = None
+row_error (Some (Err fault)) = Some fault
+
+abbrev pub row_error_at : AppleIs → ℕ → Option ForkFault
+row_error_at a i = row_error (entry_of a i)
+
+-- the error of the first row that passes the end. Those after it pass the end, too
+abbrev pub cut_in : MacFileIs → Option ForkFault
+cut_in (bare bytes) = None
+cut_in (mac_binary m) = None
+cut_in (apple a) = first_among (row_error_at a) 0 a.header.entry_count
+
 abbrev pub wrapping_in : List ℕ → Result MacFileIs ForkFault → WrappingIs
-wrapping_in bytes (Ok file) = record { fault = fault_in file; data_fork = wrapped_data file; resource_fork = resource_fork_of bytes file }
-wrapping_in bytes (Err fault) = record { fault = Some fault; data_fork = None; resource_fork = None }
+wrapping_in bytes (Ok file) =
+    record { fault = fault_in file; cut = cut_in file; data_fork = wrapped_data file; resource_fork = resource_fork_of bytes file }
+wrapping_in bytes (Err fault) = record { fault = Some fault; cut = None; data_fork = None; resource_fork = None }
 
 -- what a file is wrapped in
 unfoldable pub wrapping_of : List ℕ → WrappingIs

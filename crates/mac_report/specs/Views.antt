@@ -26,6 +26,7 @@ row_seen row.Skipped = skipped
 abbrev pub wrapping_seen : Wrapping → WrappingIs
 wrapping_seen w = record {
   fault = w.fault;
+  cut = w.cut;
   data_fork = option_map (result_map part_seen) w.data_fork;
   resource_fork = option_map (result_map part_seen) w.resource_fork;
 }

@@ -6,7 +6,7 @@ ghost use Rattle.mac_report.specs.declared.tally.Tally.{Tally as TallyIs};
 
 use crate::contents::Contents;
 use crate::file::{FileReport, Form};
-use crate::row::{cost, read_row};
+use crate::row::read_row;
 use crate::tally::Tally;
 use cfm_members::Containers;
 use pef_ports::{Page, Sink, StreamFault};
@@ -42,9 +42,9 @@ fn print_contents<W: Sink>(
 {
     let mut tally = Tally::new(contents.bytes);
     for place in Containers::new(contents.bytes) {
-        let row = read_row(alloc, contents, place, tally.budget);
+        let row = read_row(alloc, contents, place, tally);
         row.print(out, page, form, tally.containers == 0)?;
-        tally = tally.with_row(cost(contents.rest_from(place)), &row);
+        tally = tally.with_row(contents.rest_from(place), &row);
     }
     Ok(tally)
 }

@@ -40,6 +40,7 @@ pub(crate) fn find_faults(alloc: Global, bytes: &[u8]) -> Result<Vec<Found>, All
     let wrapping = Wrapping::of(bytes);
     let mut found = Vec::new(alloc);
     find_in_header(wrapping.fault, &mut found)?;
+    find_in_header(wrapping.cut, &mut found)?;
     find_in_entry(wrapping.data_fork, &mut found)?;
     find_in_entry(wrapping.resource_fork, &mut found)?;
     find_in_parts(
@@ -50,7 +51,7 @@ pub(crate) fn find_faults(alloc: Global, bytes: &[u8]) -> Result<Vec<Found>, All
     Ok(found)
 }
 
-/// Adds the error of a file's header.
+/// Adds the error of a file's header, or of its rows of entries.
 fn find_in_header(fault: Option<ForkFault>, found: &mut Vec<Found>) -> Result<(), AllocError>
     ensures { OnOk result (found.new.items ≡ found.old.items ++ header_faults fault) }
 {

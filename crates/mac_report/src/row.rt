@@ -2,17 +2,21 @@
 ghost use Rattle.std.specs.Prelude.{◌≡◌, ◌<◌, ◌^◌, ◌++◌, nat_lt};
 ghost use Rattle.pef_ports.specs.Sent.{Sends};
 ghost use Rattle.pef_report.specs.Views.{inspected};
-ghost use Rattle.mac_report.specs.Containers.{IsInspected, IsRow, cost, errors_in, inspected_object, inspected_text, lacking_line, lacking_object, lacking_text, notes_in, row_text, separator, skipped_in};
+ghost use Rattle.mac_report.specs.Containers.{IsInspected, IsRow, cost, errors_in, headers_cost, inspected_object, inspected_text, lacking_line, lacking_object, lacking_text, loader_length, notes_in, row_text, separator, skipped_in};
 ghost use Rattle.mac_report.specs.Views.{row_seen};
+ghost use Rattle.pef_views.specs.Partial.{partial_of};
 
 use crate::contents::Contents;
 use crate::file::Form;
+use crate::tally::Tally;
+use pef_inspect::Limits;
 use pef_ports::{Page, Sink, StreamFault, send};
 use pef_report::{Inspection, Token, print_tokens};
+use pef_views::PartialContainer;
 use pef_words::Cut;
 use std::alloc::{AllocError, Global};
 
-/// What an inspection takes from the budget of its file, besides the bytes of the container's headers.
+/// What an inspection takes from the budget of its file, besides the bytes of the container's headers and its loader section.
 const INSPECTION_COST: u64 = 0x1_0000;
 
 /// The lengths of a container's header and of a section's header, and where the first has the number of sections.
@@ -36,35 +40,40 @@ pub(crate) enum Row<'a> {
     Skipped,
 }
 
-/// Inspects the container at a place of a file, within what is left of the file's budget.
+/// Inspects the container at a place of a file, within what is left of the file's budget and its limits.
 pub(crate) fn read_row<'a>(
     alloc: Global,
     contents: Contents<'a>,
     place: usize,
-    budget: u64,
+    tally: Tally,
 ) -> Row<'a>
-    ensures { IsRow contents.entry.bytes.now budget place (row_seen result) }
+    ensures { IsRow contents.entry.bytes.now tally place (row_seen result) }
 {
     let rest = contents.rest_from(place);
-    if exceeds(cost(rest), budget) {
+    if exceeds(rest, tally.budget) {
         Row::Skipped
     } else {
-        inspect(alloc, rest, place as u64)
+        inspect(alloc, rest, place as u64, tally.limits)
     }
 }
 
-/// Returns whether a cost is more than what is left of the budget.
-fn exceeds(cost: u64, budget: u64) -> bool
-    ensures { result ≡ nat_lt budget cost }
+/// Returns whether the inspection of a container costs more than what is left of the budget. The sections of a container are
+/// looked at if there is enough for their headers.
+#[tactic(auto, unfolding(crate::specs::Containers::cost))]
+fn exceeds(rest: &[u8], budget: u64) -> bool
+    ensures { result ≡ nat_lt budget (cost rest.now) }
 {
-    cost > budget
+    if headers_cost(rest) > budget {
+        return true;
+    }
+    cost(rest) > budget
 }
 
 /// Inspects the container that begins some bytes, which are at an offset of the file.
-fn inspect<'a>(alloc: Global, rest: &'a [u8], at: u64) -> Row<'a>
-    ensures { IsInspected rest.entry.now at (row_seen result) }
+fn inspect<'a>(alloc: Global, rest: &'a [u8], at: u64, limits: Limits) -> Row<'a>
+    ensures { IsInspected limits rest.entry.now at (row_seen result) }
 {
-    match Inspection::read(alloc, at, rest) {
+    match Inspection::read_within(alloc, at, rest, limits) {
         Ok(inspection) => Row::Inspected(inspection),
         Err(AllocError) => Row::Lacking(at),
     }
@@ -73,11 +82,30 @@ fn inspect<'a>(alloc: Global, rest: &'a [u8], at: u64) -> Row<'a>
 /// Returns what the inspection of the container that begins some bytes takes from the budget.
 #[tactic(auto, unfolding(crate::specs::Containers::cost))]
 pub(crate) fn cost(rest: &[u8]) -> u64
-    ensures value { result ≡ cost rest.now }
+    ensures { result ≡ cost rest.now }
+{
+    headers_cost(rest) + loader_length(rest)
+}
+
+/// Returns what it takes for the headers.
+#[tactic(auto, unfolding(crate::specs::Containers::headers_cost))]
+fn headers_cost(rest: &[u8]) -> u64
+    ensures value { result ≡ headers_cost rest.now }
     ensures small { result < 2 ^ 32 }
 {
     let sections = Cut::new(rest).u16_at(SECTION_COUNT_AT).unwrap_or(0);
     INSPECTION_COST + CONTAINER_HEADER_SIZE + SECTION_HEADER_SIZE * u64::from(sections)
+}
+
+/// Returns the length of the loader section of the container that begins some bytes, as far as it is there.
+fn loader_length(rest: &[u8]) -> u64
+    ensures value { result ≡ loader_length (partial_of rest.now) }
+    ensures small { result < 2 ^ 63 }
+{
+    match PartialContainer::read(rest) {
+        Ok(container) => container.loader_bytes().len() as u64,
+        Err(_) => 0,
+    }
 }
 
 impl<'a> Row<'a> {

@@ -1,8 +1,9 @@
-ghost use Rattle.std.specs.Prelude.{◌≡◌, ◌<◌, ◌^◌, length};
-ghost use Rattle.mac_report.specs.Containers.{fresh_tally, tallied, total};
+ghost use Rattle.std.specs.Prelude.{◌≡◌, length};
+ghost use Rattle.mac_report.specs.Containers.{budget_after, file_limits, fresh_tally, limits_after, tallied, total};
 ghost use Rattle.mac_report.specs.Views.{row_seen};
 
-use crate::row::Row;
+use crate::row::{Row, cost};
+use pef_inspect::{Limits, MAX_PACKED_BYTES, MAX_PROGRAM_BYTES, MAX_STEPS, MAX_WORDS, left_after};
 use pef_report::Counts;
 
 /// The budget of a file, besides its own length.
@@ -13,6 +14,8 @@ const BUDGET: u64 = 0x0400_0000;
 pub(crate) struct Tally {
     /// What is left of the file's budget.
     pub budget: u64,
+    /// What may still be spent to verify containers.
+    pub limits: Limits,
     pub containers: u64,
     pub errors: u64,
     pub notes: u64,
@@ -27,6 +30,7 @@ impl Tally {
     {
         Tally {
             budget: BUDGET + bytes.len() as u64,
+            limits: file_limits(bytes),
             containers: 0,
             errors: 0,
             notes: 0,
@@ -34,12 +38,13 @@ impl Tally {
         }
     }
 
-    /// Returns the tally after one more container, whose inspection costs this much.
-    pub(crate) fn with_row(self, cost: u64, row: &Row<'_>) -> Tally
-        ensures { result ≡ tallied self cost (row_seen row.now) }
+    /// Returns the tally after one more container, which begins some bytes.
+    pub(crate) fn with_row(self, rest: &[u8], row: &Row<'_>) -> Tally
+        ensures { result ≡ tallied self rest.now (row_seen row.now) }
     {
         Tally {
-            budget: self.budget.saturating_sub(cost),
+            budget: budget_after(self.budget, rest, row),
+            limits: limits_after(self.limits, rest, row),
             containers: self.containers.saturating_add(1),
             errors: self.errors.saturating_add(row.error_count()),
             notes: self.notes.saturating_add(row.note_count()),
@@ -57,5 +62,39 @@ impl Tally {
             errors: self.errors.saturating_add(errors),
             notes: self.notes.saturating_add(u64::from(self.skipped > 0)),
         }
+    }
+}
+
+/// Returns the limits of a file. With its length they are enough for each file whose containers share no bytes and repeat
+/// little.
+fn file_limits(bytes: &[u8]) -> Limits
+    ensures { result ≡ file_limits (length bytes.now) }
+{
+    let len = bytes.len() as u64;
+    Limits {
+        program_bytes: MAX_PROGRAM_BYTES + len,
+        steps: MAX_STEPS + len,
+        packed_bytes: MAX_PACKED_BYTES + len,
+        words: MAX_WORDS + len,
+    }
+}
+
+/// Returns what is left of the budget after a container.
+fn budget_after(budget: u64, rest: &[u8], row: &Row<'_>) -> u64
+    ensures { result ≡ budget_after budget rest.now (row_seen row.now) }
+{
+    match row {
+        Row::Inspected(_) | Row::Lacking(_) => budget.saturating_sub(cost(rest)),
+        Row::Skipped => 0,
+    }
+}
+
+/// Returns what is left of the limits after a container.
+fn limits_after(limits: Limits, rest: &[u8], row: &Row<'_>) -> Limits
+    ensures { result ≡ limits_after limits rest.now (row_seen row.now) }
+{
+    match row {
+        Row::Inspected(_) | Row::Lacking(_) => left_after(limits, rest),
+        Row::Skipped => limits,
     }
 }

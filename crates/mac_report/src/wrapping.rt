@@ -1,21 +1,23 @@
 //! What a file is wrapped in, and its forks.
 ghost use Rattle.std.specs.Prelude.{◌≡◌};
 ghost use Rattle.std.specs.Prelude.{option_map};
-ghost use Rattle.pef_words.specs.Refusals.{result_map};
-ghost use Rattle.mac_forks.specs.Views.{mac_file_seen, part_seen};
+ghost use Rattle.pef_words.specs.Refusals.{first_among, result_map};
+ghost use Rattle.mac_forks.specs.Views.{apple_seen, mac_file_seen, part_seen};
 ghost use Rattle.mac_resources.specs.Views.{fork_seen};
-ghost use Rattle.mac_report.specs.MacParts.{readable, resources_in, wrapped_data, wrapping_of};
+ghost use Rattle.mac_report.specs.MacParts.{cut_in, readable, resources_in, row_error_at, wrapped_data, wrapping_of};
 ghost use Rattle.mac_report.specs.Views.{wrapping_seen};
 
 use crate::forks::ForkPair;
 use cfm_members::Forks;
-use mac_forks::{ForkFault, MacFile, Part};
+use mac_forks::{AppleFile, ForkFault, MacFile, Part};
 use mac_resources::{ResourceFault, ResourceFork};
 
 /// What a file is wrapped in: the error of its header, and its forks, each with the error of its entry.
 #[derive(Clone, Copy)]
 pub(crate) struct Wrapping<'a> {
     pub fault: Option<ForkFault>,
+    /// The error of the first row of an entry that passes the end.
+    pub cut: Option<ForkFault>,
     pub data_fork: Option<Result<Part<'a>, ForkFault>>,
     pub resource_fork: Option<Result<Part<'a>, ForkFault>>,
 }
@@ -29,11 +31,13 @@ impl<'a> Wrapping<'a> {
         match MacFile::read(bytes) {
             Ok(file) => Wrapping {
                 fault: file.fault(),
+                cut: cut_in(&file),
                 data_fork: wrapped_data(&file),
                 resource_fork: Forks::of(bytes, &file).resource_fork,
             },
             Err(fault) => Wrapping {
                 fault: Some(fault),
+                cut: None,
                 data_fork: None,
                 resource_fork: None,
             },
@@ -61,6 +65,39 @@ fn wrapped_data<'a>(file: &MacFile<'a>) -> Option<Result<Part<'a>, ForkFault>>
     match file {
         MacFile::Bare(_) => None,
         MacFile::MacBinary(_) | MacFile::Apple(_) => file.data_fork(),
+    }
+}
+
+/// Returns the error of the first row of an entry that passes the end.
+fn cut_in(file: &MacFile<'_>) -> Option<ForkFault>
+    ensures { result ≡ cut_in (mac_file_seen file.now) }
+{
+    match file {
+        MacFile::Bare(_) | MacFile::MacBinary(_) => None,
+        MacFile::Apple(file) => first_row_error(file),
+    }
+}
+
+/// Returns the error of the first row that passes the end of a file in AppleSingle or AppleDouble.
+fn first_row_error(file: &AppleFile<'_>) -> Option<ForkFault>
+    ensures { result ≡ first_among (row_error_at (apple_seen file.now)) 0 (apple_seen file.now).header.entry_count }
+{
+    for i in 0..file.header().entry_count {
+        match row_error_at(file, i) {
+            Some(fault) => return Some(fault),
+            None => {}
+        }
+    }
+    None
+}
+
+/// Returns the error of the row of entry `i`.
+fn row_error_at(file: &AppleFile<'_>, i: u16) -> Option<ForkFault>
+    ensures { result ≡ row_error_at (apple_seen file.now) i }
+{
+    match file.entry(i) {
+        Some(Err(fault)) => Some(fault),
+        Some(Ok(_)) | None => None,
     }
 }
 

@@ -3,7 +3,7 @@ use Rattle.std.proofs.Common.{◌==◌, ◌∙◌, ap, refl}
 use Rattle.cfm_members.specs.Search.{containers_in}
 use Rattle.cfm_members.specs.Views.{places_left}
 use Rattle.pef_ports.proofs.Laws.Sending.{Sends-short}
-use Rattle.mac_report.specs.Containers.{Steps, cost, rest_from, row_text, tallied}
+use Rattle.mac_report.specs.Containers.{Steps, rest_from, row_text, tallied}
 use Rattle.mac_report.specs.Views.{row_seen}
 use Rattle.mac_report.proofs.ContainerLemmas.{no_value, walked-all, walked-more, walked-nothing, walked-short}
 use Rattle.mac_report.proofs.containers.print_contents.Goals as goal
@@ -21,7 +21,7 @@ returns-in_err-print g c =
     let bytes = c.args.contents.bytes.now in
     let row = row_seen c.read_row-row.result in
     let here = row_text form (at.tally.containers == 0) row in
-    let next = tallied at.tally (cost (rest_from bytes c.in-Some.place)) row in
+    let next = tallied at.tally (rest_from bytes c.in-Some.place) row in
     let steps : Steps form bytes at.tally c.in-Some.place here next = record { row = row; is = c.read_row-row.ensures; printed = refl; counted = refl } in
     let w = walked-short c.in-Some.place (places_left c.next.new.self) here next at.invariant c.in-Some.ensures.steps steps c.in_err-print.ensures in
     (w.0, w.1, w.2, Sends-short _ c.from_residual.result _ c.from_residual.ensures.1 w.3, no_value _ _ c.from_residual.result c.from_residual.ensures.1)
@@ -33,9 +33,9 @@ loop-place-preserved-in_ok-print g c =
     let bytes = c.args.contents.bytes.now in
     let row = row_seen c.read_row-row.result in
     let here = row_text form (at.tally.containers == 0) row in
-    let next = tallied at.tally (cost (rest_from bytes c.in-Some.place)) row in
+    let next = tallied at.tally (rest_from bytes c.in-Some.place) row in
     let steps : Steps form bytes at.tally c.in-Some.place here next = record { row = row; is = c.read_row-row.ensures; printed = refl; counted = refl } in
-    let counted = c.with_row-tally.ensures ∙ ap (λ n. tallied at.tally n row) (c.cost.ensures.value ∙ ap cost c.rest_from.ensures) in
+    let counted = c.with_row-tally.ensures ∙ ap (λ rest. tallied at.tally rest row) c.rest_from.ensures in
     rw counted (walked-more c.in-Some.place (places_left c.next.new.self) here next at.invariant c.in-Some.ensures.steps steps c.in_ok-print.ensures)
 
 pub loop-place-preserved : goal.loop-place-preserved
@@ -45,9 +45,9 @@ loop-place-preserved g c =
     let bytes = c.args.contents.bytes.now in
     let row = row_seen c.read_row-row.result in
     let here = row_text form (at.tally.containers == 0) row in
-    let next = tallied at.tally (cost (rest_from bytes c.in-Some.place)) row in
+    let next = tallied at.tally (rest_from bytes c.in-Some.place) row in
     let steps : Steps form bytes at.tally c.in-Some.place here next = record { row = row; is = c.read_row-row.ensures; printed = refl; counted = refl } in
-    let counted = c.with_row-tally.ensures ∙ ap (λ n. tallied at.tally n row) (c.cost.ensures.value ∙ ap cost c.rest_from.ensures) in
+    let counted = c.with_row-tally.ensures ∙ ap (λ rest. tallied at.tally rest row) c.rest_from.ensures in
     rw counted (walked-more c.in-Some.place (places_left c.next.new.self) here next at.invariant c.in-Some.ensures.steps steps c.in_ok-print.ensures)
 
 pub returns : goal.returns

@@ -10,11 +10,13 @@ unfolding faults_of
 returns c =
     let w = wrapping_seen c.of-wrapping.result in
     let a = header_faults w.fault in
+    let rows = header_faults w.cut in
     let b = entry_faults w.data_fork in
     let d = entry_faults w.resource_fork in
     let parts = ap₂ parts_faults c.readable.ensures c.readable-2.ensures in
     let first = c.in_ok-find_in_header.ensures ∙ ap (λ (xs : List Found). xs ++ a) c.new-found.ensures.items in
-    let second = c.in_ok-find_in_entry.ensures ∙ ap (λ (xs : List Found). xs ++ b) first in
+    let cut = c.in_ok-find_in_header-2.ensures ∙ ap (λ (xs : List Found). xs ++ rows) first in
+    let second = c.in_ok-find_in_entry.ensures ∙ ap (λ (xs : List Found). xs ++ b) cut in
     let third = c.in_ok-find_in_entry-2.ensures ∙ ap (λ (xs : List Found). xs ++ d) second in
     c.in_ok-find_in_parts.ensures ∙ ap₂ (λ (xs ys : List Found). xs ++ ys) third parts
-    ∙ append_assoc (a ++ b) d _ ∙ append_assoc a b _ ∙ ap wrapping_faults c.of-wrapping.ensures
+    ∙ append_assoc ((a ++ rows) ++ b) d _ ∙ append_assoc (a ++ rows) b _ ∙ append_assoc a rows _ ∙ ap wrapping_faults c.of-wrapping.ensures
