@@ -17,6 +17,7 @@ pub mod Laws
 mod LeadLemmas
 mod LoopLemmas
 mod MetLemmas
+mod NameLemmas
 mod NoteLemmas
 mod NumberLemmas
 mod OrderFacts

@@ -3,9 +3,11 @@ pub mod Bindings
 pub mod Caches
 pub mod Entries
 pub mod Found
+pub mod FoundNames
 pub mod Hops
 pub mod Imports
 pub mod Lending
+pub mod Names
 pub mod Numbers
 pub mod Paths
 pub mod Places

@@ -6,9 +6,11 @@ ghost use Rattle.cfm_closure.specs.Fragments.{part_place};
 ghost use Rattle.cfm_closure.specs.Views.{fragment_seen};
 ghost use Rattle.cfm_closure.specs.Targets.{hop, hop_to};
 ghost use Rattle.cfm_closure.specs.Kept.Hops.{HasHop, LeadsTo, StaysInside, StaysBelow};
+ghost use Rattle.cfm_closure.specs.Kept.Names.{AreNamesOf};
 ghost use Rattle.cfm_closure.specs.Kept.Symbols.{AreSymbolsOf};
 
 use crate::bindings::Bindings;
+use crate::export_names::ExportNames;
 use crate::fault::BindFault;
 use crate::fragment::FragmentView;
 use crate::symbols::Symbols;
@@ -55,12 +57,15 @@ fn export_hop(fragment: usize, loader: &Loader<'_>, e: usize) -> Hop
 pub(crate) fn import_hop<'a>(
     bindings: &Bindings<'a>,
     symbols: &mut Symbols<'a>,
+    names: &mut ExportNames<'a>,
     p: usize,
     j: usize,
 ) -> Result<Hop, BindFault<'a>>
     requires place { Contains bindings.now.order p }
     requires symbols { AreSymbolsOf bindings.now.pairs bindings.now.order symbols.old }
+    requires names { AreNamesOf bindings.now.pairs bindings.now.order names.old }
     ensures symbols { AreSymbolsOf bindings.now.pairs bindings.now.order symbols.new }
+    ensures names { AreNamesOf bindings.now.pairs bindings.now.order names.new }
     ensures answer { LeadsTo result (hop bindings.now.pairs p j) }
     ensures inside { IfOk result (λ h. StaysInside bindings.now.pairs bindings.now.order h) }
 {
@@ -73,7 +78,8 @@ pub(crate) fn import_hop<'a>(
         None => return Ok(Hop::Ends(Found::missing())),
     };
     let library = bindings.fragment(q);
-    match library.loader.export_named(symbol.name) {
+    let export = names.find(bindings, q, symbol.name)?;
+    match export {
         Some(e) => Ok(export_hop(q, &library.loader, e)),
         None => missing(bindings.fragment(p), library.name, symbol, j),
     }

@@ -11,6 +11,7 @@ ghost use Rattle.cfm_closure.specs.Kept.Resolvers.{IsResolver};
 ghost use Rattle.cfm_closure.specs.Kept.Targets.{AreKnown, AreResolved, IsKnown, IsOnWay, IsResolved, Keeps, Passes, led_to};
 
 use crate::bindings::Bindings;
+use crate::export_names::ExportNames;
 use crate::fault::BindFault;
 use crate::hops::{Hop, import_hop};
 use crate::symbols::Symbols;
@@ -24,6 +25,7 @@ pub(crate) struct Resolver<'a> {
     /// How many exports the fragments have. An import that takes more hops is endless.
     exports: usize,
     symbols: Symbols<'a>,
+    names: ExportNames<'a>,
 }
 
 /// Returns how many exports the fragments of the closure have.
@@ -72,10 +74,12 @@ impl<'a> Resolver<'a> {
         ensures { IfOk result (λ resolver. IsResolver bindings.now.pairs bindings.now.order resolver) }
     {
         let symbols = Symbols::new(alloc, bindings)?;
+        let names = ExportNames::new(alloc, bindings)?;
         Ok(Resolver {
             alloc,
             exports: exports(bindings),
             symbols,
+            names,
         })
     }
 
@@ -101,7 +105,7 @@ impl<'a> Resolver<'a> {
             if let Some(found) = bindings.target(at.0, at.1) {
                 return Ok(found);
             }
-            match import_hop(bindings, &mut self.symbols, at.0, at.1)? {
+            match import_hop(bindings, &mut self.symbols, &mut self.names, at.0, at.1)? {
                 Hop::Ends(found) => return Ok(found),
                 Hop::Through { fragment, import } => at = (fragment, import),
             }

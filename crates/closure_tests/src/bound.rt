@@ -272,6 +272,26 @@ const CHAINS: &[(&[Fragment], &str)] = &[
     ),
 ];
 
+/// Names that several fragments ask for, of two libraries that both have the first.
+const OFTEN: &[(&[Fragment], &str)] = &[(
+    &[
+        (
+            "A",
+            "library B 0 0 -\nlibrary C 0 0 -\nlibrary L 1 0 -\nimport v data strong\nimport w data weak\n",
+            &[],
+        ),
+        (
+            "B",
+            "library L 1 0 -\nimport v data strong\nimport w data weak\n",
+            &[],
+        ),
+        ("C", "library K 0 0 -\nimport v data strong\n", &[]),
+        ("L", LIBRARY, &[]),
+        ("K", "section k data process 4 8\nexport v data k 4\n", &[]),
+    ],
+    "order 3 1 4 2 0, init 3 1 4 2 0, 1.0 at 3 0 0, 1.1 none, 2.0 at 4 0 4, 0.0 at 3 0 0, 0.1 none",
+)];
+
 /// Tests the text of the closures of some fragments.
 fn test_reported(rt: &impl Abort, alloc: Global, rows: &[(&[Fragment], &str)]) {
     for row in rows {
@@ -303,6 +323,11 @@ fn targets(rt: HostRuntime) {
 #[test]
 fn chains(rt: HostRuntime) {
     test_reported(&rt, rt.alloc(), CHAINS);
+}
+
+#[test]
+fn often(rt: HostRuntime) {
+    test_reported(&rt, rt.alloc(), OFTEN);
 }
 
 /// Tests the text of the closure of fragments with these names and bytes.

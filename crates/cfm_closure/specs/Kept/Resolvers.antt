@@ -3,6 +3,7 @@ use Rattle.std.specs.Prelude.{◌≡◌, ℕ, ◌≤◌, ◌^◌, List}
 use Rattle.cfm_closure.specs.Stores.{Pair}
 use Rattle.cfm_closure.specs.declared.resolve.Resolver.{Resolver}
 use Rattle.cfm_closure.specs.Targets.{exports_among}
+use Rattle.cfm_closure.specs.Kept.Names.{AreNamesOf}
 use Rattle.cfm_closure.specs.Kept.Symbols.{AreSymbolsOf}
 
 -- it is one for a closure order
@@ -10,3 +11,4 @@ pub record IsResolver (pairs : List Pair) (order : List ℕ) (r : Resolver) : Ty
   pub exports : r.exports ≡ exports_among pairs order
   pub few : r.exports ≤ 2 ^ 40
   pub symbols : AreSymbolsOf pairs order r.symbols
+  pub names : AreNamesOf pairs order r.names

@@ -1,20 +1,22 @@
 -- A missing symbol is reported by its fragment, library and name.
-use Rattle.std.proofs.Common.{subst, sym}
+use Rattle.std.proofs.Common.{◌∙◌, subst, sym}
 use Rattle.pef_format.specs.Symbols.{import_seen}
 use Rattle.cfm_closure.specs.Views.{fragment_seen}
 use Rattle.cfm_closure.specs.Kept.Hops.{LeadsTo}
-use Rattle.cfm_closure.proofs.HopFacts.{hop-missing, import_at-below}
+use Rattle.cfm_closure.proofs.HopFacts.{hop-missing, import_at-below, loader_at-is}
 use Rattle.cfm_closure.proofs.hops.import_hop.Goals as goal
 
-pub returns-in-None-export_named-clause-answer : goal.returns-in-None-export_named-clause-answer
-returns-in-None-export_named-clause-answer c =
+pub returns-in-None-export-clause-answer : goal.returns-in-None-export-clause-answer
+returns-in-None-export-clause-answer c =
     let at = rw c.in-Some.is at c.in_ok-symbol.ensures.value in
-    subst (LeadsTo c.missing-in-None-export_named.result)
-    (sym (hop-missing c.args.bindings.now.pairs c.args.p c.args.j c.in-Some-library.q (fragment_seen c.fragment.result.now) (fragment_seen c.fragment-library.result.now) (import_seen c.in-Some.symbol)
-    c.fragment.ensures (sym at) c.in-Some-library.ensures.bound c.fragment-library.ensures (sym c.in-None-export_named.ensures.value)))
-    c.missing-in-None-export_named.ensures
+    let library = fragment_seen c.fragment-library.result.now in
+    let found = c.in_ok-export.ensures.value library.loader (loader_at-is c.args.bindings.now.pairs c.in-Some-library.q library c.fragment-library.ensures) in
+    subst (LeadsTo c.missing-in-None-export.result)
+    (sym (hop-missing c.args.bindings.now.pairs c.args.p c.args.j c.in-Some-library.q (fragment_seen c.fragment.result.now) library (import_seen c.in-Some.symbol)
+    c.fragment.ensures (sym at) c.in-Some-library.ensures.bound c.fragment-library.ensures (sym found ∙ c.in-None-export.is)))
+    c.missing-in-None-export.ensures
 
-pub missing-requires-in-None-export_named : goal.missing-requires-in-None-export_named
-missing-requires-in-None-export_named c =
+pub missing-requires-in-None-export : goal.missing-requires-in-None-export
+missing-requires-in-None-export c =
     let at = rw c.in-Some.is at c.in_ok-symbol.ensures.value in
     import_at-below c.args.bindings.now.pairs c.args.p c.args.j (fragment_seen c.fragment.result.now) (import_seen c.in-Some.symbol) c.fragment.ensures (sym at)

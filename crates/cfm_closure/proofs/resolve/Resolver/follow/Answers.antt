@@ -55,7 +55,7 @@ loop-hop-preserved c =
     let P = IsOnWay pairs order end in
     let here = on_way-more pairs order end at.0 at.1 q is.0 k c.loop-hop.invariant.at is.1 inside.0 inside.1 in
     record {
-      resolver = record { exports = c.loop-hop.invariant.resolver.exports; few = c.loop-hop.invariant.resolver.few; symbols = c.in_ok-found.ensures.symbols };
+      resolver = record { exports = c.loop-hop.invariant.resolver.exports; few = c.loop-hop.invariant.resolver.few; symbols = c.in_ok-found.ensures.symbols; names = c.in_ok-found.ensures.names };
       at = here;
       way = subst (AllByRecursion P) (sym c.in_ok-push.ensures.items) (all-append P c.loop-hop.way.items ((q, k) ∷ []) c.loop-hop.invariant.way (here, tt));
       far = hops-more pairs c.loop-hop._hop (c.args.p, c.args.j) at.0 at.1 q is.0 k c.loop-hop.invariant.far is.1;

@@ -1,0 +1,147 @@
+ghost use Rattle.std.specs.Prelude.{◌≡◌, ◌<◌, IfOk, IfSome, Some, true};
+ghost use Rattle.pef_format.specs.Exports.{Export};
+ghost use Rattle.pef_loader.specs.Loader.{export_of, named_of};
+ghost use Rattle.pef_loader.specs.Views.{loaded};
+
+use byteorder::{ByteOrder, LittleEndian};
+use pef_loader::Loader;
+use std::alloc::{AllocError, Global};
+use std::marker::Model;
+
+/// How many bytes of a name are mixed in one step.
+const WORD: usize = 8;
+
+/// An odd number whose bits are spread evenly.
+const MIXER: u64 = 0x9E37_79B9_7F4A_7C15;
+
+/// How many slots are looked at for one name.
+const PROBES: usize = 8;
+
+/// An export that was found by its name. `mixed` is the name's number. The name itself is in the loader section, beside
+/// those of other exports.
+#[derive(Clone, Copy)]
+pub(crate) struct FoundName {
+    mixed: u32,
+    export: u32,
+}
+
+/// The exports of a loader section by their names. Those that were found are kept, so that they are found faster again.
+#[derive(Drop)]
+pub(crate) struct FoundNames<'a> {
+    loader: Loader<'a>,
+    /// None, or a power of two. A name is in one of the slots from that of its number on, or in none.
+    slots: Vec<Option<FoundName>>,
+}
+
+impl<'a> Model for FoundNames<'a> {
+    ghost use Rattle.pef_loader.specs.Loader.{Loaded};
+    ghost use Rattle.pef_loader.specs.Views.{loaded};
+    ghost use Rattle.cfm_closure.specs.Kept.FoundNames.{AreFound};
+
+    ghost Value = { Loaded };
+
+    ghost view = { λ s. loaded s.loader };
+
+    ghost invariant = { λ s. AreFound (loaded s.loader) s.slots.items };
+}
+
+impl<'a> FoundNames<'a> {
+    /// Returns the exports of a loader section. Of those that are found, at most `slots` will be kept: none, or a power of
+    /// two.
+    pub fn new(
+        alloc: Global,
+        loader: Loader<'a>,
+        slots: usize,
+    ) -> Result<FoundNames<'a>, AllocError>
+        ensures { IfOk result (λ names. names ≡ loaded loader.entry) }
+    {
+        let slots = vec![in alloc; None; slots]?;
+        Ok(FoundNames { loader, slots })
+    }
+
+    /// Returns the first export with a name.
+    pub fn find(&mut self, name: &[u8]) -> Option<usize>
+        ensures value { result ≡ named_of self.old name.now }
+        ensures below { IfSome result (λ e. e < self.old.header.export_count) }
+        ensures same { self.new ≡ self.old }
+    {
+        if self.slots.is_empty() {
+            return self.loader.export_named(name);
+        }
+        let mixed = mixed(name);
+        let at = place(&self.slots, mixed);
+        if let Some(export) = self.kept(at, name) {
+            return Some(export);
+        }
+        let export = self.loader.export_named(name)?;
+        let count = self.loader.exports();
+        if at < self.slots.len() && export < count {
+            self.slots[at] = Some(FoundName {
+                mixed,
+                export: export as u32,
+            });
+        }
+        Some(export)
+    }
+
+    /// Returns the export in a slot, if it has this name.
+    fn kept(&self, at: usize, name: &[u8]) -> Option<usize>
+        ensures value { IfSome result (λ e. named_of self.now name.now ≡ Some e) }
+        ensures below { IfSome result (λ e. e < self.now.header.export_count) }
+    {
+        if let Some(Some(found)) = self.slots.get(at) {
+            if is_named(&self.loader, found.export as usize, name) {
+                return Some(found.export as usize);
+            }
+        }
+        None
+    }
+}
+
+/// Returns whether an export has a name.
+fn is_named(loader: &Loader<'_>, e: usize, name: &[u8]) -> bool
+    ensures { result ≡ true → (x : Export) × (export_of (loaded loader.now) e ≡ Some x) × (x.name ≡ name.now) }
+{
+    match loader.export(e) {
+        Some(export) => export.name == name,
+        None => false,
+    }
+}
+
+/// Returns the first slot from that of a name's number on which is free, or whose name has this number. If there is none
+/// near, it is the first slot, where the name takes another's place.
+fn place(slots: &[Option<FoundName>], mixed: u32) -> usize {
+    let last = slots.len().saturating_sub(1);
+    for probe in 0..PROBES {
+        let at = (mixed as usize + probe) & last;
+        match slots.get(at) {
+            Some(Some(found)) if found.mixed != mixed => {}
+            _ => return at,
+        }
+    }
+    mixed as usize & last
+}
+
+/// Returns a number for a name. Other names mostly have others. The format's hash words are the same for many names of
+/// one library.
+fn mixed(name: &[u8]) -> u32 {
+    let mut mixed = name.len() as u64;
+    for word in name.chunks_exact(WORD) {
+        mixed = mix(mixed, LittleEndian::read_u64(word));
+    }
+    match name.len().checked_sub(WORD) {
+        Some(at) => mixed = mix(mixed, LittleEndian::read_u64(&name[at..])),
+        None => {
+            for byte in name {
+                mixed = mix(mixed, u64::from(*byte));
+            }
+        }
+    }
+    (mixed >> 32) as u32
+}
+
+/// Returns a number after one more word.
+fn mix(mixed: u64, word: u64) -> u64 {
+    let product = (mixed ^ word).wrapping_mul(MIXER);
+    product ^ (product >> 29)
+}
