@@ -1,5 +1,6 @@
 -- New fragments, from their placing to the end of their preparation or its first refusal.
 use Rattle.std.proofs.Common.{◌≡◌, ℕ, zero, suc, ◌<◌, Bool, true, false, List, [], ◌∷◌, ◌++◌, None, Some, Result, Ok, Err, All, Contains, OnOk, IfErr, length, get_or, cond, refl, sym, ap, subst, ◌∙◌, arith}
+use Rattle.cfm_memory.specs.Extents.{zeros_at}
 use Rattle.cfm_memory.specs.Instances.{Layout}
 use Rattle.cfm_closure.specs.Stores.{Pair}
 use Rattle.cfm_prepare.specs.Addresses.{first_bad_program, section_of}
@@ -7,12 +8,12 @@ use Rattle.cfm_prepare.specs.Lists.{has}
 use Rattle.cfm_prepare.specs.Fragments.{Present, StandAll, all_given_back, first_bad_image, is_present, new_among}
 use Rattle.cfm_prepare.specs.Placing.{AreNew, ArePrepared}
 use Rattle.cfm_prepare.specs.Refusals.{MayNotPrepareNew}
-use Rattle.cfm_prepare.specs.Kept.Ready.{AllHeld, AreReady, FillsUpTo, HaveBegun, HavePlaced, RelocatesUpTo}
+use Rattle.cfm_prepare.specs.Kept.Ready.{AllHeld, AreAbsent, AreLaidOut, AreReady, ChangesIn, FillsUpTo, HaveBegun, HavePlaced, RelocatesUpTo, found_in}
 use Rattle.cfm_prepare.specs.declared.fragment_fault.FragmentFault.{FragmentFault}
 use Rattle.cfm_prepare.specs.declared.fragment_fault.FragmentFault.TheVariants as fault
-use Rattle.cfm_prepare.proofs.FoundLemmas.{present-has}
+use Rattle.cfm_prepare.proofs.FoundLemmas.{found-fresh, present-has}
 use Rattle.cfm_prepare.proofs.ListLemmas.{contains-next}
-use Rattle.cfm_prepare.proofs.PlacedLemmas.{placed-back}
+use Rattle.cfm_prepare.proofs.PlacedLemmas.{placed-apart, placed-back, placed-fit, placed-held, placed-own, placed-zeros}
 use Rattle.cfm_prepare.proofs.ReadyLemmas.{held-rejoined, ready-after}
 
 -- the fragments that were placed can be released
@@ -25,61 +26,89 @@ begun-of pairs m there now ps new after ready inside have = record {
   ready = subst (λ fs. AreReady after fs) (sym have.behind) (ready-after pairs m there have.fresh after ready have.placed);
 }
 
-pub begun-after : (pairs : List Pair) (m : Layout) (there now : List Present) (ps : List ℕ) (mid after : Layout) (have : HavePlaced pairs m there ps now mid) → AreReady m there
-    → AllHeld after have.fresh → all_given_back after have.fresh ≡ all_given_back mid have.fresh → HaveBegun m there ps now after
-begun-after pairs m there now ps mid after have ready held same = record {
-  fresh = have.fresh;
-  behind = have.behind;
-  are = λ p there. ap (λ qs. has qs p) (sym have.are) ∙ (sym (present-has have.fresh p) ∙ there);
-  others = same ∙ placed-back pairs m have.fresh mid have.placed;
-  ready = subst (λ fs. AreReady after fs) (sym have.behind) (held-rejoined mid after there have.fresh (ready-after pairs m there have.fresh mid ready have.placed) held same);
-}
+-- new fragments that were placed, as they are found among all, can be filled and relocated
+pub found-laid : (pairs : List Pair) (m mid : Layout) (there now : List Present) (ps : List ℕ) → AreAbsent there ps → HavePlaced pairs m there ps now mid → AreLaidOut pairs (found_in now ps)
+found-laid pairs m mid there now ps absent have =
+    let laid : AreLaidOut pairs have.fresh = record {
+      each = λ i under. record { fits = placed-fit pairs m have.fresh mid have.placed i under; own = placed-own pairs m have.fresh mid have.placed i under };
+      apart = placed-apart pairs m have.fresh mid have.placed;
+    } in
+    subst (λ (fs : List Present). AreLaidOut pairs fs) (sym (found-fresh pairs m mid there now ps absent have)) laid
+
+pub found-zeros : (pairs : List Pair) (m mid : Layout) (there now : List Present) (ps : List ℕ) → AreAbsent there ps → HavePlaced pairs m there ps now mid → StandAll mid (found_in now ps) (λ (f : Present). zeros_at f.places)
+found-zeros pairs m mid there now ps absent have =
+    subst (λ (fs : List Present). StandAll mid fs (λ (f : Present). zeros_at f.places)) (sym (found-fresh pairs m mid there now ps absent have)) (placed-zeros pairs m have.fresh mid have.placed)
+
+pub found-held : (pairs : List Pair) (m mid : Layout) (there now : List Present) (ps : List ℕ) → AreAbsent there ps → HavePlaced pairs m there ps now mid → AllHeld mid (found_in now ps)
+found-held pairs m mid there now ps absent have =
+    subst (λ (fs : List Present). AllHeld mid fs) (sym (found-fresh pairs m mid there now ps absent have)) (placed-held pairs m have.fresh mid have.placed)
+
+-- a change after another one
+pub changes-then : (m mid after : Layout) (fs : List Present) → ChangesIn m fs mid → ChangesIn mid fs after → ChangesIn m fs after
+changes-then m mid after fs first second = record { others = second.others ∙ first.others; held = λ was. second.held (first.held was) }
+
+-- when they have changed they can still be released
+pub begun-after : (pairs : List Pair) (m : Layout) (there now : List Present) (ps : List ℕ) (mid after : Layout) → AreAbsent there ps → HavePlaced pairs m there ps now mid → AreReady m there → ChangesIn mid (found_in now ps) after → HaveBegun m there ps now after
+begun-after pairs m there now ps mid after absent have ready changes =
+    let fresh = subst (λ (fs : List Present). ChangesIn mid fs after) (found-fresh pairs m mid there now ps absent have) changes in
+    let held = fresh.held (placed-held pairs m have.fresh mid have.placed) in
+    record {
+      fresh = have.fresh;
+      behind = have.behind;
+      are = λ p there. ap (λ qs. has qs p) (sym have.are) ∙ (sym (present-has have.fresh p) ∙ there);
+      others = fresh.others ∙ placed-back pairs m have.fresh mid have.placed;
+      ready = subst (λ fs. AreReady after fs) (sym have.behind) (held-rejoined mid after there have.fresh (ready-after pairs m there have.fresh mid ready have.placed) held fresh.others);
+    }
 
 new-of : (pairs : List Pair) (m : Layout) (there now : List Present) (ps : List ℕ) (mid : Layout) (have : HavePlaced pairs m there ps now mid) → AreNew pairs m ps have.fresh
 new-of pairs m there now ps mid have = record { are = have.are; empty = mid; placed = have.placed }
 
 -- all steps succeeded, or one was refused
-pub prepared-after : {A : Type 0} (r : Result A FragmentFault) (pairs : List Pair) (m : Layout) (there now : List Present) (ps : List ℕ) (mid after : Layout) (all : List Present) (have : HavePlaced pairs m there ps now mid)
-    → all ≡ now → first_bad_image pairs have.fresh ≡ None → all_given_back after have.fresh ≡ all_given_back mid have.fresh
-    → RelocatesUpTo r (first_bad_program pairs all have.fresh) → OnOk r (StandAll after have.fresh (section_of pairs all))
+pub prepared-after : {A : Type 0} (r : Result A FragmentFault) (pairs : List Pair) (m : Layout) (there now : List Present) (ps : List ℕ) (mid after : Layout) → AreAbsent there ps → HavePlaced pairs m there ps now mid
+    → first_bad_image pairs (found_in now ps) ≡ None → ChangesIn mid (found_in now ps) after
+    → RelocatesUpTo r (first_bad_program pairs now (found_in now ps)) → OnOk r (StandAll after (found_in now ps) (section_of pairs now))
     → OnOk r ((fresh : List Present) × (now ≡ there ++ fresh) × ArePrepared pairs there m ps fresh after)
-prepared-after (Err e) pairs m there now ps mid after all have all_is filled same relocated stand = tt
-prepared-after (Ok x) pairs m there now ps mid after all have all_is filled same relocated stand =
-    let whole : all ≡ there ++ have.fresh = all_is ∙ have.behind in (
+prepared-after (Err e) pairs m there now ps mid after absent have filled changes relocated stand = tt
+prepared-after (Ok x) pairs m there now ps mid after absent have filled changes relocated stand =
+    let same = found-fresh pairs m mid there now ps absent have in
+    let fresh = subst (λ (fs : List Present). ChangesIn mid fs after) same changes in (
       have.fresh,
       have.behind,
       record {
         are = new-of pairs m there now ps mid have;
-        others = same ∙ placed-back pairs m have.fresh mid have.placed;
-        filled = filled;
-        relocated = subst (λ fs. first_bad_program pairs fs have.fresh ≡ None) whole relocated;
-        stand = subst (λ fs. StandAll after have.fresh (section_of pairs fs)) whole stand;
+        others = fresh.others ∙ placed-back pairs m have.fresh mid have.placed;
+        filled = ap (first_bad_image pairs) (sym same) ∙ filled;
+        relocated = subst (λ fs. first_bad_program pairs fs have.fresh ≡ None) have.behind (ap (first_bad_program pairs now) (sym same) ∙ relocated);
+        stand = subst (λ fs. StandAll after have.fresh (section_of pairs fs)) have.behind (subst (λ (fs : List Present). StandAll after fs (section_of pairs now)) same stand);
       },
     )
 
-pub image-refused : (e : FragmentFault) (pairs : List Pair) (m : Layout) (there now : List Present) (ps : List ℕ) (mid : Layout) (have : HavePlaced pairs m there ps now mid)
-    → FillsUpTo {A = Unit {0}} (Err e) (first_bad_image pairs have.fresh) → MayNotPrepareNew pairs there m ps e
-image-refused (fault.NoRoom f place) pairs m there now ps mid have refused = absurd refused
-image-refused (fault.Pack f k place) pairs m there now ps mid have refused = record { fresh = have.fresh; are = new-of pairs m there now ps mid have; first = refused }
-image-refused (fault.Reloc f k section place) pairs m there now ps mid have refused = absurd refused
-image-refused fault.OutOfMemory pairs m there now ps mid have refused = absurd refused
+pub image-refused : (e : FragmentFault) (pairs : List Pair) (m : Layout) (there now : List Present) (ps : List ℕ) (mid : Layout) → AreAbsent there ps → HavePlaced pairs m there ps now mid
+    → FillsUpTo {A = Unit {0}} (Err e) (first_bad_image pairs (found_in now ps)) → MayNotPrepareNew pairs there m ps e
+image-refused (fault.NoRoom f place) pairs m there now ps mid absent have refused = absurd refused
+image-refused (fault.Pack f k place) pairs m there now ps mid absent have refused =
+    record { fresh = have.fresh; are = new-of pairs m there now ps mid have; first = ap (first_bad_image pairs) (sym (found-fresh pairs m mid there now ps absent have)) ∙ refused }
+image-refused (fault.Reloc f k section place) pairs m there now ps mid absent have refused = absurd refused
+image-refused fault.OutOfMemory pairs m there now ps mid absent have refused = absurd refused
 
-program-refused : (e : FragmentFault) (pairs : List Pair) (m : Layout) (there now : List Present) (ps : List ℕ) (mid : Layout) (all : List Present) (have : HavePlaced pairs m there ps now mid)
-    → all ≡ now → first_bad_image pairs have.fresh ≡ None → RelocatesUpTo {A = Unit {0}} (Err e) (first_bad_program pairs all have.fresh) → MayNotPrepareNew pairs there m ps e
-program-refused (fault.NoRoom f place) pairs m there now ps mid all have all_is filled refused = absurd refused
-program-refused (fault.Pack f k place) pairs m there now ps mid all have all_is filled refused = absurd refused
-program-refused (fault.Reloc f k section place) pairs m there now ps mid all have all_is filled refused = record {
-  fresh = have.fresh;
-  are = new-of pairs m there now ps mid have;
-  filled = filled;
-  first = subst (λ fs. first_bad_program pairs fs have.fresh ≡ Some (f.now, record { fault = k; section = section; place = place })) (all_is ∙ have.behind) refused;
-}
-program-refused fault.OutOfMemory pairs m there now ps mid all have all_is filled refused = tt
+program-refused : (e : FragmentFault) (pairs : List Pair) (m : Layout) (there now : List Present) (ps : List ℕ) (mid : Layout) → AreAbsent there ps → HavePlaced pairs m there ps now mid
+    → first_bad_image pairs (found_in now ps) ≡ None → RelocatesUpTo {A = Unit {0}} (Err e) (first_bad_program pairs now (found_in now ps)) → MayNotPrepareNew pairs there m ps e
+program-refused (fault.NoRoom f place) pairs m there now ps mid absent have filled refused = absurd refused
+program-refused (fault.Pack f k place) pairs m there now ps mid absent have filled refused = absurd refused
+program-refused (fault.Reloc f k section place) pairs m there now ps mid absent have filled refused =
+    let same = found-fresh pairs m mid there now ps absent have in
+    record {
+      fresh = have.fresh;
+      are = new-of pairs m there now ps mid have;
+      filled = ap (first_bad_image pairs) (sym same) ∙ filled;
+      first = subst (λ fs. first_bad_program pairs fs have.fresh ≡ Some (f.now, record { fault = k; section = section; place = place })) have.behind (ap (first_bad_program pairs now) (sym same) ∙ refused);
+    }
+program-refused fault.OutOfMemory pairs m there now ps mid absent have filled refused = tt
 
-pub relocating-refused : {A : Type 0} (r : Result A FragmentFault) (pairs : List Pair) (m : Layout) (there now : List Present) (ps : List ℕ) (mid : Layout) (all : List Present) (have : HavePlaced pairs m there ps now mid)
-    → all ≡ now → first_bad_image pairs have.fresh ≡ None → RelocatesUpTo r (first_bad_program pairs all have.fresh) → IfErr r (λ e. MayNotPrepareNew pairs there m ps e)
-relocating-refused (Ok x) pairs m there now ps mid all have all_is filled refused = tt
-relocating-refused (Err e) pairs m there now ps mid all have all_is filled refused = program-refused e pairs m there now ps mid all have all_is filled refused
+pub relocating-refused : {A : Type 0} (r : Result A FragmentFault) (pairs : List Pair) (m : Layout) (there now : List Present) (ps : List ℕ) (mid : Layout) → AreAbsent there ps → HavePlaced pairs m there ps now mid
+    → first_bad_image pairs (found_in now ps) ≡ None → RelocatesUpTo r (first_bad_program pairs now (found_in now ps)) → IfErr r (λ e. MayNotPrepareNew pairs there m ps e)
+relocating-refused (Ok x) pairs m there now ps mid absent have filled refused = tt
+relocating-refused (Err e) pairs m there now ps mid absent have filled refused = program-refused e pairs m there now ps mid absent have filled refused
 
 -- the new fragments of a closure are of it
 new-at : (b : Bool) (p : ℕ) (ps new : List ℕ) → ((k d : ℕ) → k < length new → Contains ps (get_or new k d)) → (k d : ℕ) → k < length (cond b new (p ∷ new)) → Contains (p ∷ ps) (get_or (cond b new (p ∷ new)) k d)

@@ -64,10 +64,14 @@ length-found all [] = refl
 length-found all (p ∷ ps) = ap suc (length-found all ps)
 
 -- one of them
-pub found-at : (all : List Present) (ps : List ℕ) (i : ℕ) (places : List Place) → i < length ps → places ≡ places_of all (get_or ps i 0) → (record { position = get_or ps i 0; places = places }) ≡ present_at (found_in all ps) i
+found-at : (all : List Present) (ps : List ℕ) (i : ℕ) (places : List Place) → i < length ps → places ≡ places_of all (get_or ps i 0) → (record { position = get_or ps i 0; places = places }) ≡ present_at (found_in all ps) i
 found-at all [] i places under is = absurd (omega (arith, under))
 found-at all (p ∷ ps) zero places under is = ap (λ (qs : List Place). record { position = p; places = qs }) is
 found-at all (p ∷ ps) (suc i) places under is = found-at all ps i places (omega (arith, under)) is
+
+pub found-here : (all : List Present) (ps : List ℕ) (i : ℕ) (places : List Place) → i < length ps → places ≡ places_of all (get_or ps i 0)
+    → (i < length (found_in all ps)) × ((record { position = get_or ps i 0; places = places }) ≡ present_at (found_in all ps) i)
+found-here all ps i places under is = (subst (λ n. i < n) (sym (length-found all ps)) under, found-at all ps i places under is)
 
 -- the new positions of a closure are listed once, and absent
 pub new-has : (fs : List Present) (ps : List ℕ) (p : ℕ) → has (new_among fs ps) p ≡ true → has ps p ≡ true

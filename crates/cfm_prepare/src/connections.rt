@@ -4,7 +4,7 @@ ghost use Rattle.std.specs.Option.{IfNone, is_some, option_copied};
 ghost use Rattle.cfm_prepare.specs.Contexts.{open_of, open_without};
 ghost use Rattle.cfm_prepare.specs.Kept.Connections.{AreNumbered, IsSlotOf, open_in};
 
-use crate::connected::Connected;
+use crate::open_connection::OpenConnection;
 use std::alloc::{AllocError, Global};
 use std::marker::Model;
 
@@ -12,7 +12,7 @@ use std::marker::Model;
 #[derive(Drop)]
 struct Slot<'a> {
     number: u32,
-    connected: Option<Connected<'a>>,
+    connected: Option<OpenConnection<'a>>,
 }
 
 /// The open connections of a context.
@@ -55,7 +55,7 @@ impl<'a> Connections<'a> {
     }
 
     /// Returns the connection with a number.
-    pub fn get(&self, number: u32) -> Option<&Connected<'a>>
+    pub fn get(&self, number: u32) -> Option<&OpenConnection<'a>>
         ensures { option_copied result ≡ open_of self.now.items number }
     {
         let rank = rank_of(&self.slots, number)?;
@@ -105,7 +105,7 @@ impl<'a> Connections<'a> {
     }
 
     /// Puts a connection after the others.
-    pub fn push(&mut self, connected: Connected<'a>)
+    pub fn push(&mut self, connected: OpenConnection<'a>)
         requires room { 0 < self.old.left }
         requires number { connected.number ≡ self.old.given }
         ensures items { self.new.items ≡ self.old.items ++ connected.entry ∷ [] }
@@ -123,7 +123,7 @@ impl<'a> Connections<'a> {
     }
 
     /// Removes the connection with a number, and returns it.
-    pub fn remove(&mut self, number: u32) -> Option<Connected<'a>>
+    pub fn remove(&mut self, number: u32) -> Option<OpenConnection<'a>>
         ensures taken { result ≡ open_of self.old.items number }
         ensures items { self.new.items ≡ open_without self.old.items number }
         ensures given { self.new.given ≡ self.old.given }

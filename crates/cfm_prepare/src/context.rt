@@ -11,16 +11,15 @@ ghost use Rattle.cfm_prepare.specs.Readers.{entries_of, import_target_of, main_a
 ghost use Rattle.cfm_prepare.specs.Steps.{Adds, Closes, MayNotAdd, MayNotPrepare, Prepares, TakesOut};
 
 use crate::add_fault::AddFault;
-use crate::connected::Connected;
 use crate::connections::Connections;
 use crate::entries::Entries;
 use crate::fault::{CloseFault, PrepareFault};
 use crate::fragments::Fragments;
 use crate::imports::ImportTarget;
+use crate::open_connection::OpenConnection;
 use crate::options::Options;
-use crate::releasing::release;
 use crate::sections::Sections;
-use crate::users::{enter, leave, make_room, unshared_among};
+use crate::users::{enter, leave, make_room, release, unshared_among};
 use cfm_closure::{CachedStore, Closure, Store, StoreFault};
 use cfm_memory::MemoryFault;
 use pef_views::SectionHeader;
@@ -177,7 +176,7 @@ impl<'a> Context<'a> {
         enter(&mut self.users, closure.order());
         let number = self.connections.given() as u32;
         self.connections
-            .push(Connected::new(number, root, closure, placed));
+            .push(OpenConnection::new(number, root, closure, placed));
         Ok(Connection(number))
     }
 

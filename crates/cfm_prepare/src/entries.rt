@@ -3,7 +3,7 @@ ghost use Rattle.pef_loader.specs.Loader.{init_of, main_of, term_of};
 ghost use Rattle.pef_loader.specs.Views.{loaded};
 ghost use Rattle.cfm_prepare.specs.Prepared.{entry_address};
 
-use crate::places::section_address;
+use crate::addresses::section_address;
 use cfm_memory::Place;
 use pef_loader::Loader;
 

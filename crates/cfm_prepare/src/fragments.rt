@@ -11,13 +11,12 @@ ghost use Rattle.cfm_prepare.specs.Placing.{ArePrepared};
 ghost use Rattle.cfm_prepare.specs.Refusals.{MayNotPrepareNew};
 ghost use Rattle.cfm_prepare.specs.Sections.{section_present, section_seen, sections_at, sections_left};
 
+use crate::addresses::target_address;
 use crate::bounds::test_bounds;
 use crate::fault::PrepareFault;
 use crate::fragment_fault::FragmentFault;
-use crate::giving_back::give_back_fragment;
 use crate::options::Options;
-use crate::preparing::prepare_new;
-use crate::relocating::target_address;
+use crate::preparation::{Preparation, give_back_fragment};
 use crate::sections::Sections;
 use crate::slots::{Slots, new_among};
 use cfm_closure::{Closure, Target};
@@ -89,13 +88,12 @@ impl Fragments {
         ensures unchanged { OnErr result (self.new ≡ self.old) }
     {
         let new = new_among(self.alloc, &self.present, closure.order())?;
-        prepare_new(
-            self.alloc,
-            &mut self.memory,
+        let preparation = Preparation {
+            alloc: self.alloc,
             closure,
-            &new,
-            &mut self.present,
-        )
+            new: &new,
+        };
+        preparation.run(&mut self.memory, &mut self.present)
     }
 
     /// Returns those of some fragments, by their places in the store, that aren't present, in their order.

@@ -11,25 +11,21 @@
 #![tactic(auto)]
 
 mod add_fault;
+mod addresses;
 mod bounds;
-mod connected;
 mod connections;
 mod context;
 mod entries;
 mod fault;
-mod filling;
 mod fragment_fault;
 mod fragments;
-mod giving_back;
 mod image_fault;
 mod images;
 mod imports;
+mod open_connection;
 mod options;
 mod places;
-mod placing;
-mod preparing;
-mod releasing;
-mod relocating;
+mod preparation;
 mod relocation;
 mod sections;
 mod slots;

@@ -1,9 +1,8 @@
-ghost use Rattle.std.specs.Prelude.{◌≡◌, ◌≤◌, ◌++◌, ℕ, [], ◌∷◌, Err, IfErr, IfOk, IsTrue, OnErr, OnOk, map};
-ghost use Rattle.cfm_memory.specs.Extents.{AreApart, AreHeld, ArePlaced, given_back, place_at};
+ghost use Rattle.std.specs.Prelude.{◌≡◌, ◌≤◌, ◌++◌, ℕ, [], ◌∷◌, Err, IfErr, IfOk, IsTrue, OnErr, OnOk};
+ghost use Rattle.cfm_memory.specs.Extents.{AreApart, AreHeld, ArePlaced, given_back};
 ghost use Rattle.cfm_memory.specs.Instances.{holds_place, with_instances, without};
 ghost use Rattle.cfm_memory.specs.Limits.{greatest_alignment};
 ghost use Rattle.cfm_memory.specs.Placement.{IsLowest, with_new};
-ghost use Rattle.cfm_memory.specs.declared.place.MemoryFault.TheVariants.{OutOfMemory};
 ghost use Rattle.cfm_prepare.specs.declared.places.Unplaced.TheVariants as Unplaced;
 ghost use Rattle.cfm_prepare.specs.Kept.Unplaced.{MayNotPlaceAll, MayRefuseFor};
 ghost use Rattle.pef_views.specs.Views.{contained};
@@ -115,32 +114,5 @@ pub(crate) fn give_back(memory: &mut Memory, places: &[Place])
 {
     for place in places {
         memory.give_back(*place);
-    }
-}
-
-/// Returns the addresses of some places, in order.
-///
-/// # Errors
-///
-/// `OutOfMemory` if an allocation fails.
-pub(crate) fn section_addresses(alloc: Global, places: &[Place]) -> Result<Vec<u32>, MemoryFault>
-    ensures addresses { IfOk result (λ sections. sections.items ≡ map (λ p. p.address) places.now) }
-    ensures refused { OnErr result (result ≡ Err OutOfMemory) }
-{
-    let mut addresses = Vec::new(alloc);
-    for place in places {
-        addresses.push(place.address)?;
-    }
-    Ok(addresses)
-}
-
-/// Returns the address of a section of a fragment whose sections have these places, or 0 if there is no
-/// such section.
-pub(crate) fn section_address(places: &[Place], section: u32) -> u32
-    ensures { result ≡ (place_at places.now section).address }
-{
-    match places.get(section as usize) {
-        Some(place) => place.address,
-        None => 0,
     }
 }

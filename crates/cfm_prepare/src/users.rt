@@ -1,7 +1,9 @@
 ghost use Rattle.std.specs.Prelude.{◌≡◌, ◌≤◌, ◌<◌, ◌^◌, ℕ, true, IfOk, OnOk, length, nat_lt};
 ghost use Rattle.cfm_prepare.specs.Lists.{IsOnce, has};
-ghost use Rattle.cfm_prepare.specs.Kept.Users.{CountsMore, count_at, unshared_among};
+ghost use Rattle.cfm_prepare.specs.Fragments.{all_given_back};
+ghost use Rattle.cfm_prepare.specs.Kept.Users.{AreUsedBut, CountsMore, count_at, unshared_among, unused_of, used_of};
 
+use crate::fragments::Fragments;
 use std::alloc::{AllocError, Global};
 
 /// Makes room for the counts of this many fragments.
@@ -16,7 +18,7 @@ pub(crate) fn make_room(users: &mut Vec<usize>, fragments: usize) -> Result<(), 
 }
 
 /// Returns whether a fragment is in use.
-pub(crate) fn has_users(users: &[usize], position: usize) -> bool
+fn has_users(users: &[usize], position: usize) -> bool
     ensures { result ≡ nat_lt 0 (count_at users.now position) }
 {
     match users.get(position) {
@@ -72,5 +74,18 @@ pub(crate) fn leave(users: &mut Vec<usize>, order: &[usize])
 {
     for position in order {
         users[*position] -= 1;
+    }
+}
+
+/// Releases the fragments of an order that have no users. All other fragments have some.
+pub(crate) fn release(fragments: &mut Fragments, users: &[usize], order: &[usize])
+    requires { AreUsedBut users.now fragments.old.present order.now }
+    ensures present { fragments.new.present ≡ used_of users.now fragments.old.present }
+    ensures memory { fragments.new.memory ≡ all_given_back fragments.old.memory (unused_of users.now fragments.old.present) }
+{
+    for position in order {
+        if !has_users(users, *position) {
+            fragments.give_back(*position);
+        }
     }
 }

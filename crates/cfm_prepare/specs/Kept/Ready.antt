@@ -1,7 +1,8 @@
 -- The invariant of present fragments: their sections are in memory, each at an address of its own.
-use Rattle.std.specs.Prelude.{◌≡◌, ◌≢◌, ℕ, ◌<◌, false, true, List, [], ◌∷◌, length, ◌++◌, Contains, Result, Ok, Err, Option, None, Some, if◌then◌else◌}
-use Rattle.cfm_memory.specs.Extents.{AreApart, AreHeld, place_at}
+use Rattle.std.specs.Prelude.{◌≡◌, ◌≢◌, ℕ, ◌<◌, false, true, List, [], ◌∷◌, length, ◌++◌, Result, Ok, Err, Option, None, Some, if◌then◌else◌}
+use Rattle.cfm_memory.specs.Extents.{AreApart, AreHeld, given_back, place_at}
 use Rattle.cfm_memory.specs.Instances.{Layout}
+use Rattle.cfm_memory.specs.declared.place.Place.{Place}
 use Rattle.cfm_prepare.specs.declared.image_fault.ImageFault.{ImageFault}
 use Rattle.pef_loader.specs.declared.program_fault.ProgramFault.{ProgramFault}
 use Rattle.cfm_closure.specs.Stores.{Pair, pair_of}
@@ -30,13 +31,25 @@ pub record AreReady (m : Layout) (fs : List Present) : Type 0 where
   pub own : OwnApart fs
   pub apart : AllApart fs
 
--- the places of each are those of its sections
-abbrev pub AllFit : List Pair → List Present → Type 0
-AllFit pairs fs = (i : ℕ) → i < length fs → Fits pairs (present_at fs i)
+-- a fragment has the places of its sections, each at an address of its own
+pub record IsLaidOut (pairs : List Pair) (f : Present) : Type 0 where
+  pub fits : Fits pairs f
+  pub own : AreApart f.places
 
--- the fragments are of a closure
-abbrev pub AllIn : List ℕ → List Present → Type 0
-AllIn order fs = (i : ℕ) → i < length fs → Contains order (present_at fs i).position
+-- so have some fragments, and no two have the same address
+pub record AreLaidOut (pairs : List Pair) (fs : List Present) : Type 0 where
+  pub each : (i : ℕ) → i < length fs → IsLaidOut pairs (present_at fs i)
+  pub apart : AllApart fs
+
+-- memory changed at some places alone. Their instances are held if they were
+pub record ChangesAt (m : Layout) (places : List Place) (after : Layout) : Type 0 where
+  pub others : given_back after places ≡ given_back m places
+  pub held : AreHeld m places → AreHeld after places
+
+-- memory changed in the sections of some fragments alone
+pub record ChangesIn (m : Layout) (fs : List Present) (after : Layout) : Type 0 where
+  pub others : all_given_back after fs ≡ all_given_back m fs
+  pub held : AllHeld m fs → AllHeld after fs
 
 -- fragments with new positions were placed after those that exist
 pub record HavePlaced (pairs : List Pair) (m : Layout) (there : List Present) (new : List ℕ) (now : List Present) (after : Layout) : Type 0 where

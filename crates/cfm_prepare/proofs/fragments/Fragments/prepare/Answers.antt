@@ -17,8 +17,8 @@ are-absent there order whole new order_is new_is once =
     let P : List ℕ → Type 0 = λ ps. AreAbsent there ps in
     subst P (sym (new_is ∙ ap (new_among there) order_is)) (absent-new there whole once)
 
-pub prepare_new-requires-clause-members : goal.prepare_new-requires-clause-members
-prepare_new-requires-clause-members c = are-members c.self.inside.present.items c.order.result.now c.args.closure.now.order c.deref.result.now c.order.ensures.order (c.deref.ensures.value ∙ c.in_ok-new.ensures)
+pub run-requires-clause-members : goal.run-requires-clause-members
+run-requires-clause-members c = are-members c.self.inside.present.items c.order.result.now c.args.closure.now.order c.deref.result.now c.order.ensures.order (c.deref.ensures.value ∙ c.in_ok-new.ensures)
 
-pub prepare_new-requires-clause-new : goal.prepare_new-requires-clause-new
-prepare_new-requires-clause-new c = are-absent c.self.inside.present.items c.order.result.now c.args.closure.now.order c.deref.result.now c.order.ensures.order (c.deref.ensures.value ∙ c.in_ok-new.ensures) c.requires
+pub run-requires-clause-new : goal.run-requires-clause-new
+run-requires-clause-new c = are-absent c.self.inside.present.items c.order.result.now c.args.closure.now.order c.deref.result.now c.order.ensures.order (c.deref.ensures.value ∙ c.in_ok-new.ensures) c.requires

@@ -1,5 +1,0 @@
-use Rattle.std.proofs.Common.{rules}
-use Rattle.cfm_prepare.proofs.relocating.target_address.Goals as goal
-
-pub returns-in-Some-At : goal.returns-in-Some-At
-returns-in-Some-At c = search rules
