@@ -14,8 +14,8 @@
  * - What a call fills, it fills whatever was there: structs may come as zero bytes, or not initialized. What a call leaves
  *   unchanged keeps the bytes that it had. Only a struct pef_context has to start as zero bytes.
  * - What a call writes overlaps nothing else that it takes.
- * - A context is used by one thread at a time. Apart from that, several threads may make calls at once: the library has no
- *   state outside of contexts.
+ * - A context is used by one thread at a time; but several may read it at once by the calls whose names end in `_const`. Apart
+ *   from that, several threads may make calls at once: the library has no state outside of contexts.
  * - A thread that makes calls has 64 KB of stack for them. No call takes more, whatever it reads.
  * - No call is made from a signal handler.
  * - malloc, realloc and free are those of the C library, or others whose blocks are aligned to 16 bytes.
@@ -245,7 +245,7 @@ uint32_t pef_list(const uint8_t *container, size_t container_length, uint8_t *bu
  *
  * Returns PEF_OK, and stores the number of bytes in `*written`: it is less than `buffer_length` only at the end of the lines, and
  * 0 after it. Or returns the first refusal, 1 to 20 or 31 to 36; or PEF_OUT_OF_MEMORY. Then `buffer` and `*written` are left
- * unchanged. Each call makes all lines, so take a large buffer.
+ * unchanged. Each call makes the lines up to the end of its part again, so take a large buffer.
  */
 uint32_t pef_list_part(const uint8_t *container, size_t container_length, size_t from, uint8_t *buffer, size_t buffer_length, size_t *written);
 
@@ -728,9 +728,9 @@ uint32_t pef_numbered_container(const uint8_t *bytes, size_t length, size_t numb
  *
  *     struct pef_context context = PEF_NO_CONTEXT;
  *
- * Only the calls below change it, and it isn't copied. Each of these calls returns PEF_NOT_OPEN, and changes nothing, if
- * the context isn't open: pef_open() wasn't called, failed, or was followed by pef_free(). Several contexts may be open at
- * once, also in different threads.
+ * Only the calls below change it, and it isn't copied, except to be read. Each of these calls returns PEF_NOT_OPEN, and changes
+ * nothing, if the context isn't open: pef_open() wasn't called, failed, or was followed by pef_free(). Several contexts may be
+ * open at once, also in different threads.
  *
  * A fragment is named by its number, counted from 0 in the order in which fragments were added. It is present while the
  * closure of an open connection has it: the fragment that was prepared, with all fragments that it needs. A present
@@ -864,7 +864,8 @@ uint32_t pef_close(struct pef_context *context, uint32_t connection);
 
 /*
  * The calls below read a context and don't change it. They return PEF_OK; or PEF_NOT_THERE, and then they leave all that
- * they would write unchanged.
+ * they would write unchanged. While such a call reads, it writes to the struct: several threads take the calls that end in
+ * `_const`, which are at the end.
  */
 
 /*
@@ -974,6 +975,88 @@ uint32_t pef_import_target(struct pef_context *context, uint32_t connection, siz
  * Returns PEF_NOT_THERE past the last export, and if the connection isn't open, or its closure lacks the fragment.
  */
 uint32_t pef_export_address(struct pef_context *context, uint32_t connection, size_t fragment, size_t number, uint32_t *address);
+
+/*
+ * The same calls for a `const struct pef_context *`. They write nothing of the struct and nothing of the context, so any number of
+ * threads may be in them at once, also with one context: a debugger's thread may read what another thread prepared. While one
+ * is in them, no thread makes a call with this context whose name doesn't end in `_const`. What such a call changed has to be
+ * ordered before the reading, by a lock or by the start of a thread, say. pef_released_by_const() takes memory for itself, as
+ * any thread may.
+ *
+ * Each hands a copy of the struct to the call of its name, and drops the copy. A language without inline functions does the
+ * same. A copy may be handed to no call that changes a context.
+ */
+static inline uint32_t pef_new_fragments_const(const struct pef_context *context, uint32_t connection, size_t *places, size_t place_count, size_t *count)
+{
+    struct pef_context copy = *context;
+    return pef_new_fragments(&copy, connection, places, place_count, count);
+}
+
+static inline uint32_t pef_released_by_const(const struct pef_context *context, uint32_t connection, size_t *places, size_t place_count, size_t *count)
+{
+    struct pef_context copy = *context;
+    return pef_released_by(&copy, connection, places, place_count, count);
+}
+
+static inline uint32_t pef_fragments_const(const struct pef_context *context, uint32_t connection, size_t *places, size_t place_count, size_t *count)
+{
+    struct pef_context copy = *context;
+    return pef_fragments(&copy, connection, places, place_count, count);
+}
+
+static inline uint32_t pef_init_order_const(const struct pef_context *context, uint32_t connection, size_t *places, size_t place_count, size_t *count)
+{
+    struct pef_context copy = *context;
+    return pef_init_order(&copy, connection, places, place_count, count);
+}
+
+static inline uint32_t pef_fragment_name_const(const struct pef_context *context, size_t fragment, struct pef_bytes *name)
+{
+    struct pef_context copy = *context;
+    return pef_fragment_name(&copy, fragment, name);
+}
+
+static inline uint32_t pef_fragment_sections_const(const struct pef_context *context, size_t fragment, size_t *count)
+{
+    struct pef_context copy = *context;
+    return pef_fragment_sections(&copy, fragment, count);
+}
+
+static inline uint32_t pef_fragment_section_const(const struct pef_context *context, uint32_t connection, size_t fragment, size_t number, struct pef_fragment_section *section)
+{
+    struct pef_context copy = *context;
+    return pef_fragment_section(&copy, connection, fragment, number, section);
+}
+
+static inline uint32_t pef_fragment_bytes_const(const struct pef_context *context, size_t fragment, size_t number, uint8_t *buffer, size_t buffer_length, size_t *written)
+{
+    struct pef_context copy = *context;
+    return pef_fragment_bytes(&copy, fragment, number, buffer, buffer_length, written);
+}
+
+static inline uint32_t pef_fragment_entries_const(const struct pef_context *context, uint32_t connection, size_t fragment, struct pef_entries *entries)
+{
+    struct pef_context copy = *context;
+    return pef_fragment_entries(&copy, connection, fragment, entries);
+}
+
+static inline uint32_t pef_fragment_symbol_const(const struct pef_context *context, uint32_t connection, size_t fragment, const uint8_t *name, size_t name_length, uint32_t *address)
+{
+    struct pef_context copy = *context;
+    return pef_fragment_symbol(&copy, connection, fragment, name, name_length, address);
+}
+
+static inline uint32_t pef_import_target_const(const struct pef_context *context, uint32_t connection, size_t fragment, size_t number, struct pef_target *target)
+{
+    struct pef_context copy = *context;
+    return pef_import_target(&copy, connection, fragment, number, target);
+}
+
+static inline uint32_t pef_export_address_const(const struct pef_context *context, uint32_t connection, size_t fragment, size_t number, uint32_t *address)
+{
+    struct pef_context copy = *context;
+    return pef_export_address(&copy, connection, fragment, number, address);
+}
 
 #ifdef __cplusplus
 }

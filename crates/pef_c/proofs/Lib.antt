@@ -5,4 +5,5 @@ mod LogSteps
 mod MacFilling
 mod NumberLemmas
 mod PartLemmas
+mod TextLemmas
 mod WrittenLemmas

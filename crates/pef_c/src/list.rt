@@ -1,7 +1,7 @@
 ghost use Rattle.pef_c.specs.List.{ListAnswers, PartAnswers};
 
 use crate::answers::{OUT_OF_MEMORY, ROOM_TOO_SMALL, copy_out, copy_part, list_number};
-use crate::text::listing_text;
+use crate::text::{listing_part, listing_text};
 use pef_listing::Listing;
 use std::alloc::Global;
 
@@ -49,7 +49,7 @@ pub extern "C" fn pef_list_part(
         Ok(listing) => listing,
         Err(fault) => return list_number(fault),
     };
-    let Ok(text) = listing_text(alloc, &listing) else {
+    let Ok(text) = listing_part(alloc, &listing, from, buffer.len()) else {
         return OUT_OF_MEMORY;
     };
     copy_part(text.as_slice(), from, buffer, written);

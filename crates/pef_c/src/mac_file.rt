@@ -9,7 +9,7 @@ ghost use Rattle.cfm_members.specs.Kinds.{kind_of};
 ghost use Rattle.pef_c.specs.MacForks.{ForksAnswers, FoundAnswers, NumberedAnswers};
 ghost use Rattle.pef_c.specs.MacParts.{finder_row, finder_without, forks_row, forks_shown, header_error, header_error_offset, kind_code, part_row, part_shown};
 
-use crate::answers::NOT_THERE;
+use crate::answers::{NOT_THERE, given};
 use crate::mac_errors::{fork_number, fragment_number, offset_or_none};
 use crate::mac_structs::{PefFinder, PefForks, PefPart};
 use crate::place::NO_OFFSET;
@@ -26,7 +26,7 @@ const NO_CONTAINER: u32 = 80;
 pub extern "C" fn pef_file_kind(file: &[u8]) -> u32
     ensures { result ≡ kind_code (kind_of file.now) }
 {
-    kind_code(FileKind::of(file))
+    kind_code(FileKind::of(given(file)))
 }
 
 /// Reads the forks of a file, its name, its comment and what the Finder knows of it.
@@ -36,6 +36,7 @@ pub extern "C" fn pef_file_kind(file: &[u8]) -> u32
 pub extern "C" fn pef_forks<'a>(file: &'a [u8], forks: &mut PefForks<'a>) -> u32
     ensures { ForksAnswers file.entry.now (forks_shown forks.old) (forks_shown forks.new) result }
 {
+    let file = given(file);
     match MacFile::read(file) {
         Ok(read) => {
             *forks = forks_given(file, &read);
@@ -56,7 +57,7 @@ pub extern "C" fn pef_file_container<'a>(
 ) -> u32
     ensures { FoundAnswers (container_named file.entry.now name.now) container.old.now container.new.now result }
 {
-    give(named_container(file, name), container)
+    give(named_container(given(file), given(name)), container)
 }
 
 /// Gives the container of the fragment with a name, by the bytes of the forks: a part of one of them.
@@ -73,10 +74,10 @@ pub extern "C" fn pef_fork_container<'a>(
 {
     let data_fork = Part {
         offset: 0,
-        bytes: data_fork,
+        bytes: given(data_fork),
     };
     give(
-        container_in_forks(Some(Ok(data_fork)), resource_fork, name),
+        container_in_forks(Some(Ok(data_fork)), given(resource_fork), given(name)),
         container,
     )
 }
@@ -92,7 +93,7 @@ pub extern "C" fn pef_numbered_container<'a>(
 ) -> u32
     ensures { NumberedAnswers (container_numbered bytes.entry.now number) container.old.now container.new.now result }
 {
-    match numbered_container(bytes, number) {
+    match numbered_container(given(bytes), number) {
         Some(found) => {
             *container = found;
             0
