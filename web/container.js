@@ -14,6 +14,9 @@ const CLASSES = ["code", "data", "transition vector", "TOC", "glue"];
 /** How many additions of all programs are listed. */
 const MOST_FIXUPS = 20000;
 
+/** How many instructions of all programs are listed. */
+const MOST_INSTRUCTIONS = 20000;
+
 /** Returns a name as it is shown. */
 export function name(it) {
     return it === null ? "–" : `${text.shownName(it.bytes)}${it.length > it.bytes.length ? "…" : ""}`;
@@ -239,7 +242,34 @@ export class ContainerView {
             this.offset(),
         ];
         const headers = new DataTable({ caption: "Relocation headers", columns, rows: this.container.relocations, more: this.more("page_relocations") });
-        return [el("h3", {}, "Relocation headers"), this.table("Relocations", headers), el("h3", {}, "Words that are relocated"), ...this.words()];
+        return [
+            el("h3", {}, "Relocation headers"),
+            this.table("Relocations", headers),
+            el("h3", {}, "Instructions"),
+            ...this.instructions(),
+            el("h3", {}, "Words that are relocated"),
+            ...this.words(),
+        ];
+    }
+
+    /** Returns the table of the instructions of the programs, each up to the first bytes that aren't one. */
+    instructions() {
+        const rows = [];
+        this.container.relocations.forEach((relocation, header) => {
+            const left = MOST_INSTRUCTIONS + 1 - rows.length;
+            const listed = left > 0 ? this.container.instructions(relocation, left) : null;
+            rows.push(...(listed ?? []).map((it) => ({ ...it, header })));
+        });
+        const cut = rows.length > MOST_INSTRUCTIONS;
+        const columns = [
+            { title: "Header", text: (it) => String(it.header), value: (it) => it.header, class: "number" },
+            { title: "Code", text: (it) => it.code, class: "number" },
+            { title: "Kind", text: (it) => it.kind },
+            { title: "Numbers", text: (it) => it.numbers.join(" "), class: "number" },
+            this.offset(),
+        ];
+        const table = new DataTable({ caption: "Instructions", columns, rows: rows.slice(0, MOST_INSTRUCTIONS) });
+        return [table.element, ...(cut ? [el("p", { class: "hint" }, `Only the first ${MOST_INSTRUCTIONS.toLocaleString("en")} are listed.`)] : [])];
     }
 
     /** Returns the table of the words that the programs relocate, with what is added. */

@@ -45,6 +45,9 @@ const COST = 0x10000;
 
 const FIRST_NOTE = 100;
 
+/** How many bytes the relocation programs that are printed may have together, in any loader section. */
+const MOST_PROGRAM_BYTES = 0x4000000;
+
 /** The note that the programs from one on weren't verified. */
 const PROGRAMS_UNVERIFIED = 110;
 
@@ -323,7 +326,29 @@ export class Container {
         this.cut = errors.error !== 0 || notes.error !== 0;
         const found = [...errors.rows, ...notes.rows].map((row) => this.finding(row));
         found.push(...moreNotes(this, this.reader.bytes(this.slice)), ...twiceNotes(this, this.verified(found)));
-        return found.sort((a, b) => a.rank - b.rank || a.row - b.row);
+        return found.sort((a, b) => a.rank - b.rank || a.row - b.row || placeAfter(a) - placeAfter(b));
+    }
+
+    /** Returns how many relocation programs are printed: the first ones that together have no more bytes than the loader section. */
+    shown() {
+        if (this.loader === null || this.relocations.length < this.loader.relocations) {
+            return 0;
+        }
+        let left = Math.min(this.loader.length, MOST_PROGRAM_BYTES);
+        const past = this.relocations.findIndex(({ slice }) => {
+            left -= slice === null ? 0 : slice.length;
+            return left < 0;
+        });
+        return past < 0 ? this.relocations.length : past;
+    }
+
+    /** Returns the instructions of a relocation header's program, up to the first bytes that aren't one, or null if it isn't all there. */
+    instructions(relocation, rows = Infinity) {
+        if (relocation.slice === null) {
+            return null;
+        }
+        const place = this.place(relocation.slice);
+        return this.reader.table("page_instructions", [relocation.slice], 5, 0, { ...ALL, rows }).rows.map((row) => instruction(row, place));
     }
 
     /** Returns how many relocation programs were verified, by what was found. */
@@ -368,6 +393,22 @@ export class Container {
         }
         return section.unpacked <= MOST_EXPANDED ? this.reader.expand(section.slice, section.unpacked) : null;
     }
+}
+
+/** Returns where a finding comes after its row: below the instruction that it is about, if it is about one. */
+function placeAfter(finding) {
+    return finding.part === "program" ? finding.field + 1 : 0;
+}
+
+/** Returns an instruction of a program that begins at a place of the file. */
+function instruction(row, place) {
+    const [offset, first, second, ...numbers] = row.numbers;
+    return {
+        offset: place + offset,
+        code: text.hex(first, 4) + (second === null ? "" : text.hex(second, 4)),
+        kind: text.macRoman(row.name.bytes),
+        numbers: numbers.filter((it) => it !== null),
+    };
 }
 
 /** The largest image that the page expands. */
@@ -464,6 +505,7 @@ function skippedObject(containers) {
 
 export function containerObject(container) {
     const [main, init, term] = container.loader === null ? [null, null, null] : container.loader.entries;
+    const shown = container.shown();
     return {
         offset: container.offset,
         header: container.header === null ? null : headerObject(container.header),
@@ -471,7 +513,7 @@ export function containerObject(container) {
         loader: container.loader === null ? null : loaderObject(container.loader),
         libraries: container.libraries.map(libraryObject),
         imports: container.imports.map(importObject),
-        relocations: container.relocations.map(({ offset, section, halfwords, first }) => ({ offset, section, halfwords, first })),
+        relocations: container.relocations.map((it, k) => relocationObject(it, k < shown ? container.instructions(it) : null)),
         exports: container.exports.map(exportObject),
         entries: {
             main: entryObject(container, main, 0),
@@ -552,6 +594,10 @@ function libraryObject(library) {
 
 function importObject(it) {
     return { offset: it.offset, ...named(it.name), library: it.library, class: it.kind, weak: it.weak };
+}
+
+function relocationObject({ offset, section, halfwords, first }, instructions) {
+    return { offset, section, halfwords, first, instructions };
 }
 
 function exportObject(it) {

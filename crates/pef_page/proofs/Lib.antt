@@ -1,3 +1,4 @@
 mod Filling
 mod Numbered
 mod Keeping
+mod Listed

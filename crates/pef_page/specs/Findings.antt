@@ -1,5 +1,5 @@
 -- The rows of errors and notes.
-use Rattle.std.specs.Prelude.{◌≡◌, ◌==◌, ℕ, List, [], ◌∷◌, None, Some, MatchBool, map}
+use Rattle.std.specs.Prelude.{◌≡◌, ◌==◌, ℕ, List, [], ◌∷◌, Option, None, Some, MatchBool, map}
 use Rattle.pef_format.specs.Places.{part_code}
 use Rattle.pef_inspect.specs.Errors.{errors_of}
 use Rattle.pef_inspect.specs.Findings.{finding_name, finding_number}
@@ -9,6 +9,7 @@ use Rattle.pef_inspect.specs.declared.finding.Cause.TheVariants as cause
 use Rattle.pef_inspect.specs.declared.finding.Finding.{Finding}
 use Rattle.pef_inspect.specs.declared.note.Note.{Note}
 use Rattle.pef_inspect.specs.declared.note.Note.TheVariants as note
+use Rattle.pef_reloc.specs.Faults.{fault_word}
 use Rattle.pef_page.specs.Rows.{FillsFrom, Row, new_row, number_or_none}
 use Rattle.pef_page.specs.declared.findings.Detail.{Detail}
 
@@ -39,11 +40,15 @@ note_detail note.IrregularExports = no_detail
 note_detail note.ProgramsUnverified = no_detail
 note_detail note.ImagesUnverified = no_detail
 
+abbrev pub detail_of_word : Option ℕ → Detail
+detail_of_word None = no_detail
+detail_of_word (Some word) = word_detail word
+
 abbrev pub detail_of : Cause → Detail
 detail_of (cause.View f) = no_detail
 detail_of (cause.Loader f) = no_detail
 detail_of (cause.Pack f) = no_detail
-detail_of (cause.Reloc f) = no_detail
+detail_of (cause.Reloc f) = detail_of_word (fault_word f)
 detail_of (cause.Note n) = note_detail n
 
 -- a finding: its number, and its place

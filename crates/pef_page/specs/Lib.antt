@@ -2,6 +2,7 @@ pub mod Rows
 pub mod Containers
 pub mod Loaders
 pub mod Fixups
+pub mod Instructions
 pub mod Packed
 pub mod Names
 pub mod Kept

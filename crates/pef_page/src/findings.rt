@@ -1,7 +1,7 @@
 //! The errors of a container, and the notes on it, except those that need memory.
 ghost use Rattle.std.specs.Prelude.{◌≡◌, map};
 ghost use Rattle.pef_page.specs.Rows.{FillsFrom, row_shown};
-ghost use Rattle.pef_page.specs.Findings.{ErrorsAnswer, NotesAnswer, detail_of, finding_row, note_detail};
+ghost use Rattle.pef_page.specs.Findings.{ErrorsAnswer, NotesAnswer, detail_of, detail_of_word, finding_row, note_detail};
 ghost use Rattle.pef_page.specs.Kept.{kept_in};
 
 use crate::kept::Kept;
@@ -21,7 +21,7 @@ const NO_DETAIL: Detail = Detail { kind: 0, number: 0 };
 
 /// Finds all errors of a container, in the order in which they are found. The name of each is that of the error. Its numbers
 /// are the number, the code of the kind of part, the row, the field, the offset in the container, or 2^64 - 1 if there is
-/// none, and then for a note 1 and the offset of a word, 2 and a number of bytes, or 0 and 0.
+/// none, and then 1 and the offset of a word, 2 and a number of bytes, or 0 and 0.
 ///
 /// Returns 0, or 200 if there are more than can be kept. Then it gives the first of them.
 #[unsafe(no_mangle)]
@@ -131,7 +131,18 @@ fn detail_of(cause: Cause) -> Detail
 {
     match cause {
         Cause::Note(note) => note_detail(note),
-        Cause::View(_) | Cause::Loader(_) | Cause::Pack(_) | Cause::Reloc(_) => NO_DETAIL,
+        Cause::Reloc(fault) => detail_of_word(fault.word()),
+        Cause::View(_) | Cause::Loader(_) | Cause::Pack(_) => NO_DETAIL,
+    }
+}
+
+/// Returns the offset of a word, if there is one.
+fn detail_of_word(word: Option<u64>) -> Detail
+    ensures { result ≡ detail_of_word word }
+{
+    match word {
+        Some(number) => Detail { kind: WORD, number },
+        None => NO_DETAIL,
     }
 }
 

@@ -6,7 +6,7 @@ ghost use Rattle.pef_page.specs.Rows.{new_row, number_or_none, padded, row_shown
 pub(crate) const NUMBERS: usize = 24;
 
 /// A number that isn't there, such as the library of an import that has none.
-const NO_NUMBER: u64 = u64::MAX;
+pub(crate) const NO_NUMBER: u64 = u64::MAX;
 
 /// A row of any table. What the numbers are is said at each call. Numbers beyond those are 0.
 #[repr(C)]
