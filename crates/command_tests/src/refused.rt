@@ -116,6 +116,7 @@ const INSPECTED: &[u8] = b"file a size 250 format container
 000000A0 loader libraries 0 imports 0 relocs 1 programs 00000044 strings 00000046 hash 00000048 power 0 exports 1
 000000A0 main 1 00000000
 000000D8 reloc section 1 halfwords 1 first 0
+000000E4 4601 TVector8 2
 000000F0 export go class 2 section 1 value 00000000
 total containers 1 errors 0 notes 0
 ";
