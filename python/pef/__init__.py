@@ -32,6 +32,7 @@ import enum
 import functools
 import os
 import pathlib
+import threading
 from typing import Any, Dict, Iterator, List, Optional, Tuple, Type, Union
 
 __all__ = [
@@ -911,9 +912,10 @@ class Fragment:
     @property
     def name(self) -> str:
         """The name that it was added with."""
-        name = _no_bytes()
-        self.connection.context._call("pef_fragment_name", self.number, ctypes.byref(name))
-        return name.text()
+        name, context = _no_bytes(), self.connection.context
+        with context._lock:  # the name is a part of what was added
+            context._call("pef_fragment_name", self.number, ctypes.byref(name))
+            return name.text()
 
     @property
     def sections(self) -> List[PlacedSection]:
@@ -1036,7 +1038,8 @@ class Context:
 
     No section passes `limit`. The other options are those of docs/RULES.md: each section takes a multiple of `granule` at a
     multiple of it, `connections` are given in all, and one preparation takes at most so many `steps` and `bytes`. What is
-    None has its usual value. The context is freed at the end of a `with`, or by free(). It is used by one thread at a time.
+    None has its usual value. The context is freed at the end of a `with`, or by free(). Several threads may use it: each call
+    waits until the one before it is done.
 
     Raises PefError: 205 if `granule` isn't a power of two from 16 on, or 99. ValueError if an option is 0 or has too many bits.
 
@@ -1056,6 +1059,8 @@ class Context:
         bytes: Optional[int] = None,  # pylint: disable=redefined-builtin
     ):
         self._context = _Context()
+        #: Held during each call: a call writes to the struct, even if it only reads.
+        self._lock = threading.RLock()
         #: The names and containers that were added: the library reads them until the context is freed.
         self._kept: List[_Contents] = []
         if (granule, connections, steps, bytes) == (None, None, None, None):
@@ -1079,7 +1084,9 @@ class Context:
         return f"<pef.Context: {'open' if self._context.is_open else 'freed'}>"
 
     def _call(self, name: str, *words: Any) -> None:
-        _check(getattr(library(), name)(ctypes.byref(self._context), *words))
+        with self._lock:
+            answer = getattr(library(), name)(ctypes.byref(self._context), *words)
+        _check(answer)
 
     def add(self, name: Text, contents: bytes) -> None:
         """Adds a fragment. Its container is read when it is prepared, and refused then.
@@ -1089,8 +1096,13 @@ class Context:
         for the 257th fragment, or 99.
         """
         raw, kept = _raw(name), bytes(contents)
-        self._call("pef_add", raw, len(raw), kept, len(kept))
-        self._kept += [raw, kept]
+        with self._lock:
+            self._kept += [raw, kept]
+            try:
+                self._call("pef_add", raw, len(raw), kept, len(kept))
+            except PefError:
+                del self._kept[-2:]
+                raise
 
     def reserve(self, address: int, size: int) -> None:
         """Takes addresses out of use: no section is placed in them.
@@ -1111,17 +1123,19 @@ class Context:
         raw, number = _raw(name), ctypes.c_uint32()
         names, place = _Names(_no_bytes(), _no_bytes(), _no_bytes()), _Place()
         words = (ctypes.byref(self._context), raw, len(raw), ctypes.byref(number), ctypes.byref(names))
-        if hasattr(library(), "pef_prepare_with_place"):
-            answer = library().pef_prepare_with_place(*words, ctypes.byref(place))
-        else:
-            answer = library().pef_prepare(*words)
-        _check(answer, place, fragment=names.fragment.text(), library=names.library.text(), symbol=names.symbol.text())
+        with self._lock:
+            if hasattr(library(), "pef_prepare_with_place"):
+                answer = library().pef_prepare_with_place(*words, ctypes.byref(place))
+            else:
+                answer = library().pef_prepare(*words)
+            _check(answer, place, fragment=names.fragment.text(), library=names.library.text(), symbol=names.symbol.text())
         return Connection(self, number.value)
 
     def free(self) -> None:
         """Frees the context. What is called later raises PefError: 202."""
-        library().pef_free(ctypes.byref(self._context))
-        self._kept.clear()
+        with self._lock:
+            library().pef_free(ctypes.byref(self._context))
+            self._kept.clear()
 
     def __enter__(self) -> "Context":
         return self
@@ -1130,7 +1144,7 @@ class Context:
         self.free()
 
     def __del__(self) -> None:
-        if self._context.is_open:
+        if hasattr(self, "_kept") and self._context.is_open:  # __init__ may have been refused its arguments
             self.free()
 
 
