@@ -1,42 +1,16 @@
 /*
- * Reads a file of the classic Mac OS that is written here by hand, from the tables of docs/FORMATS.md, and compares what each call
- * gives with numbers written by hand. Then it cuts the file at every length, and turns each of its bytes in three ways: each answer has
+ * Reads the file of the classic Mac OS that is written by hand in mac_file.h, and compares what each call gives with numbers written by
+ * hand. Then it cuts the file at every length, and turns each of its bytes in three ways: each answer has
  * to have a name, and each slice has to be a part of the file. Each copy is a block of its own length, so that an address sanitizer sees
  * a read past its end. What is wrong is printed, a line each, and the status is then 1.
  */
-#include "../../include/pef.h"
+#include "mac_file.h"
 
 #include <stdio.h>
 #include <stdlib.h>
 #include <string.h>
 
-enum { FILE_LENGTH = 802, PLACES = 8 };
-
-/* Bytes, and where they are in the file. All others are 0. */
-struct written {
-    size_t at, length;
-    const char *bytes;
-};
-
-#define WRITTEN(at, bytes) {at, sizeof bytes - 1, bytes}
-
-/*
- * MacBinary I: the data fork, 264 bytes, is at 128, the resource fork, 290 bytes, at 512. In the fork, the data are at 16: a table of
- * fragments of 176 bytes, and the resource `ndrv` 128, which is named `dr`. The map is at 203, and ends with the names.
- */
-static const struct written parts[] = {
-    WRITTEN(1, "\x04" "File"), WRITTEN(65, "APPLCalc\x21"), WRITTEN(75, "\xFF\xFE\x00\x14\x00\x07"),
-    WRITTEN(83, "\x00\x00\x01\x08\x00\x00\x01\x22"), WRITTEN(136, "Joy!peffpwpc"),
-    WRITTEN(512, "\x00\x00\x00\x10\x00\x00\x00\xCB\x00\x00\x00\xBB\x00\x00\x00\x57"), WRITTEN(528, "\x00\x00\x00\xB0"),
-    WRITTEN(542, "\x00\x01"), WRITTEN(562, "\x00\x03"),
-    WRITTEN(564, "m68k"), WRITTEN(587, "\x01"), WRITTEN(604, "\x00\x30\x04" "Calc"),
-    WRITTEN(612, "pwpc\x00\x00\x00\x07\x01\x20\x60\x03\x01\x00\x80\x00\x00\x01\x00\x00\x00\x05\x01\x01\x00\x00\x00\x08\x00\x00\x00\xFA"),
-    WRITTEN(644, "\x00\x00\x00\x09\x00\x0B\x00\x0C\x00\x30\x04" "Calc"),
-    WRITTEN(660, "pwpc"), WRITTEN(682, "\x02\x02ndrv\x00\x00\x00\x80"), WRITTEN(700, "\x00\x30\x03" "Drv"),
-    WRITTEN(708, "\x00\x00\x00\x03" "drv"),
-    WRITTEN(737, "\x00\x80\x00\x1C\x00\x46"), WRITTEN(743, "\x00\x01" "cfrg\x00\x00\x00\x12" "ndrv\x00\x00\x00\x1E"),
-    WRITTEN(761, "\x00\x00\xFF\xFF"), WRITTEN(773, "\x00\x80\x00\x00\x20\x00\x00\xB4"), WRITTEN(785, "\x02" "dr"),
-};
+enum { PLACES = 8 };
 
 static size_t compared, different;
 
@@ -198,6 +172,47 @@ static void find(const uint8_t *file)
     compare("no such number", pef_numbered_container(file, FILE_LENGTH, 1, &container), PEF_NO_CONTAINER);
 }
 
+/* A null pointer with a length of 0 is no bytes, in every call. What is filled comes with any bytes. */
+static void read_null(const uint8_t *file)
+{
+    const uint8_t *fork = file + 512;
+    struct pef_forks forks;
+    struct pef_resource_map map;
+    struct pef_resource resource;
+    struct pef_member rows[PLACES];
+    struct pef_bytes container;
+    size_t count = 7;
+    memset(&forks, 0xA5, sizeof forks);
+    memset(rows, 0xA5, sizeof rows);
+    memset(&container, 0xA5, sizeof container);
+    compare("pef_file_kind of null", pef_file_kind(NULL, 0), PEF_FILE_OTHER);
+    compare("pef_forks of null", pef_forks(NULL, 0, &forks), PEF_OK);
+    compare("its data fork", forks.data_fork.error, PEF_OK);
+    compare("the length of that", forks.data_fork.bytes.length, 0);
+    compare("its resource fork", forks.resource_fork.error, PEF_NOT_THERE);
+    compare("its name", forks.name.error, PEF_NOT_THERE);
+    compare("pef_resource_map of null", pef_resource_map(NULL, 0, &map), PEF_RESOURCE_MAP_OUTSIDE);
+    compare("pef_resources of null", pef_resources(NULL, 0, 0, NULL, 0, &count), PEF_RESOURCE_MAP_OUTSIDE);
+    compare("pef_find_resource of null", pef_find_resource(NULL, 0, PEF_FRAGMENT_TABLE_TYPE, 0, &resource), PEF_RESOURCE_MAP_OUTSIDE);
+    compare("pef_members of null", pef_members(NULL, 0, NULL, 0, 0, NULL, 0, &count), PEF_FRAGMENT_TABLE_CUT);
+    compare("a count that is left", count, 7);
+    compare("pef_resources to no places", pef_resources(fork, 290, 0, NULL, 0, &count), PEF_OK);
+    compare("the count of none", count, 0);
+    compare("pef_members, no data fork", pef_members(file + 532, 176, NULL, 0, 0, rows, PLACES, &count), PEF_OK);
+    compare("the count of members, no data fork", count, 3);
+    compare("member 1 container_error, no data fork", rows[1].container_error, PEF_FRAGMENT_OUTSIDE);
+    compare("member 2 container_error, no data fork", rows[2].container_error, PEF_NOT_THERE);
+    compare("pef_find_containers of null", pef_find_containers(NULL, 0, 0, NULL, 0, &count), PEF_OK);
+    compare("the count of containers in null", count, 0);
+    compare("pef_file_container of null", pef_file_container(NULL, 0, (const uint8_t *)"Calc", 4, &container), PEF_NO_CONTAINER);
+    compare("a fragment without a name", pef_file_container(file, FILE_LENGTH, NULL, 0, &container), PEF_NO_CONTAINER);
+    compare("pef_fork_container of null", pef_fork_container(NULL, 0, NULL, 0, (const uint8_t *)"Calc", 4, &container), PEF_RESOURCE_MAP_OUTSIDE);
+    compare("Calc, no data fork", pef_fork_container(NULL, 0, fork, 290, (const uint8_t *)"Calc", 4, &container), PEF_FRAGMENT_OUTSIDE);
+    compare("Drv, no data fork", pef_fork_container(NULL, 0, fork, 290, (const uint8_t *)"Drv", 3, &container), PEF_OK);
+    compare_bytes("Drv, no data fork", container, file, 712, 3);
+    compare("pef_numbered_container of null", pef_numbered_container(NULL, 0, 0, &container), PEF_NO_CONTAINER);
+}
+
 /* --- damage --- */
 
 static size_t tried, wrong;
@@ -292,12 +307,12 @@ int main(void)
     uint8_t *file = calloc(FILE_LENGTH, 1);
     if (file == NULL)
         return 1;
-    for (size_t i = 0; i < sizeof parts / sizeof parts[0]; i++)
-        memcpy(file + parts[i].at, parts[i].bytes, parts[i].length);
+    write_mac_file(file);
     read_forks(file);
     read_resources(file);
     read_members(file);
     find(file);
+    read_null(file);
     static const uint8_t turns[] = {0x01, 0x80, 0xFF};
     for (size_t at = 0; at < FILE_LENGTH; at++) {
         damage(file, at, at, 0);

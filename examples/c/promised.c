@@ -62,7 +62,13 @@ static void test_null_slices(void)
     expect(pef_partial_loader(NULL, 0, &loader) == PEF_TOO_SHORT, "pef_partial_loader of null");
     expect(pef_partial_libraries(NULL, 0, 0, NULL, 0, &count) == PEF_TOO_SHORT && count == 7, "pef_partial_libraries of null");
     expect(pef_script_place(NULL, 0, &place, &line) == PEF_OK && place.part == PEF_NOWHERE && line == 0, "pef_script_place of null");
+    expect(pef_partial_imports(NULL, 0, 0, NULL, 0, &count) == PEF_TOO_SHORT && count == 7, "pef_partial_imports of null");
+    expect(pef_partial_relocations(NULL, 0, 0, NULL, 0, &count) == PEF_TOO_SHORT && count == 7, "pef_partial_relocations of null");
+    expect(pef_partial_exports(NULL, 0, 0, NULL, 0, &count) == PEF_TOO_SHORT && count == 7, "pef_partial_exports of null");
     expect(pef_libraries(NULL, 0, 0, NULL, 0, &count) == PEF_TOO_SHORT, "pef_libraries of null");
+    expect(pef_imports(NULL, 0, 0, NULL, 0, &count) == PEF_TOO_SHORT, "pef_imports of null");
+    expect(pef_relocations(NULL, 0, 0, NULL, 0, &count) == PEF_TOO_SHORT, "pef_relocations of null");
+    expect(pef_exports(NULL, 0, 0, NULL, 0, &count) == PEF_TOO_SHORT, "pef_exports of null");
     expect(pef_fixups(NULL, 0, 0, 0, NULL, 0, &count) == PEF_TOO_SHORT, "pef_fixups of null");
     expect(pef_export_named(NULL, 0, NULL, 0, &number, &export) == PEF_TOO_SHORT, "pef_export_named of null");
     expect(pef_expand(NULL, 0, NULL, 0) == PEF_OK, "pef_expand of no bytes to none");
@@ -144,6 +150,49 @@ static void test_filled(int byte)
     expect(pef_export_named(container, container_length, (const uint8_t *)"x", 1, &number, &found) == PEF_OK && number == 0 && found.value == 4, "an export by its name");
 }
 
+/* The structs that a context fills come with the same byte in each place, and buffers of no bytes are null. */
+static void test_filled_by_context(int byte)
+{
+    struct pef_context context = PEF_NO_CONTEXT;
+    struct pef_names names;
+    struct pef_place place;
+    struct pef_fragment_section section;
+    struct pef_entries entries;
+    struct pef_target target;
+    struct pef_bytes name;
+    uint32_t connection = 7, address = 7;
+    size_t count = 7;
+    memset(&names, byte, sizeof names);
+    memset(&place, byte, sizeof place);
+    memset(&section, byte, sizeof section);
+    memset(&entries, byte, sizeof entries);
+    memset(&target, byte, sizeof target);
+    memset(&name, byte, sizeof name);
+    expect(pef_open(&context, 0x10000000) == PEF_OK && pef_add(&context, (const uint8_t *)"it", 2, container, container_length) == PEF_OK, "a context");
+    expect(pef_prepare_with_place(&context, (const uint8_t *)"no", 2, &connection, &names, &place) == PEF_ROOT_MISSING && connection == 7, "no fragment of a name");
+    expect(names.fragment.length + names.library.length + names.symbol.length == 0, "its names");
+    expect(place.part == PEF_NOWHERE && place.row == 0 && place.field == 0 && place.offset == PEF_NO_OFFSET, "its place");
+    expect(pef_prepare(&context, (const uint8_t *)"it", 2, &connection, &names) == PEF_OK && connection == 0, "pef_prepare");
+    expect(pef_fragment_name(&context, 0, &name) == PEF_OK && is_named(name, "it"), "the name of a fragment");
+    expect(pef_fragment_section(&context, 0, 0, 0, &section) == PEF_OK && section.address == 0x10000 && section.size == 16, "a section in memory");
+    expect(section.kind == PEF_KIND_DATA && section.share == PEF_SHARE_PROCESS, "its kind and its share");
+    expect(pef_fragment_entries(&context, 0, 0, &entries) == PEF_OK && entries.has_main && entries.main == 0x10000, "the main entry point");
+    expect(!entries.has_init && !entries.has_term && entries.init + entries.term == 0, "the other entry points");
+    expect(pef_import_target(&context, 0, 0, 0, &target) == PEF_OK && target.kind == PEF_TARGET_MISSING && target.fragment == 0, "a missing target");
+    expect(target.section + target.offset + target.address == 0, "where it is");
+    expect(pef_export_address(&context, 0, 0, 0, &address) == PEF_OK && address == 0x10004, "the address of an export");
+    expect(pef_fragment_symbol(&context, 0, 0, NULL, 0, &address) == PEF_NOT_THERE && address == 0x10004, "a symbol without a name");
+    expect(pef_fragments(&context, 0, NULL, 0, &count) == PEF_ROOM_TOO_SMALL && count == 1, "pef_fragments to null");
+    count = 7;
+    expect(pef_init_order(&context, 0, NULL, 0, &count) == PEF_ROOM_TOO_SMALL && count == 1, "pef_init_order to null");
+    count = 7;
+    expect(pef_new_fragments(&context, 0, NULL, 0, &count) == PEF_ROOM_TOO_SMALL && count == 1, "pef_new_fragments to null");
+    count = 7;
+    expect(pef_released_by(&context, 0, NULL, 0, &count) == PEF_ROOM_TOO_SMALL && count == 1, "pef_released_by to null");
+    expect(pef_fragment_bytes(&context, 0, 0, NULL, 0, &count) == PEF_ROOM_TOO_SMALL && count == 16, "pef_fragment_bytes to null");
+    pef_free(&context);
+}
+
 static void test_free(void)
 {
     struct pef_context context = PEF_NO_CONTEXT, zeros;
@@ -223,6 +272,9 @@ int main(int count, char **words)
         test_filled(0);
         test_filled(0xA5);
         test_filled(0xFF);
+        test_filled_by_context(0);
+        test_filled_by_context(0xA5);
+        test_filled_by_context(0xFF);
         test_free();
         open_once();
     }

@@ -6,6 +6,7 @@
  */
 #define _DEFAULT_SOURCE
 #include "file.h"
+#include "mac_file.h"
 
 #include <pthread.h>
 #include <string.h>
@@ -171,6 +172,50 @@ static void call_partial(void)
     answer = pef_partial_exports(it.at, it.length, 0, exports, PLACES, &count);
 }
 
+/* The calls that read a file of the classic Mac OS, on that of mac_file.h. */
+static void call_mac(void)
+{
+    static struct pef_forks forks;
+    static struct pef_resource_map map;
+    static struct pef_resource resources[PLACES];
+    static struct pef_member members[PLACES];
+    static uint8_t file[FILE_LENGTH];
+    write_mac_file(file);
+    answer = pef_file_kind(file, FILE_LENGTH);
+    answer = pef_forks(file, FILE_LENGTH, &forks);
+    answer = pef_resource_map(forks.resource_fork.bytes.at, forks.resource_fork.bytes.length, &map);
+    answer = pef_resources(forks.resource_fork.bytes.at, forks.resource_fork.bytes.length, 0, resources, PLACES, &count);
+    answer = pef_find_resource(forks.resource_fork.bytes.at, forks.resource_fork.bytes.length, PEF_FRAGMENT_TABLE_TYPE, 0, &resources[0]);
+    answer = pef_members(resources[0].bytes.at, resources[0].bytes.length, forks.data_fork.bytes.at, forks.data_fork.bytes.length, 0, members, PLACES, &count);
+    answer = pef_find_containers(file, FILE_LENGTH, 0, places, PEF_MAX_FRAGMENTS, &count);
+    answer = pef_fork_container(forks.data_fork.bytes.at, forks.data_fork.bytes.length, forks.resource_fork.bytes.at, forks.resource_fork.bytes.length, (const uint8_t *)"Calc", 4, &bytes);
+    answer = pef_numbered_container(file, FILE_LENGTH, 0, &bytes);
+    answer = pef_file_container(file, FILE_LENGTH, (const uint8_t *)"Drv", 3, &bytes);
+}
+
+static void call_export_named(void)
+{
+    static struct pef_export export;
+    answer = pef_export_named(it.at, it.length, (const uint8_t *)"x", 1, &count, &export);
+}
+
+/* Expands the packed bytes of docs/RULES.md. */
+static void call_expand(void)
+{
+    static const uint8_t packed[] = {0x62, 0x01, 0x02, 0xAA, 0xBB, 0x01, 0x02};
+    answer = pef_expand(packed, sizeof packed, room, 8);
+}
+
+static void call_add(void)
+{
+    answer = pef_add(&context, (const uint8_t *)"0", 1, it.at, it.length);
+}
+
+static void call_reserve(void)
+{
+    answer = pef_reserve(&context, 0x10000, 0x100);
+}
+
 static void call_prepare(void)
 {
     static struct pef_names names;
@@ -234,12 +279,15 @@ static void measure_container(const char *what)
     measure("pef_relocations", what, call_relocations);
     measure("pef_fixups", what, call_fixups);
     measure("pef_exports", what, call_exports);
+    measure("pef_export_named", what, call_export_named);
     measure("pef_findings", what, call_findings);
     measure("pef_more_notes", what, call_more_notes);
     measure("a call that reads damaged containers", what, call_partial);
     measure("pef_open", what, call_open);
-    if (pef_add(&context, (const uint8_t *)"0", 1, it.at, it.length) != PEF_OK)
+    measure("pef_add", what, call_add);
+    if (answer != PEF_OK)
         exit(2);
+    measure("pef_reserve", what, call_reserve);
     measure_context(what);
 }
 
@@ -321,6 +369,12 @@ int main(int words_count, char **words)
         measure_container(words[i]);
         free(read);
     }
+    measure("a call that reads files of the classic Mac OS", "mac_file.h", call_mac);
+    if (answer != PEF_OK)
+        exit(2);
+    measure("pef_expand", "packed bytes", call_expand);
+    if (answer != PEF_OK)
+        exit(2);
     measure_out_of_order();
     measure_chain();
     printf("at most %zu bytes of stack\n", most);
