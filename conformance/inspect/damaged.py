@@ -288,17 +288,116 @@ def programs() -> None:
     # 4 + 4 x 4,194,303 + 1 steps.
     case("one-step-too-many", "18C 8000 8000 8000 8000 B0FF FFFF", "error 36 TooManySteps reloc 0 halfword 4 at 00000194")
     # The memory of section 2 ends at 32. Word 28 is the last one.
-    case("word-past-the-end", "196 001D", "error 37 WordOutside reloc 0 halfword 6 at 00000198")
+    case("word-past-the-end", "196 001D", "error 37 WordOutside reloc 0 halfword 6 at 00000198 word 0000001D")
     # Seven words of section 1, whose image has 16 bytes and whose memory has 24.
     case("word-past-the-end-of-the-memory", "19A 4006", """
-error 37 WordOutside reloc 1 halfword 0 at 0000019A
+error 37 WordOutside reloc 1 halfword 0 at 0000019A word 00000018
 note 107 WordOutsideImage reloc 1 halfword 0 at 0000019A word 00000010""")
-    case("fourth-import", "18E 4A03", "error 38 ImportOutside reloc 0 halfword 1 at 0000018E")
-    case("fourth-section", "190 6603", "error 39 SectionOutside reloc 0 halfword 2 at 00000190")
-    case("fourth-section-for-the-next", "190 6203", "error 39 SectionOutside reloc 0 halfword 2 at 00000190")
+    case("fourth-import", "18E 4A03", "error 38 ImportOutside reloc 0 halfword 1 at 0000018E word 00000010")
+    case("fourth-section", "190 6603", "error 39 SectionOutside reloc 0 halfword 2 at 00000190 word 00000010")
+    case("fourth-section-for-the-next", "190 6203", "error 39 SectionOutside reloc 0 halfword 2 at 00000190 word 00000010")
     case("word-past-the-image", "19A 4005", "note 107 WordOutsideImage reloc 1 halfword 0 at 0000019A word 00000010")
     # Two instructions add to word 0. The note is at the program.
     case("word-twice", "196 0000", "note 114 WordRelocatedTwice reloc 0 halfword 0 at 0000018C word 00000000")
+
+
+# What is printed of the relocation headers, with the programs that these changes make. The numbers are those of docs/FORMATS.md,
+# 4.2: 4200 has the opcode 21 (hex) and the number 0, and B0FF FFFF the blocks 3 + 1 and the count 3FFFFF.
+SECOND = """
+00000180 reloc section 1 halfwords 1 first 14
+0000019A 4001 BySectC 2
+"""
+PROGRAMS = [
+    ("sound", "", """
+00000174 reloc section 2 halfwords 7 first 0
+0000018C 4000 BySectC 1
+0000018E 4A02 ImportRun 3
+00000190 6601 SmBySection 1
+00000192 8003 IncrPosition 4
+00000194 A000 001C SetPosition 28
+00000198 4200 BySectD 1
+""" + SECOND),
+    ("bad-opcode", "190 4C00", """
+00000174 reloc section 2 halfwords 7 first 0
+0000018C 4000 BySectC 1
+0000018E 4A02 ImportRun 3
+error 31 BadOpcode reloc 0 halfword 2 at 00000190
+""" + SECOND),
+    ("cut", "178 00000005", """
+00000174 reloc section 2 halfwords 5 first 0
+0000018C 4000 BySectC 1
+0000018E 4A02 ImportRun 3
+00000190 6601 SmBySection 1
+00000192 8003 IncrPosition 4
+error 32 CutInstruction reloc 0 halfword 4 at 00000194
+""" + SECOND),
+    ("repeat-too-far", "18E 9300", """
+00000174 reloc section 2 halfwords 7 first 0
+0000018C 4000 BySectC 1
+0000018E 9300 SmRepeat 4 1
+error 33 RepeatTooFar reloc 0 halfword 1 at 0000018E
+00000190 6601 SmBySection 1
+00000192 8003 IncrPosition 4
+00000194 A000 001C SetPosition 28
+00000198 4200 BySectD 1
+""" + SECOND),
+    ("too-many-steps", "174 0000 0001, 18C 8000 8001 8002 8FFF B0FF FFFF", """
+00000174 reloc section 0 halfwords 7 first 0
+note 101 ReservedNotZero reloc 0 reservedA at 00000176
+0000018C 8000 IncrPosition 1
+0000018E 8001 IncrPosition 2
+00000190 8002 IncrPosition 3
+00000192 8FFF IncrPosition 4096
+00000194 B0FF FFFF LgRepeat 4 4194303
+error 36 TooManySteps reloc 0 halfword 4 at 00000194
+00000198 4200 BySectD 1
+""" + SECOND),
+    ("no-instruction", "178 00000006, 18C 7FC0 4FFF 8001 4201 4400 4600, 19A 4800", """
+00000174 reloc section 2 halfwords 6 first 0
+error 31 BadOpcode reloc 0 halfword 0 at 0000018C
+00000180 reloc section 1 halfwords 1 first 14
+0000019A 4800 VTable8 1
+"""),
+    ("word-twice", "196 0000", """
+00000174 reloc section 2 halfwords 7 first 0
+0000018C 4000 BySectC 1
+note 114 WordRelocatedTwice reloc 0 halfword 0 at 0000018C word 00000000
+0000018E 4A02 ImportRun 3
+00000190 6601 SmBySection 1
+00000192 8003 IncrPosition 4
+00000194 A000 0000 SetPosition 0
+00000198 4200 BySectD 1
+""" + SECOND),
+    ("skips-and-sections", "18C 3FC1 0041 6201 6402 6001 B441 0002 9000", """
+00000174 reloc section 2 halfwords 7 first 0
+0000018C 3FC1 BySectDWithSkip 255 1
+error 37 WordOutside reloc 0 halfword 0 at 0000018C word 000003FC
+0000018E 0041 BySectDWithSkip 1 1
+00000190 6201 SmSetSectC 1
+00000192 6402 SmSetSectD 2
+00000194 6001 SmByImport 1
+00000196 B441 0002 LgSetSectC 65538
+00000180 reloc section 1 halfwords 1 first 14
+0000019A 9000 SmRepeat 1 1
+error 33 RepeatTooFar reloc 1 halfword 0 at 0000019A
+"""),
+    ("one-program-for-two-headers", "180 0001 0000 00000006 00000000, 174 0001, 178 00000006", """
+00000174 reloc section 1 halfwords 6 first 0
+0000018C 4000 BySectC 1
+0000018E 4A02 ImportRun 3
+00000190 6601 SmBySection 1
+note 107 WordOutsideImage reloc 0 halfword 2 at 00000190 word 00000010
+00000192 8003 IncrPosition 4
+00000194 A000 001C SetPosition 28
+00000180 reloc section 1 halfwords 6 first 0
+0000018C 4000 BySectC 1
+0000018E 4A02 ImportRun 3
+00000190 6601 SmBySection 1
+note 107 WordOutsideImage reloc 1 halfword 2 at 00000190 word 00000010
+00000192 8003 IncrPosition 4
+00000194 A000 001C SetPosition 28
+"""),
+]
 
 
 def several() -> None:
@@ -315,7 +414,7 @@ error 17 BadRelocSection reloc 1 sectionIndex at 00000180
 error 20 BadExportSection export 2 sectionIndex at 000001E0""")
     case("program-and-image", "D9 07, 190 6603, 19A 5000", """
 error 25 TooShort section 1 packed 10 at 000000DA
-error 39 SectionOutside reloc 0 halfword 2 at 00000190
+error 39 SectionOutside reloc 0 halfword 2 at 00000190 word 00000010
 error 31 BadOpcode reloc 1 halfword 0 at 0000019A""")
 
 
@@ -343,7 +442,8 @@ error 10 NoLoader container at 00000000""", cut=0x28)
 
 
 def limits() -> None:
-    # Five headers for one program of 16,777,213 steps. Four of them are below 67,108,864 steps together.
+    # Each limit is that of the page and the length of the file.
+    # Five headers for one program of 16,777,213 steps. Four of them have 67,108,852 steps together.
     name, count = "steps-of-five-programs", 5
     head = b"Joy!peffpwpc" + struct.pack(">IIIIIHHI", 1, 0, 0, 0, 0, 2, 1, 0)
     data = struct.pack(">iIIIIIBBBB", -1, 0, 4, 4, 4, 96, 1, 1, 4, 0)
@@ -356,28 +456,47 @@ def limits() -> None:
     # Relocation headers begin at 112 + 56, and the fifth 48 bytes later.
     CASES.append(Case(name, contents, ["note 110 ProgramsUnverified reloc 4 sectionIndex at 000000D8"], seconds=120))
 
-    # 65 headers for one program of 1,048,576 bytes: 64 have 67,108,864 bytes together.
-    name, count, size = "bytes-of-65-programs", 65, 0x100000
+    # 270 such containers: the first one uses the limit of the file up, but for 64,812 steps. The last bytes of each are its program.
+    count, size = 270, len(contents)
+    lines = []
+    for i in range(count):
+        if i < count - 1:
+            lines.append(f"note 109 TrailingBytes container at {size * (i + 1):08X} length {size * (count - 1 - i)}")
+        row = 4 if i == 0 else 0
+        lines.append(f"note 110 ProgramsUnverified reloc {row} sectionIndex at {size * i + 168 + 12 * row:08X}")
+    CASES.append(Case("steps-of-270-containers", contents * count, lines, tuple(size * i for i in range(count)), seconds=30))
+
+    # 66 headers for one program of 1,048,576 bytes: 64 have 67,108,864 bytes together, and the file is longer than the 65th.
+    name, count, size = "bytes-of-66-programs", 66, 0x100000
     own = struct.pack(">iIIIIIBBBB", -1, 0, 0, 0, 56 + 12 * count + size, 112, 4, 4, 4, 0)
     end = 56 + 12 * count + size
     tables = struct.pack(">iIiIiIIIIIIIII", -1, 0, -1, 0, -1, 0, 0, 0, count, 56 + 12 * count, end, end, 0, 0)
     rows = struct.pack(">HHII", 0, 0, size // 2, 0) * count
     contents = head + data + own + bytes(4) + bytes(12) + tables + rows + b"\x80\x00" * (size // 2)
-    # 112 + 56 + 12 x 64.
-    CASES.append(Case(name, contents, ["note 110 ProgramsUnverified reloc 64 sectionIndex at 000003A8"], seconds=120))
+    # 112 + 56 + 12 x 65.
+    CASES.append(Case(name, contents, ["note 110 ProgramsUnverified reloc 65 sectionIndex at 000003B4"], seconds=120))
 
-    # A program that adds to 1,048,577 words of a section without an image: one more than are compared.
-    name, size = "words-of-one-program", 4 * 1048577
+    # A program that adds to 1,048,747 words of a section without an image: one more than 1,048,576 and the length of the file.
+    name, size = "words-of-one-program", 4 * 1048747
     large = struct.pack(">iIIIIIBBBB", -1, 0, size, 0, 0, 0, 1, 1, 4, 0)
     own = struct.pack(">iIIIIIBBBB", -1, 0, 0, 0, 74, 96, 4, 4, 4, 0)
     tables = struct.pack(">iIiIiIIIIIIIII", -1, 0, -1, 0, -1, 0, 0, 0, 1, 68, 74, 74, 0, 0)
-    contents = head + large + own + tables + struct.pack(">HHII", 0, 0, 3, 0) + bytes.fromhex("4000 B010 0000")
-    CASES.append(Case(name, contents, """
-note 107 WordOutsideImage reloc 0 halfword 0 at 000000A4 word 00000000
-note 110 ProgramsUnverified reloc 0 sectionIndex at 00000098""".strip().splitlines(), seconds=120))
+    contents = head + large + own + tables + struct.pack(">HHII", 0, 0, 3, 0) + bytes.fromhex("4000 B010 00AA")
+    assert len(contents) == 170
+    outside = "note 107 WordOutsideImage reloc 0 halfword 0 at 000000A4 word 00000000"
+    unverified = "note 110 ProgramsUnverified reloc 0 sectionIndex at {:08X}"
+    CASES.append(Case(name, contents, [unverified.format(0x98), outside], seconds=120))
+    # One word fewer is as many.
+    CASES.append(Case("words-within-the-limit", contents[:-1] + b"\xA9", [outside], seconds=120))
+    # That program again in a second container: it has the same words, and 170 more are left than the first one used.
+    twice = contents[:-1] + b"\xA9"
+    CASES.append(Case("words-of-two-containers", twice * 2, [
+        "note 109 TrailingBytes container at 000000AA length 170", outside,
+        unverified.format(0xAA + 0x98), "note 107 WordOutsideImage reloc 0 halfword 0 at 0000014E word 00000000",
+    ], (0, 0xAA), seconds=120))
 
-    # 300 sections with the same packed bytes, 1,048,576 of them: 256 sections have 268,435,456 bytes together. The packed bytes are
-    # a block of 1,048,572 bytes. The headers end at 40 + 28 x 301, which is 2114 (hex).
+    # 300 sections with the same packed bytes, 1,048,576 of them: 256 sections have 268,435,456 bytes together, and the file is
+    # longer than the 257th. The packed bytes are a block of 1,048,572 bytes. The headers end at 40 + 28 x 301, which is 2114 (hex).
     name, count, size = "bytes-of-300-packed-sections", 300, 0x100000
     head = b"Joy!peffpwpc" + struct.pack(">IIIIIHHI", 1, 0, 0, 0, 0, count + 1, count, 0)
     packed = struct.pack(">iIIIIIBBBB", -1, 0, size - 4, size - 4, size, 0x2120, 2, 1, 4, 0) * count
@@ -386,11 +505,23 @@ note 110 ProgramsUnverified reloc 0 sectionIndex at 00000098""".strip().splitlin
     contents = head + packed + own + bytes(12) + b"\x20\xBF\xFF\x7C" + bytes(size - 4) + tables
     lines = []
     for i in range(count):
-        if i == 256:
-            lines.append("note 111 ImagesUnverified section 256 packedSize at 00001C38")
+        if i == 257:
+            lines.append("note 111 ImagesUnverified section 257 packedSize at 00001C54")
         if i > 0:
             lines.append(f"note 112 Overlap section {i} containerOffset at {60 + 28 * i:08X} length {size}")
     CASES.append(Case(name, contents, lines, seconds=120))
+
+    # Two such containers: the limit is for 258 sections of the first one, and not for one more of the second.
+    length, lines = len(contents), []
+    for begins, reached in (0, 258), (length, 0):
+        if begins == 0:
+            lines.append(f"note 109 TrailingBytes container at {length:08X} length {length}")
+        for i in range(count):
+            if i == reached:
+                lines.append(f"note 111 ImagesUnverified section {i} packedSize at {begins + 56 + 28 * i:08X}")
+            if i > 0:
+                lines.append(f"note 112 Overlap section {i} containerOffset at {begins + 60 + 28 * i:08X} length {size}")
+    CASES.append(Case("packed-sections-of-two-containers", contents * 2, lines, (0, length), seconds=120))
 
 
 def padded(contents: bytes) -> bytes:
@@ -505,6 +636,14 @@ error 85 AppleEntryOutside fork 0 at 0000001E
     inside("applesingle-resources-outside", changed(both, "2E 000003E8"), "applesingle", f"""
 error 85 AppleEntryOutside fork 1 at 0000002A
 {found}""", 0x32)
+    # With FFFF entries the row of entry 55 would go from 2AE to 2BA, and the file ends at 2B4. In the next file only the beginning of
+    # the second row is there, and nothing of the data fork.
+    inside("applesingle-rows-cut", changed(both, "18 FFFF"), "applesingle", f"""
+error 84 AppleEntryCut fork 55 at 000002AE
+{found}""", 0x32)
+    inside("applesingle-truncated-in-rows", both[:0x2A], "applesingle", """
+error 84 AppleEntryCut fork 1 at 00000026
+error 85 AppleEntryOutside fork 0 at 0000001E""")
     inside("appledouble", apple(0x00051607, [(2, resource_fork(b"cfrg", 0, fragments((b"Calc", 1, 0, 0))))]), "appledouble", "")
 
 
