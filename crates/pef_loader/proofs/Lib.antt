@@ -1,4 +1,5 @@
 mod BlockLemmas
+mod CutLemmas
 mod FindingLemmas
 pub mod Laws
 mod Loaders

@@ -1,3 +1,4 @@
+pub mod CutNames
 pub mod Export
 pub mod Faults
 pub mod Header

@@ -8,6 +8,7 @@ use Rattle.pef_hash.specs.Exports.{ExportTable, entry_of, name_of}
 use Rattle.pef_loader.specs.declared.partial.LibraryVersions.{LibraryVersions}
 use Rattle.pef_loader.specs.declared.fault.LoaderFault.{LoaderFault}
 use Rattle.pef_loader.specs.declared.fault.LoaderFault.TheVariants.{LoaderShort, BadTableOffset, BadExportTable}
+use Rattle.pef_loader.specs.CutNames.{CutName, cut_name}
 use Rattle.pef_loader.specs.Header.{header_of, imports_from, library_place, reloc_place, relocs_from, tables_end}
 use Rattle.pef_loader.specs.Library.{library_at, library_tests}
 use Rattle.pef_loader.specs.Import.{import_at, import_tests, owner_of}
@@ -46,6 +47,28 @@ library_row l i = if nat_lt i l.header.library_count then option_map (λ e. reco
   options = e.options;
 }) (library_at l.bytes i) else None
 
+-- the same with at most so many bytes of its name
+pub record CutLibraryRow : Type 0 where
+  pub name : Option CutName
+  pub current : ℕ
+  pub old_imp : ℕ
+  pub count : ℕ
+  pub first : ℕ
+  pub options : ℕ
+
+abbrev pub cut_library : ℕ → LibraryRow → CutLibraryRow
+cut_library most row = record {
+  name = option_map (cut_name most) row.name;
+  current = row.current;
+  old_imp = row.old_imp;
+  count = row.count;
+  first = row.first;
+  options = row.options;
+}
+
+abbrev pub cut_library_row : ℕ → Loaded → ℕ → Option CutLibraryRow
+cut_library_row most l i = option_map (cut_library most) (library_row l i)
+
 -- the versions of a library, and its reserved bytes: one (reservedA) and two (reservedB), at 21
 abbrev pub library_versions : Loaded → ℕ → Option LibraryVersions
 library_versions l i = if nat_lt i l.header.library_count then (do
@@ -68,6 +91,19 @@ import_row l j = if nat_lt j l.header.import_count then option_map (λ e. record
   weak = e.weak;
   library = owner_of l.bytes l.header j;
 }) (import_at l.bytes l.header j) else None
+
+-- the same with at most so many bytes of its name
+pub record CutImportRow : Type 0 where
+  pub name : Option CutName
+  pub class : ℕ
+  pub weak : Bool
+  pub library : Option ℕ
+
+abbrev pub cut_import : ℕ → ImportRow → CutImportRow
+cut_import most row = record { name = option_map (cut_name most) row.name; class = row.class; weak = row.weak; library = row.library }
+
+abbrev pub cut_import_row : ℕ → Loaded → ℕ → Option CutImportRow
+cut_import_row most l j = option_map (cut_import most) (import_row l j)
 
 -- a relocation header, whose program may be missing
 pub record RelocationRow : Type 0 where

@@ -7,6 +7,8 @@
 
 mod block;
 mod cursor;
+mod cut_name;
+mod cut_rows;
 mod export;
 mod fault;
 mod header;
@@ -24,6 +26,8 @@ mod reloc;
 mod tables;
 mod theorems;
 
+pub use cut_name::{CutName, Names};
+pub use cut_rows::{CutImport, CutLibrary};
 pub use fault::{LoaderFault, NamedRow};
 pub use header::{EntryKind, LoaderHeader};
 pub use import_reader::ImportReader;

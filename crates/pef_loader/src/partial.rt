@@ -39,7 +39,7 @@ use pef_words::Cut;
 pub struct PartialLoader<'a> {
     pub(crate) container: PartialContainer<'a>,
     pub(crate) tables: LoaderTables<'a>,
-    names_end: usize,
+    pub(crate) names_end: usize,
     in_order: bool,
     exports: Option<Exports<'a>>,
     ghost section: { tables.cut.bytes.now ≡ (partly container).loader },
@@ -444,8 +444,8 @@ impl<'a> PartialExport<'a> {
 /// for imports in rising order, as [`ImportReader`](crate::ImportReader) is.
 #[derive(Drop)]
 pub struct PartialImports<'a> {
-    loader: PartialLoader<'a>,
-    owners: Owners<'a>,
+    pub(crate) loader: PartialLoader<'a>,
+    pub(crate) owners: Owners<'a>,
     ghost same: { owners.tables ≡ loader.tables },
 }
 

@@ -1,0 +1,87 @@
+ghost use Rattle.std.specs.Prelude.{◌≡◌, ◌+◌, min, option_map};
+ghost use Rattle.pef_words.specs.Bytes.{name_at};
+ghost use Rattle.pef_loader.specs.CutNames.{cut_name};
+ghost use Rattle.pef_loader.specs.Kept.Names.{NamesEndAt, front_name};
+
+use crate::names::names_end;
+use pef_words::Cut;
+
+/// A name, or its first bytes if it is longer than was asked for.
+#[derive(Clone, Copy, Debug)]
+pub struct CutName<'a> {
+    pub bytes: &'a [u8],
+    /// Whether these are all of its bytes.
+    pub whole: bool,
+}
+
+/// The zero-ended names in some bytes. Their last zero byte was looked for, so that a name that passes a limit is known to
+/// end somewhere without a search for its end.
+#[derive(Clone, Copy, Debug)]
+pub struct Names<'a> {
+    cut: Cut<'a>,
+    end: usize,
+    ghost ended: { NamesEndAt cut.bytes.now end },
+}
+
+impl<'a> Names<'a> {
+    ghost use Rattle.pef_loader.specs.PartialViews.{cut_seen, names_bytes};
+
+    /// Returns the names in some bytes.
+    pub fn new(bytes: &'a [u8]) -> Names<'a>
+        ensures { names_bytes result ≡ bytes.entry.now }
+    {
+        let cut = Cut::new(bytes);
+        Names::ending(cut, names_end(cut))
+    }
+
+    /// Returns the names in some bytes, of which it is known where names end.
+    pub(crate) fn ending(cut: Cut<'a>, end: usize) -> Names<'a>
+        requires { NamesEndAt cut.bytes.now end }
+        ensures { names_bytes result ≡ cut.entry.bytes.now }
+    {
+        Names { cut, end }
+    }
+
+    /// Returns the zero-ended name at `from`, and only its first `most` bytes if it is longer. `None` if no zero byte follows.
+    /// It looks at no more than `most + 1` bytes.
+    pub fn name(&self, from: usize, most: usize) -> Option<CutName<'a>>
+        ensures { option_map cut_seen result ≡ option_map (cut_name most) (name_at (names_bytes self.now) from) }
+    {
+        if from >= self.end {
+            return None;
+        }
+        let rest = self.cut.len().saturating_sub(from);
+        let front = self.cut.part(from, looked_at(rest, most))?;
+        Some(CutName::front(front, most))
+    }
+}
+
+impl<'a> CutName<'a> {
+    ghost use Rattle.pef_loader.specs.PartialViews.{cut_seen};
+
+    /// Returns a name that begins with some bytes, which are its first `most + 1` if they have no zero byte.
+    fn front(front: Cut<'a>, most: usize) -> CutName<'a>
+        ensures { cut_seen result ≡ front_name most front.entry.bytes.now }
+    {
+        match front.name_at(0) {
+            Some(name) => CutName {
+                bytes: name,
+                whole: true,
+            },
+            None => {
+                let (first, _) = front.bytes().split_at(most.min(front.len()));
+                CutName {
+                    bytes: first,
+                    whole: false,
+                }
+            }
+        }
+    }
+}
+
+/// Returns how many of the bytes that are left are looked at for the end of a name.
+fn looked_at(left: usize, most: usize) -> usize
+    ensures { result ≡ min left (most + 1) }
+{
+    left.min(most.saturating_add(1))
+}

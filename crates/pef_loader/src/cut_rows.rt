@@ -1,0 +1,95 @@
+//! Rows of a loader section that may be damaged, with their names cut. Many rows can share one long name, so that a search for
+//! its end for each of them would take very long.
+ghost use Rattle.std.specs.Prelude.{◌≡◌, option_map};
+ghost use Rattle.pef_loader.specs.Import.{owner_of};
+ghost use Rattle.pef_loader.specs.Partial.{cut_import_row, cut_library_row};
+
+use crate::cut_name::{CutName, Names};
+use crate::import::read_import;
+use crate::library::read_library;
+use crate::partial::{PartialImports, PartialLoader};
+
+/// An imported library of a loader section that may be damaged, as [`PartialLibrary`](crate::PartialLibrary), with its name cut.
+#[derive(Clone, Copy, Debug)]
+pub struct CutLibrary<'a> {
+    pub name: Option<CutName<'a>>,
+    pub current: u32,
+    pub old_imp: u32,
+    pub count: u32,
+    pub first: u32,
+    pub options: u8,
+}
+
+/// An imported symbol of a loader section that may be damaged, as [`PartialImport`](crate::PartialImport), with its name cut.
+#[derive(Clone, Copy, Debug)]
+pub struct CutImport<'a> {
+    pub name: Option<CutName<'a>>,
+    pub class: u8,
+    pub weak: bool,
+    pub library: Option<usize>,
+}
+
+impl<'a> PartialLoader<'a> {
+    ghost use Rattle.pef_loader.specs.PartialViews.{cut_import_seen, cut_library_seen, names_bytes, partly_loaded};
+
+    /// Returns library `i`, with at most `most` bytes of its name, or `None` past the last one that is in the loader section.
+    /// It looks at no more than `most + 1` bytes of the name.
+    pub fn library_cut(&self, i: usize, most: usize) -> Option<CutLibrary<'a>>
+        ensures { option_map cut_library_seen result ≡ cut_library_row most (partly_loaded self.now) i }
+    {
+        if i >= self.tables.header.library_count as usize {
+            return None;
+        }
+        let library = read_library(self.tables.cut, i)?;
+        let at = self.tables.header.name(library.name_offset);
+        Some(CutLibrary {
+            name: self.names().name(at, most),
+            current: library.current,
+            old_imp: library.old_imp,
+            count: library.count,
+            first: library.first,
+            options: library.options,
+        })
+    }
+
+    /// Returns import `j`, whose library was looked for, with at most `most` bytes of its name, or `None` past the last one that
+    /// is in the loader section.
+    fn import_cut(&self, library: Option<usize>, j: usize, most: usize) -> Option<CutImport<'a>>
+        requires { library ≡ owner_of (partly_loaded self.now).bytes (partly_loaded self.now).header j }
+        ensures { option_map cut_import_seen result ≡ cut_import_row most (partly_loaded self.now) j }
+    {
+        if j >= self.tables.header.import_count as usize {
+            return None;
+        }
+        let import = read_import(self.tables, j)?;
+        let at = self.tables.header.name(import.name_offset);
+        Some(CutImport {
+            name: self.names().name(at, most),
+            class: import.class,
+            weak: import.weak,
+            library,
+        })
+    }
+
+    /// Returns the names of the loader section.
+    fn names(&self) -> Names<'a>
+        ensures { names_bytes result ≡ (partly_loaded self.now).bytes }
+    {
+        Names::ending(self.tables.cut, self.names_end)
+    }
+}
+
+impl<'a> PartialImports<'a> {
+    ghost use Rattle.pef_loader.specs.PartialViews.{cut_import_seen, partly_loaded};
+
+    /// Returns import `j`, with at most `most` bytes of its name, or `None` past the last one that is in the loader section. It
+    /// looks at no more than `most + 1` bytes of the name.
+    pub fn import_cut(&mut self, j: usize, most: usize) -> Option<CutImport<'a>>
+        ensures value { option_map cut_import_seen result ≡ cut_import_row most (partly_loaded self.old.loader) j }
+        ensures same { self.new.loader ≡ self.old.loader }
+    {
+        let loader = self.loader;
+        let library = self.owners.owner(j);
+        loader.import_cut(library, j, most)
+    }
+}
