@@ -20,7 +20,7 @@ use crate::import::{import_table, read_import};
 use crate::library::{library_table, read_library};
 use crate::names::names_end;
 use crate::owners::Owners;
-use crate::place::partial_place;
+use crate::place::{field_from, start_with};
 use crate::ranges::are_whole_and_in_order;
 use crate::reloc::{instructions, read_reloc, reloc_table};
 use crate::tables::entry_table;
@@ -354,7 +354,13 @@ impl<'a> PartialLoader<'a> {
     pub fn place(&self, part: Part, row: u32, field: usize) -> Place
         ensures { result ≡ place_of (partly self.now.container) part row field }
     {
-        partial_place(&self.container, part, row, field)
+        let start = start_with(&self.container, self.tables, part, row);
+        Place {
+            part,
+            row: row as usize,
+            field,
+            offset: field_from(start, field),
+        }
     }
 
     /// Returns the place of a fault.

@@ -1,7 +1,8 @@
-ghost use Rattle.std.specs.Prelude.{◌≡◌, ◌<◌, ◌^◌, IfSome};
+ghost use Rattle.std.specs.Prelude.{◌≡◌, ◌<◌, ◌^◌, IfSome, Some};
 ghost use Rattle.pef_format.specs.Places.{field_from};
 ghost use Rattle.pef_views.specs.PartialViews.{partly};
 ghost use Rattle.pef_views.specs.Views.{contained};
+ghost use Rattle.pef_loader.specs.Header.{header_of};
 ghost use Rattle.pef_loader.specs.Places.{export_start, loader_start, place_of, program_start, start_in, start_of};
 
 use crate::header::{LoaderHeader, LoaderTables, library_place, read_header};
@@ -127,6 +128,27 @@ pub(crate) fn start_in(loader: &[u8], part: Part, row: u32) -> Option<usize>
     ensures small { IfSome result (λ start. start < 2 ^ 40) }
 {
     let cut = Cut::new(loader);
+    match part {
+        Part::LoaderHeader => Some(0),
+        Part::Main => Some(MAIN_SECTION_AT),
+        Part::Init => Some(INIT_SECTION_AT),
+        Part::Term => Some(TERM_SECTION_AT),
+        Part::Library => Some(library_place(row as usize)),
+        Part::Import | Part::Relocation | Part::Export | Part::Program => {
+            let header = read_header(cut)?;
+            tables_start(LoaderTables { cut, header }, part, row)
+        }
+        Part::Header | Part::Section | Part::PackedData | Part::Line => None,
+    }
+}
+
+/// Returns where a part begins in a loader section whose header was read.
+#[tactic(auto, unfolding(crate::specs::Places::start_in))]
+fn tables_start(tables: LoaderTables<'_>, part: Part, row: u32) -> Option<usize>
+    requires { header_of tables.cut.bytes.now ≡ Some tables.header }
+    ensures value { result ≡ start_in tables.entry.cut.bytes.now part row }
+    ensures small { IfSome result (λ start. start < 2 ^ 40) }
+{
     let k = row as usize;
     match part {
         Part::LoaderHeader => Some(0),
@@ -134,17 +156,42 @@ pub(crate) fn start_in(loader: &[u8], part: Part, row: u32) -> Option<usize>
         Part::Init => Some(INIT_SECTION_AT),
         Part::Term => Some(TERM_SECTION_AT),
         Part::Library => Some(library_place(k)),
-        Part::Import => Some(read_header(cut)?.import(k)),
-        Part::Relocation => Some(read_header(cut)?.reloc(k)),
-        Part::Export => export_start(read_header(cut)?, row),
-        Part::Program => program_start(
-            LoaderTables {
-                cut,
-                header: read_header(cut)?,
-            },
-            row,
-        ),
+        Part::Import => Some(tables.header.import(k)),
+        Part::Relocation => Some(tables.header.reloc(k)),
+        Part::Export => export_start(tables.header, row),
+        Part::Program => program_start(tables, row),
         Part::Header | Part::Section | Part::PackedData | Part::Line => None,
+    }
+}
+
+/// Returns where a part begins in a container whose loader header was read.
+#[tactic(auto, unfolding(crate::specs::Places::start_of))]
+pub(crate) fn start_with(
+    container: &PartialContainer<'_>,
+    tables: LoaderTables<'_>,
+    part: Part,
+    row: u32,
+) -> Option<usize>
+    requires section { tables.cut.bytes.now ≡ (partly container.now).loader }
+    requires headed { header_of tables.cut.bytes.now ≡ Some tables.header }
+    ensures { result ≡ start_of (partly container.now) part row }
+{
+    match part {
+        Part::Header | Part::Section | Part::PackedData => partial_start(container, part, row),
+        Part::LoaderHeader
+        | Part::Library
+        | Part::Import
+        | Part::Main
+        | Part::Init
+        | Part::Term
+        | Part::Relocation
+        | Part::Export
+        | Part::Program
+        | Part::Line => {
+            let from = container.loader_offset()?;
+            let start = tables_start(tables, part, row)?;
+            Some(from + start)
+        }
     }
 }
 
