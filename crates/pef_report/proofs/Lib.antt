@@ -1,2 +1,3 @@
 mod Merging
+mod NameLemmas
 mod TokenLemmas

@@ -3,6 +3,7 @@
 use Rattle.std.specs.Prelude.{ℕ, ℤ, pos, negsuc, ◌==◌, Bool, false, List, [], ◌∷◌, ◌++◌, Option, None, Some, codes, decimal, if◌then◌else◌}
 use Rattle.std.specs.Str.{bytes_eq}
 use Rattle.pef_listing.specs.Listing.{magnitude, sign_text}
+use Rattle.pef_loader.specs.CutNames.{CutName}
 use Rattle.pef_loader.specs.declared.header.LoaderHeader.{LoaderHeader}
 use Rattle.pef_ports.specs.Text.{hex_text, word_text}
 use Rattle.pef_report.specs.Dates.{date_text}
@@ -12,14 +13,14 @@ use Rattle.pef_views.specs.declared.header.Header.{Header}
 use Rattle.pef_views.specs.declared.section.SectionHeader.{SectionHeader}
 
 -- a name, or `?` for one that can't be read
-abbrev pub name_or_mark : Option (List ℕ) → List ℕ
+abbrev pub name_or_mark : Option CutName → List ℕ
 name_or_mark None = codes "?"
-name_or_mark (Some name) = label_text name
+name_or_mark (Some name) = label_text name.bytes
 
 -- the name of a section as a listing has it: `-` for none, and a name `-` with its byte escaped
-abbrev pub section_label : Option (List ℕ) → List ℕ
+abbrev pub section_label : Option CutName → List ℕ
 section_label None = codes "-"
-section_label (Some name) = if bytes_eq name (codes "-") then codes "%2D" else label_text name
+section_label (Some name) = if bytes_eq name.bytes (codes "-") then codes "%2D" else label_text name.bytes
 
 -- -1, the section of an entry point that isn't there
 abbrev pub is_none_entry : ℤ → Bool
@@ -37,7 +38,7 @@ header_line at h =
     ++ decimal h.instantiated_section_count ++ codes "\n"
 
 -- section `number`: the words of a listing, and where its raw bytes begin in the file
-unfoldable pub section_line : ℕ → ℕ → SectionHeader → Option (List ℕ) → ℕ → List ℕ
+unfoldable pub section_line : ℕ → ℕ → SectionHeader → Option CutName → ℕ → List ℕ
 section_line at number h name raw =
     at_text at ++ codes " section " ++ decimal number ++ codes " kind " ++ decimal h.section_kind
     ++ codes " share " ++ decimal h.share_kind ++ codes " align " ++ decimal h.alignment ++ codes " total "
@@ -55,7 +56,7 @@ loader_line at h =
     ++ decimal h.export_count ++ codes "\n"
 
 -- a library: the words of a listing, its versions, and its imports
-unfoldable pub library_line : ℕ → Option (List ℕ) → ℕ → ℕ → ℕ → ℕ → ℕ → List ℕ
+unfoldable pub library_line : ℕ → Option CutName → ℕ → ℕ → ℕ → ℕ → ℕ → List ℕ
 library_line at name current old_imp options count first =
     at_text at ++ codes " library " ++ name_or_mark name ++ codes " current " ++ decimal current
     ++ codes " oldimp " ++ decimal old_imp ++ codes " options " ++ hex_text (options ∷ [])
@@ -63,7 +64,7 @@ library_line at name current old_imp options count first =
     ++ decimal count ++ codes " from " ++ decimal first ++ codes "\n"
 
 -- import `number`, with the name of its library
-unfoldable pub import_line : ℕ → ℕ → Option (List ℕ) → Option (List ℕ) → ℕ → Bool → List ℕ
+unfoldable pub import_line : ℕ → ℕ → Option CutName → Option CutName → ℕ → Bool → List ℕ
 import_line at number name library_name class weak =
     at_text at ++ codes " import " ++ decimal number ++ codes " " ++ name_or_mark name ++ codes " of "
     ++ name_or_mark library_name ++ codes " class " ++ decimal class
@@ -83,7 +84,7 @@ relocation_line at section count first =
     ++ codes " first " ++ decimal first ++ codes "\n"
 
 -- an export
-unfoldable pub export_line : ℕ → Option (List ℕ) → ℕ → ℤ → ℕ → List ℕ
+unfoldable pub export_line : ℕ → Option CutName → ℕ → ℤ → ℕ → List ℕ
 export_line at name class section value =
     at_text at ++ codes " export " ++ name_or_mark name ++ codes " class " ++ decimal class
     ++ codes " section " ++ sign_text section ++ decimal (magnitude section) ++ codes " value "

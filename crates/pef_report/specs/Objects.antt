@@ -1,18 +1,15 @@
 -- The objects of JSON of rows.
 use Rattle.std.specs.Prelude.{ℕ, ℤ, Bool, List, [], ◌++◌, Option, None, Some, codes, decimal, if◌then◌else◌}
 use Rattle.pef_listing.specs.Listing.{magnitude, sign_text}
+use Rattle.pef_loader.specs.CutNames.{CutName}
 use Rattle.pef_loader.specs.declared.header.LoaderHeader.{LoaderHeader}
 use Rattle.pef_report.specs.Dates.{date_text}
 use Rattle.pef_report.specs.Lines.{is_none_entry}
-use Rattle.pef_report.specs.Tokens.{member_text, tag_text}
+pub use Rattle.pef_report.specs.Tokens.{number_or_null}
+use Rattle.pef_report.specs.Tokens.{row_member, tag_text}
 use Rattle.pef_report.specs.Versions.{version_text}
 use Rattle.pef_views.specs.declared.header.Header.{Header}
 use Rattle.pef_views.specs.declared.section.SectionHeader.{SectionHeader}
-
--- a number, or `null`
-abbrev pub number_or_null : Option ℕ → List ℕ
-number_or_null None = codes "null"
-number_or_null (Some n) = decimal n
 
 -- what is between the members of a list
 abbrev pub separator : Bool → List ℕ
@@ -41,13 +38,13 @@ unfoldable pub header_object : Header → List ℕ
 header_object h = header_versions h ++ header_counts h
 
 -- a section
-unfoldable pub section_object : ℕ → SectionHeader → Option (List ℕ) → ℕ → List ℕ
+unfoldable pub section_object : ℕ → SectionHeader → Option CutName → ℕ → List ℕ
 section_object at h name raw =
     codes "{\"offset\":" ++ decimal at ++ codes ",\"kind\":" ++ decimal h.section_kind ++ codes ",\"share\":"
     ++ decimal h.share_kind ++ codes ",\"align\":" ++ decimal h.alignment ++ codes ",\"total\":"
     ++ decimal h.total_size ++ codes ",\"unpacked\":" ++ decimal h.unpacked_size ++ codes ",\"packed\":"
     ++ decimal h.packed_size ++ codes ",\"default\":" ++ decimal h.default_address ++ codes ",\"raw\":"
-    ++ decimal raw ++ codes "," ++ member_text (codes "name") name ++ codes "}"
+    ++ decimal raw ++ codes "," ++ row_member (codes "name") name ++ codes "}"
 
 -- a loader header
 unfoldable pub loader_object : ℕ → LoaderHeader → List ℕ
@@ -59,9 +56,9 @@ loader_object at h =
     ++ decimal h.export_power ++ codes ",\"exports\":" ++ decimal h.export_count ++ codes "}"
 
 -- a library: its name and its versions
-unfoldable pub library_versions : ℕ → Option (List ℕ) → ℕ → ℕ → List ℕ
+unfoldable pub library_versions : ℕ → Option CutName → ℕ → ℕ → List ℕ
 library_versions at name current old_imp =
-    codes "{\"offset\":" ++ decimal at ++ codes "," ++ member_text (codes "name") name ++ codes ",\"current\":"
+    codes "{\"offset\":" ++ decimal at ++ codes "," ++ row_member (codes "name") name ++ codes ",\"current\":"
     ++ decimal current ++ codes ",\"current_text\":\"" ++ version_text current ++ codes "\",\"oldimp\":"
     ++ decimal old_imp ++ codes ",\"oldimp_text\":\"" ++ version_text old_imp
 
@@ -71,14 +68,14 @@ library_imports options count first =
     codes "\",\"options\":" ++ decimal options ++ codes ",\"first\":" ++ decimal first ++ codes ",\"count\":"
     ++ decimal count ++ codes "}"
 
-unfoldable pub library_object : ℕ → Option (List ℕ) → ℕ → ℕ → ℕ → ℕ → ℕ → List ℕ
+unfoldable pub library_object : ℕ → Option CutName → ℕ → ℕ → ℕ → ℕ → ℕ → List ℕ
 library_object at name current old_imp options count first =
     library_versions at name current old_imp ++ library_imports options count first
 
 -- an import, with the number of its library
-unfoldable pub import_object : ℕ → Option (List ℕ) → Option ℕ → ℕ → Bool → List ℕ
+unfoldable pub import_object : ℕ → Option CutName → Option ℕ → ℕ → Bool → List ℕ
 import_object at name library class weak =
-    codes "{\"offset\":" ++ decimal at ++ codes "," ++ member_text (codes "name") name ++ codes ",\"library\":"
+    codes "{\"offset\":" ++ decimal at ++ codes "," ++ row_member (codes "name") name ++ codes ",\"library\":"
     ++ number_or_null library ++ codes ",\"class\":" ++ decimal class ++ codes ",\"weak\":" ++ truth weak
     ++ codes "}"
 
@@ -96,8 +93,8 @@ relocation_front at section count first =
     ++ decimal count ++ codes ",\"first\":" ++ decimal first ++ codes ",\"instructions\":"
 
 -- an export
-unfoldable pub export_object : ℕ → Option (List ℕ) → ℕ → ℤ → ℕ → List ℕ
+unfoldable pub export_object : ℕ → Option CutName → ℕ → ℤ → ℕ → List ℕ
 export_object at name class section value =
-    codes "{\"offset\":" ++ decimal at ++ codes "," ++ member_text (codes "name") name ++ codes ",\"class\":"
+    codes "{\"offset\":" ++ decimal at ++ codes "," ++ row_member (codes "name") name ++ codes ",\"class\":"
     ++ decimal class ++ codes ",\"section\":" ++ sign_text section ++ decimal (magnitude section)
     ++ codes ",\"value\":" ++ decimal value ++ codes "}"

@@ -9,12 +9,14 @@ use Rattle.pef_views.specs.Container.{Contained}
 use Rattle.pef_views.specs.Partial as views
 use Rattle.pef_loader.specs.Header.{imports_from, library_place, relocs_from}
 use Rattle.pef_loader.specs.Loader.{Loaded}
-use Rattle.pef_loader.specs.Partial.{LibraryRow, export_row, exports_in, import_row, library_row, partial_of, relocation_row, rows_in}
+use Rattle.pef_loader.specs.CutNames.{CutName}
+use Rattle.pef_loader.specs.Partial.{CutImportRow, CutLibraryRow, cut_import_row, cut_library_row, export_row, exports_in, partial_of, relocation_row, rows_in}
 use Rattle.pef_loader.specs.Places.{place_of}
 use Rattle.pef_report.specs.Findings.{file_offset}
 use Rattle.pef_report.specs.Lines.{entry_line, export_line, header_line, import_line, library_line, loader_line, relocation_line, section_line}
 use Rattle.pef_report.specs.Objects.{entry_object, export_object, header_object, import_object, library_object, loader_object, section_object}
 use Rattle.pef_report.specs.Programs.{Program, relocation_object}
+use Rattle.pef_report.specs.Tokens.{row_name}
 
 -- what can be read of some bytes of a file, from an offset on: a container, its loader section, and how many of its
 -- relocation programs are printed
@@ -61,6 +63,10 @@ row_count r kind = option_map_or (loader_count kind) r.loader 0
 abbrev pub row_offset : Readable → Contained → Part → ℕ → ℕ
 row_offset r c kind i = file_offset r.base (place_of c kind i 0).offset
 
+-- the offset in the file of an import, of a container that begins at `base`
+abbrev pub import_offset : ℕ → Contained → ℕ → ℕ
+import_offset base c j = file_offset base (place_of c part.Import j 0).offset
+
 -- the program of relocation header k, if it is printed and its bytes are there
 abbrev pub program_in : Readable → Contained → ℕ → Option (List ℕ) → Option Program
 program_in r c k bytes =
@@ -69,9 +75,16 @@ program_in r c k bytes =
 abbrev pub program_of : Readable → ℕ → Option Program
 program_of r k = r.container >>= (λ c. r.loader >>= (λ l. relocation_row l k >>= (λ row. program_in r c k row.program)))
 
+-- a library and an import, with their names as far as these are looked at
+abbrev pub library_shown : Loaded → ℕ → Option CutLibraryRow
+library_shown l i = cut_library_row 4096 l i
+
+abbrev pub import_shown : Loaded → ℕ → Option CutImportRow
+import_shown l j = cut_import_row 4096 l j
+
 -- the name of an import's library
-abbrev pub library_name : Loaded → Option ℕ → Option (List ℕ)
-library_name l library = library >>= (λ i. library_row l i >>= (λ (row : LibraryRow). row.name))
+abbrev pub library_name : Loaded → Option ℕ → Option CutName
+library_name l library = library >>= (λ i. library_shown l i >>= (λ (row : CutLibraryRow). row.name))
 
 -- the lines of rows
 
@@ -80,18 +93,18 @@ header_row_line r = r.container >>= (λ c. Some (header_line (row_offset r c par
 
 abbrev pub section_row_line : Readable → ℕ → Option (List ℕ)
 section_row_line r i = r.container >>= (λ c. views.header_in c i >>= (λ s.
-    Some (section_line (row_offset r c part.Section i) i s (views.name_of_section c i) (file_offset r.base (Some s.container_offset)))))
+    Some (section_line (row_offset r c part.Section i) i s (row_name (views.name_of_section c i)) (file_offset r.base (Some s.container_offset)))))
 
 abbrev pub loader_row_line : Readable → Option (List ℕ)
 loader_row_line r = r.container >>= (λ c. r.loader >>= (λ l.
     Some (loader_line (row_offset r c part.LoaderHeader 0) l.header)))
 
 abbrev pub library_row_line : Readable → ℕ → Option (List ℕ)
-library_row_line r i = r.container >>= (λ c. r.loader >>= (λ l. library_row l i >>= (λ row.
+library_row_line r i = r.container >>= (λ c. r.loader >>= (λ l. library_shown l i >>= (λ row.
     Some (library_line (row_offset r c part.Library i) row.name row.current row.old_imp row.options row.count row.first))))
 
 abbrev pub import_line_in : Loaded → ℕ → ℕ → Option (List ℕ)
-import_line_in l at j = import_row l j >>= (λ row. Some (import_line at j row.name (library_name l row.library) row.class row.weak))
+import_line_in l at j = import_shown l j >>= (λ row. Some (import_line at j row.name (library_name l row.library) row.class row.weak))
 
 abbrev pub import_row_line : Readable → ℕ → Option (List ℕ)
 import_row_line r j = r.container >>= (λ c. r.loader >>= (λ l. import_line_in l (row_offset r c part.Import j) j))
@@ -114,7 +127,7 @@ relocation_row_line r k = r.container >>= (λ c. r.loader >>= (λ l. relocation_
 
 abbrev pub export_row_line : Readable → ℕ → Option (List ℕ)
 export_row_line r i = r.container >>= (λ c. r.loader >>= (λ l. export_row l i >>= (λ row.
-    Some (export_line (row_offset r c part.Export i) row.name row.class row.section row.value))))
+    Some (export_line (row_offset r c part.Export i) (row_name row.name) row.class row.section row.value))))
 
 -- the line of row i of a kind, if it can be read
 unfoldable pub line_at : Readable → Part → ℕ → Option (List ℕ)
@@ -139,18 +152,18 @@ header_row_object r = r.container >>= (λ c. Some (header_object c.header))
 
 abbrev pub section_row_object : Readable → ℕ → Option (List ℕ)
 section_row_object r i = r.container >>= (λ c. views.header_in c i >>= (λ s.
-    Some (section_object (row_offset r c part.Section i) s (views.name_of_section c i) (file_offset r.base (Some s.container_offset)))))
+    Some (section_object (row_offset r c part.Section i) s (row_name (views.name_of_section c i)) (file_offset r.base (Some s.container_offset)))))
 
 abbrev pub loader_row_object : Readable → Option (List ℕ)
 loader_row_object r = r.container >>= (λ c. r.loader >>= (λ l.
     Some (loader_object (row_offset r c part.LoaderHeader 0) l.header)))
 
 abbrev pub library_row_object : Readable → ℕ → Option (List ℕ)
-library_row_object r i = r.container >>= (λ c. r.loader >>= (λ l. library_row l i >>= (λ row.
+library_row_object r i = r.container >>= (λ c. r.loader >>= (λ l. library_shown l i >>= (λ row.
     Some (library_object (row_offset r c part.Library i) row.name row.current row.old_imp row.options row.count row.first))))
 
 abbrev pub import_object_in : Loaded → ℕ → ℕ → Option (List ℕ)
-import_object_in l at j = import_row l j >>= (λ row. Some (import_object at row.name row.library row.class row.weak))
+import_object_in l at j = import_shown l j >>= (λ row. Some (import_object at row.name row.library row.class row.weak))
 
 abbrev pub import_row_object : Readable → ℕ → Option (List ℕ)
 import_row_object r j = r.container >>= (λ c. r.loader >>= (λ l. import_object_in l (row_offset r c part.Import j) j))
@@ -173,7 +186,7 @@ relocation_row_object r k = r.container >>= (λ c. r.loader >>= (λ l. relocatio
 
 abbrev pub export_row_object : Readable → ℕ → Option (List ℕ)
 export_row_object r i = r.container >>= (λ c. r.loader >>= (λ l. export_row l i >>= (λ row.
-    Some (export_object (row_offset r c part.Export i) row.name row.class row.section row.value))))
+    Some (export_object (row_offset r c part.Export i) (row_name row.name) row.class row.section row.value))))
 
 -- the object of row i of a kind, if it can be read
 unfoldable pub object_at : Readable → Part → ℕ → Option (List ℕ)

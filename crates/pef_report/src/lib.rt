@@ -39,5 +39,5 @@ pub use rows::{
     Detail, EntryRow, ExportRow, FindingRow, HeaderRow, ImportRow, InstrRow, LibraryRow, LoaderRow,
     ProgramRow, RelocationRow, SectionRow,
 };
-pub use theorems::each_finding_is_printed_once;
+pub use theorems::{each_finding_is_printed_once, names_are_printed};
 pub use tokens::{Token, print_tokens};

@@ -1,6 +1,6 @@
 //! The lines of the rows. The words of a line of a listing come first, after the offset.
-ghost use Rattle.std.specs.Prelude.{◌≡◌};
-ghost use Rattle.std.specs.Option.{option_copied};
+ghost use Rattle.std.specs.Prelude.{◌≡◌, option_map};
+ghost use Rattle.pef_loader.specs.PartialViews.{cut_seen};
 ghost use Rattle.pef_ports.specs.Sent.{Sends};
 ghost use Rattle.pef_report.specs.Tokens.{token_text};
 ghost use Rattle.pef_report.specs.Lines.{name_or_mark, section_label, entry_line, export_line, header_line, import_line, library_line, loader_line, relocation_line, section_line};
@@ -10,6 +10,7 @@ use crate::rows::{
     EntryRow, ExportRow, HeaderRow, ImportRow, LibraryRow, LoaderRow, RelocationRow, SectionRow,
 };
 use crate::tokens::{Token, print_tokens};
+use pef_loader::CutName;
 use pef_ports::{Decimal, Hex, Joined, Page, Printed, Sink, StreamFault, Verbatim};
 
 /// Prints the line of a container's header.
@@ -59,7 +60,7 @@ pub fn print_section<W: Sink>(
     page: &mut Page,
     row: SectionRow<'_>,
 ) -> Result<(), StreamFault>
-    ensures { Sends result (W.stream out.old) (W.stream out.new) page.old.items page.new.items (section_line row.entry.at row.entry.number row.entry.header (option_copied row.entry.name) row.entry.raw) }
+    ensures { Sends result (W.stream out.old) (W.stream out.new) page.old.items page.new.items (section_line row.entry.at row.entry.number row.entry.header (option_map cut_seen row.entry.name) row.entry.raw) }
 {
     let header = row.header;
     print_tokens(
@@ -93,13 +94,13 @@ pub fn print_section<W: Sink>(
 }
 
 /// Returns a section's name as it is listed.
-fn section_name<'a>(name: Option<&'a [u8]>) -> Token<'a>
-    ensures { token_text result ≡ section_label (option_copied name.entry) }
+fn section_name<'a>(name: Option<CutName<'a>>) -> Token<'a>
+    ensures { token_text result ≡ section_label (option_map cut_seen name.entry) }
 {
     match name {
         None => Token::Text(b"-"),
-        Some(name) if name == b"-".as_slice() => Token::Text(b"%2D"),
-        Some(name) => Token::Label(name),
+        Some(name) if name.bytes == b"-".as_slice() => Token::Text(b"%2D"),
+        Some(name) => Token::Label(name.bytes),
     }
 }
 
@@ -146,7 +147,7 @@ pub fn print_library<W: Sink>(
     page: &mut Page,
     row: LibraryRow<'_>,
 ) -> Result<(), StreamFault>
-    ensures { Sends result (W.stream out.old) (W.stream out.new) page.old.items page.new.items (library_line row.entry.at (option_copied row.entry.name) row.entry.current row.entry.old_imp row.entry.options row.entry.count row.entry.first) }
+    ensures { Sends result (W.stream out.old) (W.stream out.new) page.old.items page.new.items (library_line row.entry.at (option_map cut_seen row.entry.name) row.entry.current row.entry.old_imp row.entry.options row.entry.count row.entry.first) }
 {
     print_tokens(
         out,
@@ -181,7 +182,7 @@ pub fn print_import<W: Sink>(
     page: &mut Page,
     row: ImportRow<'_>,
 ) -> Result<(), StreamFault>
-    ensures { Sends result (W.stream out.old) (W.stream out.new) page.old.items page.new.items (import_line row.entry.at row.entry.number (option_copied row.entry.name) (option_copied row.entry.library_name) row.entry.class row.entry.weak) }
+    ensures { Sends result (W.stream out.old) (W.stream out.new) page.old.items page.new.items (import_line row.entry.at row.entry.number (option_map cut_seen row.entry.name) (option_map cut_seen row.entry.library_name) row.entry.class row.entry.weak) }
 {
     let class = u64::from(row.class);
     let start = Joined(Token::At(row.at), Verbatim(b" import "));
@@ -255,7 +256,7 @@ pub fn print_export<W: Sink>(
     page: &mut Page,
     row: ExportRow<'_>,
 ) -> Result<(), StreamFault>
-    ensures { Sends result (W.stream out.old) (W.stream out.new) page.old.items page.new.items (export_line row.entry.at (option_copied row.entry.name) row.entry.class row.entry.section row.entry.value) }
+    ensures { Sends result (W.stream out.old) (W.stream out.new) page.old.items page.new.items (export_line row.entry.at (option_map cut_seen row.entry.name) row.entry.class row.entry.section row.entry.value) }
 {
     let class = u64::from(row.class);
     let start = Joined(Token::At(row.at), Verbatim(b" export "));
@@ -267,11 +268,11 @@ pub fn print_export<W: Sink>(
 }
 
 /// Returns a name, or `?` for one that can't be read.
-fn name_or_mark<'a>(name: Option<&'a [u8]>) -> Token<'a>
-    ensures { token_text result ≡ name_or_mark (option_copied name.entry) }
+fn name_or_mark<'a>(name: Option<CutName<'a>>) -> Token<'a>
+    ensures { token_text result ≡ name_or_mark (option_map cut_seen name.entry) }
 {
     match name {
-        Some(name) => Token::Label(name),
+        Some(name) => Token::Label(name.bytes),
         None => Token::Text(b"?"),
     }
 }

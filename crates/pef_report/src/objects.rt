@@ -1,6 +1,6 @@
 //! The objects of JSON of the rows.
-ghost use Rattle.std.specs.Prelude.{◌≡◌};
-ghost use Rattle.std.specs.Option.{option_copied};
+ghost use Rattle.std.specs.Prelude.{◌≡◌, option_map};
+ghost use Rattle.pef_loader.specs.PartialViews.{cut_seen};
 ghost use Rattle.pef_ports.specs.Sent.{Sends};
 ghost use Rattle.pef_report.specs.Tokens.{token_text};
 ghost use Rattle.pef_report.specs.Objects.{truth, entry_object, export_object, header_counts, header_object, header_versions, import_object, library_imports, library_object, library_versions, loader_object, section_object};
@@ -91,7 +91,7 @@ pub fn print_section_object<W: Sink>(
     page: &mut Page,
     row: SectionRow<'_>,
 ) -> Result<(), StreamFault>
-    ensures { Sends result (W.stream out.old) (W.stream out.new) page.old.items page.new.items (section_object row.entry.at row.entry.header (option_copied row.entry.name) row.entry.raw) }
+    ensures { Sends result (W.stream out.old) (W.stream out.new) page.old.items page.new.items (section_object row.entry.at row.entry.header (option_map cut_seen row.entry.name) row.entry.raw) }
 {
     let header = row.header;
     print_tokens(
@@ -117,7 +117,7 @@ pub fn print_section_object<W: Sink>(
             Token::Text(b",\"raw\":"),
             Token::Number(row.raw),
             Token::Text(b","),
-            Token::Member(b"name", row.name),
+            Token::RowName(b"name", row.name),
             Token::Text(b"}"),
         ],
     )
@@ -166,7 +166,7 @@ pub fn print_library_object<W: Sink>(
     page: &mut Page,
     row: LibraryRow<'_>,
 ) -> Result<(), StreamFault>
-    ensures { Sends result (W.stream out.old) (W.stream out.new) page.old.items page.new.items (library_object row.entry.at (option_copied row.entry.name) row.entry.current row.entry.old_imp row.entry.options row.entry.count row.entry.first) }
+    ensures { Sends result (W.stream out.old) (W.stream out.new) page.old.items page.new.items (library_object row.entry.at (option_map cut_seen row.entry.name) row.entry.current row.entry.old_imp row.entry.options row.entry.count row.entry.first) }
 {
     print_library_versions(out, page, row)?;
     print_library_imports(out, page, row)
@@ -179,7 +179,7 @@ fn print_library_versions<W: Sink>(
     page: &mut Page,
     row: LibraryRow<'_>,
 ) -> Result<(), StreamFault>
-    ensures { Sends result (W.stream out.old) (W.stream out.new) page.old.items page.new.items (library_versions row.entry.at (option_copied row.entry.name) row.entry.current row.entry.old_imp) }
+    ensures { Sends result (W.stream out.old) (W.stream out.new) page.old.items page.new.items (library_versions row.entry.at (option_map cut_seen row.entry.name) row.entry.current row.entry.old_imp) }
 {
     print_tokens(
         out,
@@ -188,7 +188,7 @@ fn print_library_versions<W: Sink>(
             Token::Text(b"{\"offset\":"),
             Token::Number(row.at),
             Token::Text(b","),
-            Token::Member(b"name", row.name),
+            Token::RowName(b"name", row.name),
             Token::Text(b",\"current\":"),
             Token::Number(u64::from(row.current)),
             Token::Text(b",\"current_text\":\""),
@@ -232,7 +232,7 @@ pub fn print_import_object<W: Sink>(
     page: &mut Page,
     row: ImportRow<'_>,
 ) -> Result<(), StreamFault>
-    ensures { Sends result (W.stream out.old) (W.stream out.new) page.old.items page.new.items (import_object row.entry.at (option_copied row.entry.name) row.entry.library row.entry.class row.entry.weak) }
+    ensures { Sends result (W.stream out.old) (W.stream out.new) page.old.items page.new.items (import_object row.entry.at (option_map cut_seen row.entry.name) row.entry.library row.entry.class row.entry.weak) }
 {
     print_tokens(
         out,
@@ -241,7 +241,7 @@ pub fn print_import_object<W: Sink>(
             Token::Text(b"{\"offset\":"),
             Token::Number(row.at),
             Token::Text(b","),
-            Token::Member(b"name", row.name),
+            Token::RowName(b"name", row.name),
             Token::Text(b",\"library\":"),
             number_or_null(row.library),
             Token::Text(b",\"class\":"),
@@ -290,7 +290,7 @@ pub fn print_export_object<W: Sink>(
     page: &mut Page,
     row: ExportRow<'_>,
 ) -> Result<(), StreamFault>
-    ensures { Sends result (W.stream out.old) (W.stream out.new) page.old.items page.new.items (export_object row.entry.at (option_copied row.entry.name) row.entry.class row.entry.section row.entry.value) }
+    ensures { Sends result (W.stream out.old) (W.stream out.new) page.old.items page.new.items (export_object row.entry.at (option_map cut_seen row.entry.name) row.entry.class row.entry.section row.entry.value) }
 {
     print_tokens(
         out,
@@ -299,7 +299,7 @@ pub fn print_export_object<W: Sink>(
             Token::Text(b"{\"offset\":"),
             Token::Number(row.at),
             Token::Text(b","),
-            Token::Member(b"name", row.name),
+            Token::RowName(b"name", row.name),
             Token::Text(b",\"class\":"),
             Token::Number(u64::from(row.class)),
             Token::Text(b",\"section\":"),

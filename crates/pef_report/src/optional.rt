@@ -2,9 +2,8 @@
 ghost use Rattle.std.specs.Prelude.{◌≡◌, decimal};
 ghost use Rattle.pef_listing.specs.Listing.{magnitude, sign_text};
 ghost use Rattle.pef_report.specs.Lines.{is_none_entry};
-ghost use Rattle.pef_report.specs.Objects.{number_or_null};
 ghost use Rattle.pef_report.specs.Findings.{shown};
-ghost use Rattle.pef_report.specs.Tokens.{token_text};
+ghost use Rattle.pef_report.specs.Tokens.{number_or_null, token_text};
 
 use crate::tokens::Token;
 use pef_format::layout::NO_SECTION;

@@ -1,21 +1,26 @@
 //! The rows of a container that may be damaged, as far as each can be read.
-ghost use Rattle.std.specs.Prelude.{◌≡◌, option_map};
-ghost use Rattle.std.specs.Option.{option_copied, option_map_or};
+ghost use Rattle.std.specs.Prelude.{◌≡◌, ◌<◌, ◌^◌, Some, option_map};
+ghost use Rattle.std.specs.Option.{ForSome, option_copied, option_map_or};
+ghost use Rattle.pef_views.specs.Container.{name_in};
+ghost use Rattle.pef_views.specs.Header.{names_from};
 ghost use Rattle.pef_views.specs.PartialViews.{partly};
-ghost use Rattle.pef_loader.specs.PartialViews.{partly_loaded};
+ghost use Rattle.pef_loader.specs.CutNames.{cut_name};
+ghost use Rattle.pef_loader.specs.PartialViews.{cut_seen, names_bytes, partly_loaded};
 ghost use Rattle.pef_loader.specs.Places.{place_of};
 ghost use Rattle.pef_report.specs.Findings.{file_offset};
 ghost use Rattle.pef_report.specs.RowViews.{line_of, object_of, program_seen};
-ghost use Rattle.pef_report.specs.Readable.{export_row_line, export_row_object, header_row_line, header_row_object, import_line_in, import_object_in, import_row_line, import_row_object, init_row_line, init_row_object, library_name, library_row_line, library_row_object, line_at, loader_count, loader_in, loader_row_line, loader_row_object, main_row_line, main_row_object, object_at, program_in, program_of, readable_at, relocation_row_line, relocation_row_object, row_count, section_row_line, section_row_object, sections_in, term_row_line, term_row_object};
+ghost use Rattle.pef_report.specs.Readable.{export_row_line, export_row_object, header_row_line, header_row_object, import_line_in, import_object_in, import_offset, import_row_line, import_row_object, init_row_line, init_row_object, library_name, library_row_line, library_row_object, line_at, loader_count, loader_in, loader_row_line, loader_row_object, main_row_line, main_row_object, object_at, program_in, program_of, readable_at, relocation_row_line, relocation_row_object, row_count, section_row_line, section_row_object, sections_in, term_row_line, term_row_object};
+ghost use Rattle.pef_report.specs.Tokens.{row_name};
 
 use crate::finding::offset_in_file;
 use crate::rows::{
     EntryRow, ExportRow, HeaderRow, ImportRow, LibraryRow, LoaderRow, ProgramRow, RelocationRow,
     SectionRow,
 };
+use crate::tokens::MAX_NAME_LENGTH;
 use pef_format::Part;
 use pef_format::layout::{CONTAINER_HEADER_SIZE, SECTION_HEADER_SIZE};
-use pef_loader::{PartialImports, PartialLoader, partial_place};
+use pef_loader::{CutName, Names, PartialImports, PartialLoader, partial_place};
 use pef_views::PartialContainer;
 
 /// A row of a container.
@@ -38,8 +43,12 @@ pub(crate) enum Row<'a> {
 pub(crate) struct Reading<'a> {
     base: u64,
     container: Option<PartialContainer<'a>>,
+    /// The names of sections are among those of the whole container.
+    names: Names<'a>,
     loader: Option<LoaderReading<'a>>,
     programs: u32,
+    ghost named: { ForSome container (λ c. names_bytes names ≡ (partly c).bytes) },
+    ghost placed: { ForSome loader (λ r. container ≡ Some r.loader.container) },
 }
 
 /// A loader section, and the reader of its imports.
@@ -47,7 +56,16 @@ pub(crate) struct Reading<'a> {
 struct LoaderReading<'a> {
     loader: PartialLoader<'a>,
     imports: PartialImports<'a>,
+    owner: Owner<'a>,
     ghost same: { imports.loader ≡ loader },
+    ghost owned: { option_map cut_seen owner.name ≡ library_name (partly_loaded loader) (Some owner.library) },
+}
+
+/// The library of the last import that was read, and its name. Most imports have that of the one before.
+#[derive(Clone, Copy)]
+struct Owner<'a> {
+    library: usize,
+    name: Option<CutName<'a>>,
 }
 
 impl<'a> Reading<'a> {
@@ -63,12 +81,14 @@ impl<'a> Reading<'a> {
             Ok(container) => Reading {
                 base,
                 container: Some(container),
+                names: Names::new(container.bytes()),
                 loader: LoaderReading::new(&container),
                 programs,
             },
             Err(_) => Reading {
                 base,
                 container: None,
+                names: Names::new(&[]),
                 loader: None,
                 programs,
             },
@@ -157,6 +177,21 @@ impl<'a> Reading<'a> {
         file_offset(self.base, place.offset)
     }
 
+    /// Returns the offset in the file of a row of the loader section. Its header isn't read again.
+    fn loader_at(
+        &self,
+        container: &PartialContainer<'_>,
+        reading: &LoaderReading<'_>,
+        part: Part,
+        i: u32,
+    ) -> u64
+        requires { reading.now.loader.container ≡ container.now }
+        ensures { result ≡ file_offset self.now.base (place_of (partly container.now) part i 0).offset }
+    {
+        let place = reading.loader.place(part, i, 0);
+        file_offset(self.base, place.offset)
+    }
+
     fn header_row(&self) -> Option<Row<'a>>
         ensures line { option_map line_of result ≡ header_row_line (readable self.now) }
         ensures object { option_map object_of result ≡ header_row_object (readable self.now) }
@@ -178,9 +213,19 @@ impl<'a> Reading<'a> {
             at: self.at(container, Part::Section, i),
             number: i as u64,
             header,
-            name: container.section_name(i as usize),
+            name: self.section_name(container, header.name_offset),
             raw: file_offset(self.base, Some(header.container_offset as usize)),
         }))
+    }
+
+    /// Returns the name of a section, as far as it is looked at.
+    fn section_name(&self, container: &PartialContainer<'_>, offset: i32) -> Option<CutName<'a>>
+        requires { names_bytes self.now.names ≡ (partly container.now).bytes }
+        ensures { option_map cut_seen result ≡ row_name (name_in (partly container.now) offset) }
+    {
+        let offset = usize::try_from(offset).ok()?;
+        self.names
+            .name(names_start(container) + offset, MAX_NAME_LENGTH)
     }
 
     fn loader_row(&self) -> Option<Row<'a>>
@@ -201,9 +246,9 @@ impl<'a> Reading<'a> {
     {
         let container = self.container.as_ref()?;
         let reading = self.loader.as_ref()?;
-        let library = reading.loader.library(i as usize)?;
+        let library = reading.loader.library_cut(i as usize, MAX_NAME_LENGTH)?;
         Some(Row::Library(LibraryRow {
-            at: self.at(container, Part::Library, i),
+            at: self.loader_at(container, reading, Part::Library, i),
             name: library.name,
             current: library.current,
             old_imp: library.old_imp,
@@ -218,10 +263,10 @@ impl<'a> Reading<'a> {
         ensures object { option_map object_of result ≡ import_row_object (readable self.old) j }
         ensures same { readable self.new ≡ readable self.old }
     {
-        let container = self.container?;
-        let at = self.at(&container, Part::Import, j);
+        let base = self.base;
+        self.container?;
         match &mut self.loader {
-            Some(reading) => reading.import_row(at, j),
+            Some(reading) => reading.import_row(base, j),
             None => None,
         }
     }
@@ -234,7 +279,7 @@ impl<'a> Reading<'a> {
         let reading = self.loader.as_ref()?;
         let header = reading.loader.header();
         Some(Row::Main(EntryRow {
-            at: self.at(container, Part::Main, 0),
+            at: self.loader_at(container, reading, Part::Main, 0),
             section: header.main_section,
             offset: header.main_offset,
         }))
@@ -248,7 +293,7 @@ impl<'a> Reading<'a> {
         let reading = self.loader.as_ref()?;
         let header = reading.loader.header();
         Some(Row::Init(EntryRow {
-            at: self.at(container, Part::Init, 0),
+            at: self.loader_at(container, reading, Part::Init, 0),
             section: header.init_section,
             offset: header.init_offset,
         }))
@@ -262,7 +307,7 @@ impl<'a> Reading<'a> {
         let reading = self.loader.as_ref()?;
         let header = reading.loader.header();
         Some(Row::Term(EntryRow {
-            at: self.at(container, Part::Term, 0),
+            at: self.loader_at(container, reading, Part::Term, 0),
             section: header.term_section,
             offset: header.term_offset,
         }))
@@ -276,11 +321,11 @@ impl<'a> Reading<'a> {
         let reading = self.loader.as_ref()?;
         let relocation = reading.loader.relocation(k as usize)?;
         Some(Row::Relocation(RelocationRow {
-            at: self.at(container, Part::Relocation, k),
+            at: self.loader_at(container, reading, Part::Relocation, k),
             section: relocation.section,
             count: relocation.count,
             first: relocation.first,
-            program: self.program_in(container, k, relocation.program),
+            program: self.program_in(container, reading, k, relocation.program),
         }))
     }
 
@@ -291,22 +336,24 @@ impl<'a> Reading<'a> {
         let container = self.container.as_ref()?;
         let reading = self.loader.as_ref()?;
         let relocation = reading.loader.relocation(k as usize)?;
-        self.program_in(container, k, relocation.program)
+        self.program_in(container, reading, k, relocation.program)
     }
 
     /// Returns the program of relocation header `k` with these bytes.
     fn program_in(
         &self,
         container: &PartialContainer<'_>,
+        reading: &LoaderReading<'_>,
         k: u32,
         bytes: Option<&'a [u8]>,
     ) -> Option<ProgramRow<'a>>
+        requires { reading.now.loader.container ≡ container.now }
         ensures { option_map program_seen result ≡ program_in (readable self.now) (partly container.now) k (option_copied bytes.entry) }
     {
         if k >= self.programs {
             return None;
         }
-        let at = self.at(container, Part::Program, k);
+        let at = self.loader_at(container, reading, Part::Program, k);
         match bytes {
             Some(bytes) => Some(ProgramRow { at, bytes }),
             None => None,
@@ -321,8 +368,8 @@ impl<'a> Reading<'a> {
         let reading = self.loader.as_ref()?;
         let export = reading.loader.export(i as usize)?;
         Some(Row::Export(ExportRow {
-            at: self.at(container, Part::Export, i),
-            name: export.name,
+            at: self.loader_at(container, reading, Part::Export, i),
+            name: export_name(export.name),
             class: export.class,
             section: export.section,
             value: export.value,
@@ -333,33 +380,61 @@ impl<'a> Reading<'a> {
 impl<'a> LoaderReading<'a> {
     /// Reads the loader section of a container.
     fn new(container: &PartialContainer<'a>) -> Option<LoaderReading<'a>>
-        ensures { option_map (λ r. partly_loaded r.loader) result ≡ loader_in (partly container.now) }
+        ensures loader { option_map (λ r. partly_loaded r.loader) result ≡ loader_in (partly container.now) }
+        ensures container { ForSome result (λ r. r.loader.container ≡ container.now) }
     {
         match PartialLoader::read(container) {
             Ok(loader) => Some(LoaderReading {
                 loader,
                 imports: PartialImports::new(loader),
+                owner: Owner::new(&loader, 0),
             }),
             Err(_) => None,
         }
     }
 
-    /// Returns import `j`, which is at the offset `at` of the file.
-    fn import_row(&mut self, at: u64, j: u32) -> Option<Row<'a>>
-        ensures line { option_map line_of result ≡ import_line_in (partly_loaded self.old.loader) at j }
-        ensures object { option_map object_of result ≡ import_object_in (partly_loaded self.old.loader) at j }
+    /// Returns import `j` of a container that begins at the offset `base` of its file.
+    fn import_row(&mut self, base: u64, j: u32) -> Option<Row<'a>>
+        ensures line { option_map line_of result ≡ import_line_in (partly_loaded self.old.loader) (import_offset base (partly self.old.loader.container) j) j }
+        ensures object { option_map object_of result ≡ import_object_in (partly_loaded self.old.loader) (import_offset base (partly self.old.loader.container) j) j }
         ensures same { self.new.loader ≡ self.old.loader }
     {
-        let import = self.imports.import(j as usize)?;
+        let import = self.imports.import_cut(j as usize, MAX_NAME_LENGTH)?;
+        let place = self.loader.place(Part::Import, j, 0);
         Some(Row::Import(ImportRow {
-            at,
+            at: file_offset(base, place.offset),
             number: j as u64,
             name: import.name,
             class: import.class,
             weak: import.weak,
             library: library_number(import.library),
-            library_name: library_name(&self.loader, import.library),
+            library_name: self.library_name(import.library),
         }))
+    }
+
+    /// Returns the name of an import's library, and keeps it for the next import.
+    fn library_name(&mut self, library: Option<usize>) -> Option<CutName<'a>>
+        ensures value { option_map cut_seen result ≡ library_name (partly_loaded self.old.loader) library }
+        ensures same { self.new.loader ≡ self.old.loader }
+    {
+        let library = library?;
+        if self.owner.library != library {
+            self.owner = Owner::new(&self.loader, library);
+        }
+        self.owner.name
+    }
+}
+
+impl<'a> Owner<'a> {
+    /// Reads the name of a library.
+    fn new(loader: &PartialLoader<'a>, library: usize) -> Owner<'a>
+        ensures library { result.library ≡ library }
+        ensures name { option_map cut_seen result.name ≡ library_name (partly_loaded loader.now) (Some library) }
+    {
+        Owner {
+            library,
+            name: library_name(loader, library),
+        }
     }
 }
 
@@ -373,6 +448,14 @@ fn sections_in(container: &PartialContainer<'_>) -> u32
         .saturating_sub(CONTAINER_HEADER_SIZE);
     let count = usize::from(container.header().section_count);
     (room / SECTION_HEADER_SIZE).min(count) as u32
+}
+
+/// Returns where the section name table begins.
+fn names_start(container: &PartialContainer<'_>) -> usize
+    ensures value { result ≡ names_from (partly container.now).header }
+    ensures small { result < 2 ^ 32 }
+{
+    CONTAINER_HEADER_SIZE + SECTION_HEADER_SIZE * usize::from(container.header().section_count)
 }
 
 /// Returns how many rows of a kind can be read of a loader section.
@@ -399,11 +482,36 @@ fn library_number(library: Option<usize>) -> Option<u64>
     }
 }
 
-/// Returns the name of an import's library.
-fn library_name<'a>(loader: &PartialLoader<'a>, library: Option<usize>) -> Option<&'a [u8]>
-    ensures { option_copied result ≡ library_name (partly_loaded loader.now) library }
+/// Returns the name of a library.
+fn library_name<'a>(loader: &PartialLoader<'a>, library: usize) -> Option<CutName<'a>>
+    ensures { option_map cut_seen result ≡ library_name (partly_loaded loader.now) (Some library) }
 {
-    loader.library(library?)?.name
+    loader.library_cut(library, MAX_NAME_LENGTH)?.name
+}
+
+/// Returns the name of an export as the other names are shown.
+fn export_name<'a>(name: Option<&'a [u8]>) -> Option<CutName<'a>>
+    ensures { option_map cut_seen result ≡ row_name (option_copied name.entry) }
+{
+    Some(cut_name(name?))
+}
+
+/// Returns a name as far as it is looked at.
+#[tactic(auto, unfolding(pef_loader::specs::CutNames::cut_name))]
+fn cut_name(name: &[u8]) -> CutName<'_>
+    ensures { cut_seen result ≡ cut_name 4096 name.now }
+{
+    if name.len() <= MAX_NAME_LENGTH {
+        return CutName {
+            bytes: name,
+            whole: true,
+        };
+    }
+    let (bytes, _) = name.split_at(MAX_NAME_LENGTH);
+    CutName {
+        bytes,
+        whole: false,
+    }
 }
 
 /// Returns an offset in a container as one in the file, or that of the container if there is none.

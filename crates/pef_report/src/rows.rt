@@ -1,6 +1,7 @@
-//! The rows of a container as they are printed. `at` is the offset in the file of each.
+//! The rows of a container as they are printed. `at` is the offset in the file of each. Their names are cut, since many rows
+//! can share one long name.
 use pef_format::Place;
-use pef_loader::LoaderHeader;
+use pef_loader::{CutName, LoaderHeader};
 use pef_reloc::Instr;
 use pef_views::{Header, SectionHeader};
 
@@ -18,7 +19,7 @@ pub struct SectionRow<'a> {
     pub at: u64,
     pub number: u64,
     pub header: SectionHeader,
-    pub name: Option<&'a [u8]>,
+    pub name: Option<CutName<'a>>,
     /// The offset in the file of its raw bytes.
     pub raw: u64,
 }
@@ -34,7 +35,7 @@ pub struct LoaderRow {
 #[derive(Clone, Copy)]
 pub struct LibraryRow<'a> {
     pub at: u64,
-    pub name: Option<&'a [u8]>,
+    pub name: Option<CutName<'a>>,
     pub current: u32,
     pub old_imp: u32,
     pub options: u8,
@@ -47,12 +48,12 @@ pub struct LibraryRow<'a> {
 pub struct ImportRow<'a> {
     pub at: u64,
     pub number: u64,
-    pub name: Option<&'a [u8]>,
+    pub name: Option<CutName<'a>>,
     pub class: u8,
     pub weak: bool,
     /// The number of its library, and the library's name.
     pub library: Option<u64>,
-    pub library_name: Option<&'a [u8]>,
+    pub library_name: Option<CutName<'a>>,
 }
 
 /// An entry point.
@@ -92,7 +93,7 @@ pub struct InstrRow {
 #[derive(Clone, Copy)]
 pub struct ExportRow<'a> {
     pub at: u64,
-    pub name: Option<&'a [u8]>,
+    pub name: Option<CutName<'a>>,
     pub class: u8,
     pub section: i32,
     pub value: u32,

@@ -1,18 +1,23 @@
 ghost use Rattle.std.specs.Prelude.{◌≡◌, ◌≤◌, length};
 ghost use Rattle.pef_ports.specs.Sent.{Sends};
 ghost use Rattle.pef_ports.specs.Text.{hex_text};
-ghost use Rattle.pef_report.specs.Tokens.{at_text, cut_member, hex_bytes, hex_member, label_member, label_text, length_member, name_member, path_byte, path_text, tag_text, token_text, tokens_text};
+ghost use Rattle.pef_loader.specs.PartialViews.{cut_seen};
+ghost use Rattle.pef_report.specs.Tokens.{at_text, cut_member, hex_bytes, hex_member, label_member, label_text, length_member, name_length, name_member, no_name, path_byte, path_text, tag_text, token_text, tokens_text};
 
 use crate::dates::print_date;
 use crate::strings::{is_ascii, print_string};
 use crate::versions::print_version;
+use pef_loader::CutName;
 use pef_ports::{
     Decimal, Escaped, Hex, Joined, Page, Piece, Printed, Sink, StreamFault, Verbatim, print_name,
     print_pieces, send,
 };
 
-/// How many bytes of the name of a row are printed. Many rows can share one long name.
+/// How many bytes of the name of a row are printed.
 const MAX_NAME_BYTES: usize = 1024;
+
+/// How many bytes a name of a row has at most if its length is found out. Many rows can share one long name.
+pub(crate) const MAX_NAME_LENGTH: usize = 4096;
 
 /// A token of a line or of a JSON text.
 #[derive(Clone, Copy)]
@@ -45,6 +50,8 @@ pub enum Token<'a> {
     Octets(&'a [u8]),
     /// A member of a JSON object, with its key: a name, or `null` if there is none.
     Member(&'a [u8], Option<&'a [u8]>),
+    /// The same for the name of a row, as far as it is printed.
+    RowName(&'a [u8], Option<CutName<'a>>),
 }
 
 impl<'a> Printed for Token<'a> {
@@ -89,16 +96,9 @@ fn print_token<W: Sink>(out: &mut W, page: &mut Page, token: Token<'_>) -> Resul
         Token::Date(n) => print_date(out, page, n),
         Token::Tag(tag) => print_tag(out, page, tag),
         Token::Octets(bytes) => print_octets(out, page, bytes),
-        Token::Member(key, None) => print_pieces(
-            out,
-            page,
-            &[
-                Piece::Text(b"\""),
-                Piece::Text(key),
-                Piece::Text(b"\":null"),
-            ],
-        ),
-        Token::Member(key, Some(name)) => print_label_member(out, page, key, name),
+        Token::Member(key, None) | Token::RowName(key, None) => print_no_name(out, page, key),
+        Token::Member(key, Some(name)) => print_member(out, page, key, name),
+        Token::RowName(key, Some(name)) => print_label_member(out, page, key, name),
     }
 }
 
@@ -145,18 +145,33 @@ fn print_label<W: Sink>(out: &mut W, page: &mut Page, name: &[u8]) -> Result<(),
     Joined(Escaped(front), Verbatim(b"%..")).print(out, page)
 }
 
+/// Prints a member of a JSON object that has no name.
+fn print_no_name<W: Sink>(out: &mut W, page: &mut Page, key: &[u8]) -> Result<(), StreamFault>
+    ensures { Sends result (W.stream out.old) (W.stream out.new) page.old.items page.new.items (no_name key.now) }
+{
+    print_pieces(
+        out,
+        page,
+        &[
+            Piece::Text(b"\""),
+            Piece::Text(key),
+            Piece::Text(b"\":null"),
+        ],
+    )
+}
+
 /// Prints the name of a row as a member of a JSON object.
 #[tactic(auto, unfolding(crate::specs::Tokens::label_member))]
 fn print_label_member<W: Sink>(
     out: &mut W,
     page: &mut Page,
     key: &[u8],
-    name: &[u8],
+    name: CutName<'_>,
 ) -> Result<(), StreamFault>
-    ensures { Sends result (W.stream out.old) (W.stream out.new) page.old.items page.new.items (label_member key.now name.now) }
+    ensures { Sends result (W.stream out.old) (W.stream out.new) page.old.items page.new.items (label_member key.now (cut_seen name.entry)) }
 {
-    if name.len() <= MAX_NAME_BYTES {
-        print_member(out, page, key, name)
+    if name.bytes.len() <= MAX_NAME_BYTES {
+        print_member(out, page, key, name.bytes)
     } else {
         print_cut_member(out, page, key, name)
     }
@@ -168,14 +183,25 @@ fn print_cut_member<W: Sink>(
     out: &mut W,
     page: &mut Page,
     key: &[u8],
-    name: &[u8],
+    name: CutName<'_>,
 ) -> Result<(), StreamFault>
-    requires { 1024 ≤ length name.now }
-    ensures { Sends result (W.stream out.old) (W.stream out.new) page.old.items page.new.items (cut_member key.now name.now) }
+    requires { 1024 ≤ length name.bytes.now }
+    ensures { Sends result (W.stream out.old) (W.stream out.new) page.old.items page.new.items (cut_member key.now (cut_seen name.entry)) }
 {
-    let (front, _) = name.split_at(MAX_NAME_BYTES);
+    let (front, _) = name.bytes.split_at(MAX_NAME_BYTES);
     print_member(out, page, key, front)?;
-    print_length_member(out, page, key, name.len())
+    print_length_member(out, page, key, name_length(name))
+}
+
+/// Returns how many bytes a name has, if all were looked at.
+fn name_length(name: CutName<'_>) -> Option<u64>
+    ensures { result ≡ name_length (cut_seen name.entry) }
+{
+    if name.whole {
+        Some(name.bytes.len() as u64)
+    } else {
+        None
+    }
 }
 
 /// Prints the length of a name as another member.
@@ -184,20 +210,19 @@ fn print_length_member<W: Sink>(
     out: &mut W,
     page: &mut Page,
     key: &[u8],
-    len: usize,
+    len: Option<u64>,
 ) -> Result<(), StreamFault>
     ensures { Sends result (W.stream out.old) (W.stream out.new) page.old.items page.new.items (length_member key.now len) }
 {
-    print_pieces(
-        out,
-        page,
-        &[
-            Piece::Text(b",\""),
-            Piece::Text(key),
-            Piece::Text(b"_length\":"),
-            Piece::Number(len as u64),
-        ],
-    )
+    let (front, key, colon) = (
+        Piece::Text(b",\""),
+        Piece::Text(key),
+        Piece::Text(b"_length\":"),
+    );
+    match len {
+        Some(len) => print_pieces(out, page, &[front, key, colon, Piece::Number(len)]),
+        None => print_pieces(out, page, &[front, key, colon, Piece::Text(b"null")]),
+    }
 }
 
 /// Prints a name as a member of a JSON object.

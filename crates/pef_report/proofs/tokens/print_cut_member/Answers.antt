@@ -9,4 +9,4 @@ returns-in_err-print_member g c = Sends-short _ c.from_residual.result _ c.from_
 
 pub returns : goal.returns
 unfolding cut_member
-returns g c = Sends-then c.print_length_member.result (g.W.Sink.stream c.print_length_member.new.out) _ _ (rw c.split_at.ensures.front at c.in_ok-print_member.ensures) c.print_length_member.ensures
+returns g c = Sends-then c.print_length_member.result (g.W.Sink.stream c.print_length_member.new.out) _ _ (rw c.split_at.ensures.front at c.in_ok-print_member.ensures) (rw c.name_length.ensures at c.print_length_member.ensures)
