@@ -12,6 +12,7 @@ use Rattle.cfm_members.specs.declared.fault.MemberFault.{MemberFault}
 use Rattle.cfm_members.specs.declared.file_kind.FileKind.{FileKind}
 use Rattle.cfm_members.specs.declared.file_kind.FileKind.TheVariants.{Container}
 use Rattle.cfm_members.specs.declared.fragment_fault.FragmentFault.TheVariants.{Fork, Resource, Member, NoContainer}
+use Rattle.mac_report.specs.DataFiles.{DataFileIs, members_fork}
 use Rattle.mac_report.specs.MacParts.{PlaceIs, SceneIs, WrappingIs, elsewhere, lying, missing, place_of, readable, resources_in, scene_of, wrapping_of}
 use Rattle.mac_report.specs.declared.scene.Found.{Found}
 
@@ -97,12 +98,12 @@ abbrev pub parts_faults : Option Lying → Option Lying → List Found
 parts_faults data_fork None = []
 parts_faults data_fork (Some part) = read_faults data_fork part.offset (resources_in part)
 
-abbrev pub wrapping_faults : WrappingIs → List Found
-wrapping_faults w =
+abbrev pub wrapping_faults : Option DataFileIs → WrappingIs → List Found
+wrapping_faults other w =
     header_faults w.fault
     ++ (header_faults w.cut
-    ++ (entry_faults w.data_fork ++ (entry_faults w.resource_fork ++ parts_faults (readable w.data_fork) (readable w.resource_fork))))
+    ++ (entry_faults w.data_fork ++ (entry_faults w.resource_fork ++ parts_faults (members_fork other w.data_fork) (readable w.resource_fork))))
 
--- all errors of a file but those of its containers
-unfoldable pub faults_of : List ℕ → List Found
-faults_of bytes = wrapping_faults (wrapping_of bytes)
+-- all errors of a file but those of its containers. Its data fork may be in another file
+unfoldable pub faults_of : Option DataFileIs → List ℕ → List Found
+faults_of other bytes = wrapping_faults other (wrapping_of bytes)

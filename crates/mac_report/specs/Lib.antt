@@ -1,4 +1,5 @@
 pub mod Containers
+pub mod DataFiles
 pub mod Faults
 pub mod Forks
 pub mod Founds

@@ -67,8 +67,8 @@ readable (Some (Err fault)) = None
 abbrev pub resources_in : Lying → Option (Result ForkIs ResourceFault)
 resources_in part = if length part.bytes == 0 then None else Some (fork_of part.bytes)
 
--- the table of fragments of a file, with the parts of the file that its members are looked up in. The resource fork and the
--- table are at offsets of the file
+-- the table of fragments of a file, with the forks that its members are looked up in. The resource fork and the table are at
+-- offsets of the file, and the data fork at one of the file that has it
 pub record SceneIs : Type 0 where
   pub data_fork : Option Lying
   pub fork_base : ℕ
@@ -95,14 +95,14 @@ abbrev pub scene_of : Option Lying → ℕ → ForkIs → Option (Result SceneIs
 scene_of data_fork base fork =
     table_part fork >>= (λ part. Some (scene_with data_fork base fork (up_to (base + part.offset)) (table_of part.bytes)))
 
--- where the container of a member is: it isn't said, or not in this file. Or it isn't there, which is an error. Or it is at
--- an offset of the file, with these bytes
+-- where the container of a member is: it isn't said, or not in the files at hand. Or it isn't there, which is an error. Or it
+-- is at an offset of the file that has its fork, with these bytes
 pub data PlaceIs : Type 0 where
   elsewhere : PlaceIs
   missing : Found → PlaceIs
   lying : ℕ → List ℕ → PlaceIs
 
--- .. in the data fork. Without one, the data fork is another file
+-- .. in the data fork. Without one, the data fork is in a file that isn't known
 abbrev pub place_in_data : SceneIs → ℕ → Option (Result Lying MemberFault) → PlaceIs
 place_in_data s offset None = elsewhere
 place_in_data s offset (Some (Ok part)) = lying (up_to (offset + part.offset)) part.bytes

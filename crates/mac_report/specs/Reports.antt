@@ -13,6 +13,7 @@ use Rattle.cfm_members.specs.declared.file_kind.FileKind.TheVariants.{Container,
 use Rattle.pef_report.specs.Frames.{counts_line, error_end, file_error_line, file_line, file_object, unread_line, unread_object}
 use Rattle.pef_report.specs.declared.frames.Counts.{Counts}
 use Rattle.mac_report.specs.Containers.{Walks, fresh_tally, total}
+use Rattle.mac_report.specs.DataFiles.{DataFileIs, members_fork, paired_line, paired_object}
 use Rattle.mac_report.specs.Faults.{faults_of}
 use Rattle.mac_report.specs.Forks.{forks_json, forks_lines}
 use Rattle.mac_report.specs.Founds.{founds_text}
@@ -45,8 +46,8 @@ scene_at data_fork base (Some (Ok fork)) = whole_scene (scene_of data_fork base 
 scene_at data_fork base (Some (Err fault)) = None
 
 -- the table of fragments of a file, if it can be read
-abbrev pub scene_in : WrappingIs → Option SceneIs
-scene_in w = readable w.resource_fork >>= (λ part. scene_at (readable w.data_fork) part.offset (resources_in part))
+abbrev pub scene_in : Option DataFileIs → WrappingIs → Option SceneIs
+scene_in other w = readable w.resource_fork >>= (λ part. scene_at (members_fork other w.data_fork) part.offset (resources_in part))
 
 -- what is printed of its members
 abbrev pub scene_text : Form → Option SceneIs → List ℕ
@@ -57,25 +58,34 @@ scene_text form (Some s) = fragments_text form true s (all_members s.table)
 abbrev pub fork_lines_of : WrappingIs → List ℕ
 fork_lines_of w = forks_lines (readable w.data_fork) (readable w.resource_fork)
 
-abbrev pub text_head : List ℕ → List ℕ → List Found → List ℕ
-text_head path bytes found =
-    file_line path (length bytes) (kind_word (kind_of bytes))
-    ++ (fork_lines_of (wrapping_of bytes) ++ (scene_text Text (scene_in (wrapping_of bytes)) ++ founds_text Text true found))
+-- .. the first of them. It has the path of the other file that has the data fork, if there is one
+abbrev pub first_line : List ℕ → List ℕ → Option DataFileIs → List ℕ
+first_line path bytes None = file_line path (length bytes) (kind_word (kind_of bytes))
+first_line path bytes (Some other) = paired_line path (length bytes) (kind_word (kind_of bytes)) other.path
+
+abbrev pub text_head : List ℕ → List ℕ → Option DataFileIs → List Found → List ℕ
+text_head path bytes other found =
+    first_line path bytes other
+    ++ (fork_lines_of (wrapping_of bytes) ++ (scene_text Text (scene_in other (wrapping_of bytes)) ++ founds_text Text true found))
 
 -- the object up to the containers
 abbrev pub fork_objects_of : WrappingIs → List ℕ
 fork_objects_of w = forks_json (readable w.data_fork) (readable w.resource_fork)
 
-abbrev pub json_head : List ℕ → List ℕ → List ℕ
-json_head path bytes =
-    file_object path (length bytes) (kind_word (kind_of bytes))
+abbrev pub beginning : List ℕ → List ℕ → Option DataFileIs → List ℕ
+beginning path bytes None = file_object path (length bytes) (kind_word (kind_of bytes))
+beginning path bytes (Some other) = paired_object path (length bytes) (kind_word (kind_of bytes)) other.path
+
+abbrev pub json_head : List ℕ → List ℕ → Option DataFileIs → List ℕ
+json_head path bytes other =
+    beginning path bytes other
     ++ (fork_objects_of (wrapping_of bytes)
-    ++ (codes "],\"fragments\":[" ++ (scene_text Json (scene_in (wrapping_of bytes)) ++ codes "],\"containers\":[")))
+    ++ (codes "],\"fragments\":[" ++ (scene_text Json (scene_in other (wrapping_of bytes)) ++ codes "],\"containers\":[")))
 
 -- what comes before the containers
-abbrev pub head_text : Form → List ℕ → List ℕ → List Found → List ℕ
-head_text Text path bytes found = text_head path bytes found
-head_text Json path bytes found = json_head path bytes
+abbrev pub head_text : Form → List ℕ → List ℕ → Option DataFileIs → List Found → List ℕ
+head_text Text path bytes other found = text_head path bytes other found
+head_text Json path bytes other found = json_head path bytes other
 
 -- the note that some containers weren't inspected, if there are such
 unfoldable pub skipped_text : ℕ → List ℕ
@@ -118,15 +128,16 @@ abbrev pub unread_counts : Counts
 unread_counts = record { containers = 0; errors = 1; notes = 0 }
 
 -- a whole report on a file with these bytes, with these errors besides those of its containers, and what it counts
-pub record IsWhole (form : Form) (path bytes : List ℕ) (found : List Found) (text : List ℕ) (counts : Counts) : Type 0 where
+pub record IsWhole (form : Form) (path bytes : List ℕ) (other : Option DataFileIs) (found : List Found) (text : List ℕ) (counts : Counts) : Type 0 where
   pub containers : List ℕ
   pub tally : Tally
   pub walked : Walks form bytes (fresh_tally bytes) (containers_in bytes 0) containers tally
-  pub printed : text ≡ head_text form path bytes found ++ (containers ++ end_text form found tally)
+  pub printed : text ≡ head_text form path bytes other found ++ (containers ++ end_text form found tally)
   pub counted : counts ≡ total tally (length found)
 
--- a report on a file with these bytes, and what it counts. An allocation may fail before it
-abbrev pub IsReport : Form → List ℕ → List ℕ → List ℕ → Counts → Type 0
-IsReport form path bytes text counts =
-    IsWhole form path bytes (faults_of bytes) text counts
+-- a report on a file with these bytes, and what it counts. Its data fork may be in another file. An allocation may fail
+-- before it
+abbrev pub IsReport : Form → List ℕ → List ℕ → Option DataFileIs → List ℕ → Counts → Type 0
+IsReport form path bytes other text counts =
+    IsWhole form path bytes other (faults_of other bytes) text counts
     ⊎ ((text ≡ unread_text form path 99 (codes "OutOfMemory")) × (counts ≡ unread_counts))

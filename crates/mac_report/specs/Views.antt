@@ -6,7 +6,9 @@ use Rattle.mac_resources.specs.Views.{fork_seen}
 use Rattle.cfm_members.specs.Views.{member_seen, table_seen}
 use Rattle.pef_report.specs.Views as view
 use Rattle.mac_report.specs.Containers.{RowIs, inspected, lacking, skipped}
+use Rattle.mac_report.specs.DataFiles.{DataFileIs}
 use Rattle.mac_report.specs.Fragments.{FragmentIs}
+use Rattle.mac_report.specs.declared.data_file.DataFile.{DataFile}
 use Rattle.mac_report.specs.declared.fragments.Fragment.{Fragment}
 use Rattle.mac_report.specs.MacParts.{PlaceIs, SceneIs, WrappingIs, elsewhere, lying, missing}
 use Rattle.mac_report.specs.declared.row.Row.{Row}
@@ -21,6 +23,10 @@ abbrev pub row_seen : Row → RowIs
 row_seen (row.Inspected inspection) = inspected (view.inspected inspection)
 row_seen (row.Lacking at) = lacking at
 row_seen row.Skipped = skipped
+
+-- the other file that has the data fork
+abbrev pub data_file_seen : DataFile → DataFileIs
+data_file_seen f = record { path = f.path.now; bytes = f.bytes.now }
 
 -- what a file is wrapped in
 abbrev pub wrapping_seen : Wrapping → WrappingIs

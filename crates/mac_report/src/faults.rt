@@ -24,8 +24,9 @@ ghost use Rattle.mac_report.specs.Faults.{
   row_faults,
   table_faults,
 };
-ghost use Rattle.mac_report.specs.Views.{place_seen, scene_seen};
+ghost use Rattle.mac_report.specs.Views.{data_file_seen, place_seen, scene_seen};
 
+use crate::data_file::{DataFile, members_fork};
 use crate::scene::{Found, Place, Scene};
 use crate::wrapping::{Wrapping, readable, resources_in};
 use cfm_members::{FileKind, FragmentFault, Member, MemberFault};
@@ -34,8 +35,12 @@ use mac_resources::{Resource, ResourceFault, ResourceFork};
 use std::alloc::{AllocError, Global};
 
 /// Returns all errors of a file that aren't those of its containers: of the wrapping, of the resources, of the fragments.
-pub(crate) fn find_faults(alloc: Global, bytes: &[u8]) -> Result<Vec<Found>, AllocError>
-    ensures { IfOk result (λ found. found.items ≡ faults_of bytes.now) }
+pub(crate) fn find_faults(
+    alloc: Global,
+    bytes: &[u8],
+    data_file: Option<DataFile<'_>>,
+) -> Result<Vec<Found>, AllocError>
+    ensures { IfOk result (λ found. found.items ≡ faults_of (option_map data_file_seen data_file.entry) bytes.now) }
 {
     let wrapping = Wrapping::of(bytes);
     let mut found = Vec::new(alloc);
@@ -44,7 +49,7 @@ pub(crate) fn find_faults(alloc: Global, bytes: &[u8]) -> Result<Vec<Found>, All
     find_in_entry(wrapping.data_fork, &mut found)?;
     find_in_entry(wrapping.resource_fork, &mut found)?;
     find_in_parts(
-        readable(wrapping.data_fork),
+        members_fork(data_file, wrapping.data_fork),
         readable(wrapping.resource_fork),
         &mut found,
     )?;

@@ -1,14 +1,15 @@
-ghost use Rattle.std.specs.Prelude.{◌≡◌, IfOk, List, ℕ, codes, length, option_map};
-ghost use Rattle.cfm_members.specs.Kinds.{kind_of};
-ghost use Rattle.pef_report.specs.Frames.{file_line, file_object};
+ghost use Rattle.std.specs.Prelude.{◌≡◌, IfOk, List, ℕ, codes, option_map};
 ghost use Rattle.mac_report.specs.MacParts.{wrapping_of};
 ghost use Rattle.pef_words.specs.Refusals.{result_map};
 ghost use Rattle.pef_ports.specs.Sent.{Sends};
 ghost use Rattle.pef_report.specs.declared.frames.Counts.{Counts as CountsAre};
-ghost use Rattle.mac_report.specs.Reports.{IsReport, IsWhole, end_text, fork_lines_of, fork_objects_of, head_text, json_end, json_head, kind_word, scene_in, scene_text, skipped_note, skipped_object, skipped_text, text_end, text_head, unread_counts, unread_text, whole_scene};
-ghost use Rattle.mac_report.specs.Views.{scene_seen, wrapping_seen};
+ghost use Rattle.mac_report.specs.Reports.{IsReport, IsWhole, beginning, end_text, first_line, fork_lines_of, fork_objects_of, head_text, json_end, json_head, kind_word, scene_in, scene_text, skipped_note, skipped_object, skipped_text, text_end, text_head, unread_counts, unread_text, whole_scene};
+ghost use Rattle.mac_report.specs.Views.{data_file_seen, scene_seen, wrapping_seen};
 
 use crate::containers::print_containers;
+use crate::data_file::{
+    DataFile, PairedHead, members_fork, print_paired_line, print_paired_object,
+};
 use crate::faults::find_faults;
 use crate::found::print_founds;
 use crate::fragments::print_fragments;
@@ -40,6 +41,9 @@ pub struct FileReport<'a> {
     pub form: Form,
     pub path: &'a [u8],
     pub bytes: &'a [u8],
+    /// The file that has the data fork, if this one has the resource fork alone. The offsets of containers in the data fork
+    /// are offsets in that file.
+    pub data_file: Option<DataFile<'a>>,
 }
 
 impl<'a> FileReport<'a> {
@@ -58,11 +62,11 @@ impl<'a> FileReport<'a> {
         page: &mut Page,
     ) -> Result<Counts, StreamFault>
         ensures { (text : List ℕ) × (counts : CountsAre)
-            × IsReport self.entry.form self.entry.path.now self.entry.bytes.now text counts
+            × IsReport self.entry.form self.entry.path.now self.entry.bytes.now (option_map data_file_seen self.entry.data_file) text counts
             × Sends result (W.stream out.old) (W.stream out.new) page.old.items page.new.items text
             × IfOk result (λ r. r ≡ counts) }
     {
-        match find_faults(alloc, self.bytes) {
+        match find_faults(alloc, self.bytes, self.data_file) {
             Ok(found) => self.print_whole(alloc, out, page, found.as_slice()),
             Err(AllocError) => self.print_lacking(out, page),
         }
@@ -77,7 +81,7 @@ impl<'a> FileReport<'a> {
         found: &[Found],
     ) -> Result<Counts, StreamFault>
         ensures { (text : List ℕ) × (counts : CountsAre)
-            × IsWhole self.entry.form self.entry.path.now self.entry.bytes.now found.now text counts
+            × IsWhole self.entry.form self.entry.path.now self.entry.bytes.now (option_map data_file_seen self.entry.data_file) found.now text counts
             × Sends result (W.stream out.old) (W.stream out.new) page.old.items page.new.items text
             × IfOk result (λ r. r ≡ counts) }
     {
@@ -109,7 +113,7 @@ impl<'a> FileReport<'a> {
         page: &mut Page,
         found: &[Found],
     ) -> Result<(), StreamFault>
-        ensures { Sends result (W.stream out.old) (W.stream out.new) page.old.items page.new.items (head_text self.entry.form self.entry.path.now self.entry.bytes.now found.now) }
+        ensures { Sends result (W.stream out.old) (W.stream out.new) page.old.items page.new.items (head_text self.entry.form self.entry.path.now self.entry.bytes.now (option_map data_file_seen self.entry.data_file) found.now) }
     {
         match self.form {
             Form::Text => self.print_text_head(out, page, found),
@@ -124,39 +128,63 @@ impl<'a> FileReport<'a> {
         page: &mut Page,
         found: &[Found],
     ) -> Result<(), StreamFault>
-        ensures { Sends result (W.stream out.old) (W.stream out.new) page.old.items page.new.items (text_head self.entry.path.now self.entry.bytes.now found.now) }
+        ensures { Sends result (W.stream out.old) (W.stream out.new) page.old.items page.new.items (text_head self.entry.path.now self.entry.bytes.now (option_map data_file_seen self.entry.data_file) found.now) }
     {
         self.print_first_line(out, page)?;
         print_fork_lines(out, page, self.bytes)?;
-        print_members(out, page, Form::Text, self.bytes)?;
+        print_members(out, page, Form::Text, self.bytes, self.data_file)?;
         print_founds(out, page, Form::Text, found)
     }
 
     /// Prints the first line.
     fn print_first_line<W: Sink>(self, out: &mut W, page: &mut Page) -> Result<(), StreamFault>
-        ensures { Sends result (W.stream out.old) (W.stream out.new) page.old.items page.new.items (file_line self.entry.path.now (length self.entry.bytes.now) (kind_word (kind_of self.entry.bytes.now))) }
+        ensures { Sends result (W.stream out.old) (W.stream out.new) page.old.items page.new.items (first_line self.entry.path.now self.entry.bytes.now (option_map data_file_seen self.entry.data_file)) }
     {
         let format = kind_word(FileKind::of(self.bytes));
-        print_file_line(out, page, self.path, self.bytes.len() as u64, format)
+        let size = self.bytes.len() as u64;
+        match self.data_file {
+            Some(file) => {
+                let head = PairedHead {
+                    path: self.path,
+                    size,
+                    format,
+                    other: file.path,
+                };
+                print_paired_line(out, page, head)
+            }
+            None => print_file_line(out, page, self.path, size, format),
+        }
     }
 
     /// Prints the object up to its containers.
     fn print_json_head<W: Sink>(self, out: &mut W, page: &mut Page) -> Result<(), StreamFault>
-        ensures { Sends result (W.stream out.old) (W.stream out.new) page.old.items page.new.items (json_head self.entry.path.now self.entry.bytes.now) }
+        ensures { Sends result (W.stream out.old) (W.stream out.new) page.old.items page.new.items (json_head self.entry.path.now self.entry.bytes.now (option_map data_file_seen self.entry.data_file)) }
     {
         self.print_beginning(out, page)?;
         print_fork_objects(out, page, self.bytes)?;
         send(out, page, b"],\"fragments\":[")?;
-        print_members(out, page, Form::Json, self.bytes)?;
+        print_members(out, page, Form::Json, self.bytes, self.data_file)?;
         send(out, page, b"],\"containers\":[")
     }
 
     /// Prints the beginning of the object.
     fn print_beginning<W: Sink>(self, out: &mut W, page: &mut Page) -> Result<(), StreamFault>
-        ensures { Sends result (W.stream out.old) (W.stream out.new) page.old.items page.new.items (file_object self.entry.path.now (length self.entry.bytes.now) (kind_word (kind_of self.entry.bytes.now))) }
+        ensures { Sends result (W.stream out.old) (W.stream out.new) page.old.items page.new.items (beginning self.entry.path.now self.entry.bytes.now (option_map data_file_seen self.entry.data_file)) }
     {
         let format = kind_word(FileKind::of(self.bytes));
-        print_file_object(out, page, self.path, self.bytes.len() as u64, format)
+        let size = self.bytes.len() as u64;
+        match self.data_file {
+            Some(file) => {
+                let head = PairedHead {
+                    path: self.path,
+                    size,
+                    format,
+                    other: file.path,
+                };
+                print_paired_object(out, page, head)
+            }
+            None => print_file_object(out, page, self.path, size, format),
+        }
     }
 }
 
@@ -186,21 +214,22 @@ fn print_members<W: Sink>(
     page: &mut Page,
     form: Form,
     bytes: &[u8],
+    data_file: Option<DataFile<'_>>,
 ) -> Result<(), StreamFault>
-    ensures { Sends result (W.stream out.old) (W.stream out.new) page.old.items page.new.items (scene_text form (scene_in (wrapping_of bytes.now))) }
+    ensures { Sends result (W.stream out.old) (W.stream out.new) page.old.items page.new.items (scene_text form (scene_in (option_map data_file_seen data_file.entry) (wrapping_of bytes.now))) }
 {
     let wrapping = Wrapping::of(bytes);
-    print_scene(out, page, form, scene_in(wrapping))
+    print_scene(out, page, form, scene_in(data_file, wrapping))
 }
 
 /// Returns the table of fragments of a file, if it can be read.
-fn scene_in<'a>(wrapping: Wrapping<'a>) -> Option<Scene<'a>>
-    ensures { option_map scene_seen result ≡ scene_in (wrapping_seen wrapping.entry) }
+fn scene_in<'a>(data_file: Option<DataFile<'a>>, wrapping: Wrapping<'a>) -> Option<Scene<'a>>
+    ensures { option_map scene_seen result ≡ scene_in (option_map data_file_seen data_file.entry) (wrapping_seen wrapping.entry) }
 {
     let part = readable(wrapping.resource_fork)?;
     match resources_in(part) {
         Some(Ok(fork)) => whole_scene(Scene::read(
-            readable(wrapping.data_fork),
+            members_fork(data_file, wrapping.data_fork),
             part.offset as u64,
             fork,
         )),

@@ -4,6 +4,7 @@
 
 mod containers;
 mod contents;
+mod data_file;
 mod faults;
 mod file;
 mod forks;
@@ -15,5 +16,6 @@ mod tally;
 mod unread;
 mod wrapping;
 
+pub use data_file::{DataFile, is_data_fork, is_resource_file};
 pub use file::{FileReport, Form};
 pub use unread::UnreadFile;

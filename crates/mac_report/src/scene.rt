@@ -25,9 +25,10 @@ pub(crate) struct Found {
     pub base: u64,
 }
 
-/// The table of fragments of a file, with the parts of the file that its members are looked up in.
+/// The table of fragments of a file, with the forks that its members are looked up in.
 #[derive(Clone, Copy)]
 pub(crate) struct Scene<'a> {
+    /// The data fork, which may be in another file.
     pub data_fork: Option<Part<'a>>,
     /// Where the resource fork begins in the file.
     pub fork_base: u64,
@@ -40,11 +41,11 @@ pub(crate) struct Scene<'a> {
 /// Where the container of a member is.
 #[derive(Clone, Copy)]
 pub(crate) enum Place<'a> {
-    /// It isn't said, or in another file, or in a resource with an error of its own.
+    /// It isn't said, or in a file that isn't known, or in a resource with an error of its own.
     Elsewhere,
     /// It isn't there.
     Missing(Found),
-    /// It is at an offset of the file, with these bytes.
+    /// It is at an offset of the file that has its fork, with these bytes.
     Lying { at: u64, bytes: &'a [u8] },
 }
 
