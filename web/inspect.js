@@ -543,6 +543,9 @@ function headerObject(header) {
     };
 }
 
+/** The longest name whose length is told. Of a longer one the module gives only the first bytes. */
+const MOST_LENGTH = 4096;
+
 /** Returns the members of a name: its text, its bytes if they aren't ASCII, and its length if there are more. */
 function named(name) {
     if (name === null) {
@@ -553,7 +556,7 @@ function named(name) {
         members.name_hex = text.hexBytes(name.bytes);
     }
     if (name.length > name.bytes.length) {
-        members.name_length = name.length;
+        members.name_length = name.length > MOST_LENGTH ? null : name.length;
     }
     return members;
 }

@@ -31,7 +31,7 @@ export class Slice {
 /** How many bytes of a name are read, as `pef inspect` prints no more: rows of a hostile file can share one of megabytes. */
 const MOST_NAME = 1024;
 
-/** The first bytes of a name, and how many it has. */
+/** The first bytes of a name, and how many it has: those that the module looked at, which are more than 4,096 if there are more. */
 export class Name {
     constructor(bytes, length) {
         this.bytes = bytes;

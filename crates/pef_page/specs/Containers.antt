@@ -7,6 +7,7 @@ use Rattle.pef_views.specs.Section.{raw_of}
 use Rattle.pef_views.specs.declared.fault.ViewFault.{ViewFault}
 use Rattle.pef_views.specs.declared.header.Header.{Header}
 use Rattle.pef_views.specs.declared.section.SectionHeader.{SectionHeader}
+use Rattle.pef_page.specs.RowNames.{first_of}
 use Rattle.pef_page.specs.Rows.{Row, new_row, rows_from}
 
 -- the rows of what was read, or the number of the error
@@ -27,7 +28,7 @@ header_rows bytes = rows_in (λ c. header_row c.header ∷ []) (partial_of bytes
 abbrev pub section_cells : Contained → ℕ → Option SectionHeader → Row
 section_cells c i None = new_row None None []
 section_cells c i (Some s) =
-    new_row (name_of_section c i) (Some (raw_of c.bytes s))
+    new_row (first_of (name_of_section c i)) (Some (raw_of c.bytes s))
     (s.default_address ∷ s.total_size ∷ s.unpacked_size ∷ s.packed_size ∷ s.container_offset ∷ s.section_kind ∷ s.share_kind
     ∷ s.alignment ∷ s.reserved ∷ [])
 

@@ -1,3 +1,4 @@
+pub mod RowNames
 pub mod Rows
 pub mod Containers
 pub mod Loaders

@@ -8,8 +8,9 @@ use Rattle.pef_views.specs.declared.fault.ViewFault.{ViewFault}
 use Rattle.pef_loader.specs.Faults.{fault_number}
 use Rattle.pef_loader.specs.Header.{imports_from, library_place, relocs_from}
 use Rattle.pef_loader.specs.Loader.{Loaded}
-use Rattle.pef_loader.specs.Partial.{ExportRow, ImportRow, LibraryRow, RelocationRow, export_row, exports_in, import_row, library_row, partial_of, relocation_row, rows_in}
+use Rattle.pef_loader.specs.Partial.{CutImportRow, CutLibraryRow, ExportRow, RelocationRow, cut_import_row, cut_library_row, export_row, exports_in, partial_of, relocation_row, rows_in}
 use Rattle.pef_loader.specs.declared.fault.LoaderFault.{LoaderFault}
+use Rattle.pef_page.specs.RowNames.{bytes_of}
 use Rattle.pef_page.specs.Rows.{Row, new_row, number_or_none, rows_from}
 
 -- what can be read of the loader section of a container, or the number of the error
@@ -42,24 +43,24 @@ loader_row l =
 abbrev pub loader_rows : List ℕ → Result (List Row) ℕ
 loader_rows bytes = rows_behind (λ l. loader_row l ∷ []) (loader_in bytes)
 
-abbrev pub library_cells : Option LibraryRow → Row
+abbrev pub library_cells : Option CutLibraryRow → Row
 library_cells None = new_row None None []
-library_cells (Some r) = new_row r.name None (r.current ∷ r.old_imp ∷ r.options ∷ r.first ∷ r.count ∷ [])
+library_cells (Some r) = new_row (bytes_of r.name) None (r.current ∷ r.old_imp ∷ r.options ∷ r.first ∷ r.count ∷ [])
 
 -- the libraries that are in the bytes
 abbrev pub library_rows : List ℕ → Result (List Row) ℕ
 library_rows bytes =
-    rows_behind (λ l. rows_from (λ i. library_cells (library_row l i)) 0 (rows_in l (library_place 0) 24 l.header.library_count))
+    rows_behind (λ l. rows_from (λ i. library_cells (cut_library_row 4097 l i)) 0 (rows_in l (library_place 0) 24 l.header.library_count))
     (loader_in bytes)
 
-abbrev pub import_cells : Option ImportRow → Row
+abbrev pub import_cells : Option CutImportRow → Row
 import_cells None = new_row None None []
-import_cells (Some r) = new_row r.name None (r.class ∷ from_bool r.weak ∷ number_or_none r.library ∷ [])
+import_cells (Some r) = new_row (bytes_of r.name) None (r.class ∷ from_bool r.weak ∷ number_or_none r.library ∷ [])
 
 -- the imports that are in the bytes
 abbrev pub import_rows : List ℕ → Result (List Row) ℕ
 import_rows bytes =
-    rows_behind (λ l. rows_from (λ j. import_cells (import_row l j)) 0 (rows_in l (imports_from l.header) 4 l.header.import_count))
+    rows_behind (λ l. rows_from (λ j. import_cells (cut_import_row 4097 l j)) 0 (rows_in l (imports_from l.header) 4 l.header.import_count))
     (loader_in bytes)
 
 -- a relocation header with its program

@@ -1,11 +1,18 @@
 //! Containers that may be damaged. Each call reads them anew from their bytes.
 ghost use Rattle.std.specs.Prelude.{◌≡◌, map};
+ghost use Rattle.std.specs.Option.{option_copied};
+ghost use Rattle.pef_views.specs.Container.{name_in};
+ghost use Rattle.pef_loader.specs.PartialViews.{names_bytes};
 ghost use Rattle.pef_views.specs.PartialViews.{partly};
 ghost use Rattle.pef_page.specs.Rows.{TableAnswers, row_shown};
+ghost use Rattle.pef_page.specs.RowNames.{first_of};
 ghost use Rattle.pef_page.specs.Containers.{header_row, header_rows, section_row, section_rows};
 
 use crate::row::PageRow;
+use crate::row_name::{MAX_NAME_BYTES, name_bytes};
 use crate::table::{Table, fill_table};
+use pef_format::layout::{CONTAINER_HEADER_SIZE, SECTION_HEADER_SIZE};
+use pef_loader::Names;
 use pef_views::{Header, PartialContainer};
 
 /// Reads the header of a container as a table of one row. Its numbers are the architecture, the format version, the date, the
@@ -48,7 +55,7 @@ pub extern "C" fn page_sections<'a>(
     match PartialContainer::read(container) {
         Ok(container) => {
             let many = usize::from(container.header().section_count);
-            *count = fill_table(Sections { container }, many, from, places);
+            *count = fill_table(Sections::new(container), many, from, places);
             0
         }
         Err(fault) => fault.number(),
@@ -98,6 +105,59 @@ fn header_row<'a>(header: Header) -> PageRow<'a>
 #[derive(Clone, Copy)]
 struct Sections<'a> {
     container: PartialContainer<'a>,
+    /// The names of the whole container.
+    names: Names<'a>,
+    ghost named: { names_bytes names ≡ (partly container).bytes },
+}
+
+impl<'a> Sections<'a> {
+    ghost use Rattle.pef_views.specs.PartialViews.{partly};
+    ghost use Rattle.pef_page.specs.Containers.{section_row};
+
+    /// Returns the sections of a container.
+    fn new(container: PartialContainer<'a>) -> Sections<'a>
+        ensures { result.container ≡ container.entry }
+    {
+        Sections {
+            container,
+            names: Names::new(container.bytes()),
+        }
+    }
+
+    /// Returns section `i` as a row.
+    #[tactic(auto, unfolding(crate::specs::Containers::section_row))]
+    fn section_row(&self, i: usize) -> PageRow<'a>
+        ensures { row_shown result ≡ section_row (partly self.now.container) i }
+    {
+        match self.container.section(i) {
+            Some(section) => PageRow::new(
+                self.name(section.name_offset),
+                self.container.raw(i),
+                &[
+                    u64::from(section.default_address),
+                    u64::from(section.total_size),
+                    u64::from(section.unpacked_size),
+                    u64::from(section.packed_size),
+                    u64::from(section.container_offset),
+                    u64::from(section.section_kind),
+                    u64::from(section.share_kind),
+                    u64::from(section.alignment),
+                    u64::from(section.reserved),
+                ],
+            ),
+            None => PageRow::new(None, None, &[]),
+        }
+    }
+
+    /// Returns the first bytes of the name of a section.
+    fn name(&self, offset: i32) -> Option<&'a [u8]>
+        ensures { option_copied result ≡ first_of (name_in (partly self.now.container) offset) }
+    {
+        let offset = usize::try_from(offset).ok()?;
+        let count = usize::from(self.container.header().section_count);
+        let start = CONTAINER_HEADER_SIZE + SECTION_HEADER_SIZE * count;
+        name_bytes(self.names.name(start + offset, MAX_NAME_BYTES))
+    }
 }
 
 impl<'a> Table<'a> for Sections<'a> {
@@ -107,31 +167,6 @@ impl<'a> Table<'a> for Sections<'a> {
     ghost row_at = { λ t i. section_row (partly t.container) i };
 
     fn row(&mut self, i: usize) -> PageRow<'a> {
-        section_row(self.container, i)
-    }
-}
-
-/// Returns a section as a row.
-#[tactic(auto, unfolding(crate::specs::Containers::section_row))]
-fn section_row<'a>(container: PartialContainer<'a>, i: usize) -> PageRow<'a>
-    ensures { row_shown result ≡ section_row (partly container.entry) i }
-{
-    match container.section(i) {
-        Some(section) => PageRow::new(
-            container.section_name(i),
-            container.raw(i),
-            &[
-                u64::from(section.default_address),
-                u64::from(section.total_size),
-                u64::from(section.unpacked_size),
-                u64::from(section.packed_size),
-                u64::from(section.container_offset),
-                u64::from(section.section_kind),
-                u64::from(section.share_kind),
-                u64::from(section.alignment),
-                u64::from(section.reserved),
-            ],
-        ),
-        None => PageRow::new(None, None, &[]),
+        self.section_row(i)
     }
 }

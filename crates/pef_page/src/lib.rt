@@ -16,6 +16,7 @@ mod kept;
 mod loader;
 mod names;
 mod row;
+mod row_name;
 mod table;
 
 pub use containers::{page_header, page_sections};

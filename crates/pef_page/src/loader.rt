@@ -1,16 +1,17 @@
 //! Loader sections that may be damaged. Each call reads them anew from the container's bytes.
 ghost use Rattle.std.specs.Prelude.{◌≡◌, map, option_map};
 ghost use Rattle.pef_views.specs.PartialViews.{partly};
-ghost use Rattle.pef_loader.specs.Partial.{export_row, import_row, library_row, relocation_row};
-ghost use Rattle.pef_loader.specs.PartialViews.{export_seen, import_seen, library_seen, partly_loaded, relocation_seen};
+ghost use Rattle.pef_loader.specs.Partial.{cut_import_row, cut_library_row, export_row, relocation_row};
+ghost use Rattle.pef_loader.specs.PartialViews.{cut_import_seen, cut_library_seen, export_seen, partly_loaded, relocation_seen};
 ghost use Rattle.pef_words.specs.Refusals.{result_map};
 ghost use Rattle.pef_page.specs.Rows.{TableAnswers, row_shown};
 ghost use Rattle.pef_page.specs.Loaders.{export_cells, export_rows, import_cells, import_rows, library_cells, library_rows, loader_in, loader_row, loader_rows, relocation_cells, relocation_rows};
 
 use crate::row::{PageRow, number_or_none};
+use crate::row_name::{MAX_NAME_BYTES, name_bytes};
 use crate::table::{Table, fill_table};
 use pef_loader::{
-    PartialExport, PartialImport, PartialImports, PartialLibrary, PartialLoader, PartialRelocation,
+    CutImport, CutLibrary, PartialExport, PartialImports, PartialLoader, PartialRelocation,
 };
 use pef_views::PartialContainer;
 
@@ -204,24 +205,24 @@ struct Libraries<'a> {
 }
 
 impl<'a> Table<'a> for Libraries<'a> {
-    ghost use Rattle.pef_loader.specs.Partial.{library_row};
+    ghost use Rattle.pef_loader.specs.Partial.{cut_library_row};
     ghost use Rattle.pef_loader.specs.PartialViews.{partly_loaded};
     ghost use Rattle.pef_page.specs.Loaders.{library_cells};
 
-    ghost row_at = { λ t i. library_cells (library_row (partly_loaded t.loader) i) };
+    ghost row_at = { λ t i. library_cells (cut_library_row 4097 (partly_loaded t.loader) i) };
 
     fn row(&mut self, i: usize) -> PageRow<'a> {
-        library_cells(self.loader.library(i))
+        library_cells(self.loader.library_cut(i, MAX_NAME_BYTES))
     }
 }
 
 /// Returns a library as a row.
-fn library_cells<'a>(library: Option<PartialLibrary<'a>>) -> PageRow<'a>
-    ensures { row_shown result ≡ library_cells (option_map library_seen library.entry) }
+fn library_cells<'a>(library: Option<CutLibrary<'a>>) -> PageRow<'a>
+    ensures { row_shown result ≡ library_cells (option_map cut_library_seen library.entry) }
 {
     match library {
         Some(library) => PageRow::new(
-            library.name,
+            name_bytes(library.name),
             None,
             &[
                 u64::from(library.current),
@@ -242,24 +243,24 @@ struct Imports<'a> {
 }
 
 impl<'a> Table<'a> for Imports<'a> {
-    ghost use Rattle.pef_loader.specs.Partial.{import_row};
+    ghost use Rattle.pef_loader.specs.Partial.{cut_import_row};
     ghost use Rattle.pef_loader.specs.PartialViews.{partly_loaded};
     ghost use Rattle.pef_page.specs.Loaders.{import_cells};
 
-    ghost row_at = { λ t i. import_cells (import_row (partly_loaded t.reader.loader) i) };
+    ghost row_at = { λ t i. import_cells (cut_import_row 4097 (partly_loaded t.reader.loader) i) };
 
     fn row(&mut self, i: usize) -> PageRow<'a> {
-        import_cells(self.reader.import(i))
+        import_cells(self.reader.import_cut(i, MAX_NAME_BYTES))
     }
 }
 
 /// Returns an import as a row.
-fn import_cells<'a>(import: Option<PartialImport<'a>>) -> PageRow<'a>
-    ensures { row_shown result ≡ import_cells (option_map import_seen import.entry) }
+fn import_cells<'a>(import: Option<CutImport<'a>>) -> PageRow<'a>
+    ensures { row_shown result ≡ import_cells (option_map cut_import_seen import.entry) }
 {
     match import {
         Some(import) => PageRow::new(
-            import.name,
+            name_bytes(import.name),
             None,
             &[
                 u64::from(import.class),
