@@ -1,3 +1,4 @@
+use pef_loader::Names;
 use pef_ports::{Page, Sink, StreamFault, flush};
 use pef_report::Inspection;
 use std::alloc::Global;
@@ -221,13 +222,67 @@ fn is_named(alloc: Global, letters: usize, after_text: &str, after_object: &str)
 
 #[test]
 fn long_names_are_cut(rt: HostRuntime) {
-    let whole = is_named(rt.alloc(), 1024, " raw 00000080\n", "\"},");
-    assert!(rt; whole == Some(true));
-    let cut = is_named(
-        rt.alloc(),
-        1025,
-        "%.. raw 00000080\n",
-        "\",\"name_length\":1025},",
-    );
-    assert!(rt; cut == Some(true));
+    for (letters, after_text, after_object) in [
+        (1024, " raw 00000080\n", "\"},"),
+        (1025, "%.. raw 00000080\n", "\",\"name_length\":1025},"),
+        (4096, "%.. raw 00000080\n", "\",\"name_length\":4096},"),
+        (4097, "%.. raw 00000080\n", "\",\"name_length\":null},"),
+    ] {
+        assert!(rt; is_named(rt.alloc(), letters, after_text, after_object) == Some(true));
+    }
+}
+
+/// Returns whether a section has no name if its name begins here, in letters that follow the container with vectors and end
+/// with no zero byte.
+fn is_nameless(alloc: Global, offset: u32, letters: usize) -> Option<bool> {
+    let mut bytes = with_words(alloc, VECTORS_LEAST, &[(40, offset)])?;
+    add_letters(&mut bytes, letters)?;
+    let inspection = Inspection::read(alloc, 0, &bytes).ok()?;
+    let object = printed(alloc, &inspection, true)?;
+    let mut nameless = Vec::from_slice(alloc, OBJECT_TO_NAME.as_bytes()).ok()?;
+    nameless.pop();
+    nameless.extend_from_slice(b"null},").ok()?;
+    Some(object.starts_with(&nameless))
+}
+
+#[test]
+fn names_without_an_end_are_none(rt: HostRuntime) {
+    for (offset, letters) in [
+        (126, 1),
+        (126, 4096),
+        (126, 4097),
+        (126, 5000),
+        (200, 4),
+        (0x7FFF_FFFF, 4),
+    ] {
+        assert!(rt; is_nameless(rt.alloc(), offset, letters) == Some(true));
+    }
+}
+
+/// Bytes, the offset of a name, how many bytes of it are asked for, and what it is: its bytes, and whether they are all.
+type NameRow = (&'static [u8], usize, usize, Option<(&'static [u8], bool)>);
+
+const NAME_ROWS: &[NameRow] = &[
+    (b"abc\0", 0, 3, Some((b"abc", true))),
+    (b"abc\0", 0, 2, Some((b"ab", false))),
+    (b"abc\0", 0, 0, Some((b"", false))),
+    (b"abc\0", 2, usize::MAX, Some((b"c", true))),
+    (b"abc\0", 3, 0, Some((b"", true))),
+    (b"abc\0", 4, 3, None),
+    (b"abc\0", 5, 3, None),
+    (b"a\0bc", 0, 9, Some((b"a", true))),
+    (b"a\0bc", 2, 1, None),
+    (b"abc\0", usize::MAX, 3, None),
+    (b"", 0, 3, None),
+];
+
+#[test]
+fn names_are_looked_at_in_part(rt: HostRuntime) {
+    for (bytes, from, most, want) in NAME_ROWS {
+        let found = match Names::new(bytes).name(*from, *most) {
+            Some(name) => Some((name.bytes, name.whole)),
+            None => None,
+        };
+        assert!(rt; found == *want);
+    }
 }
