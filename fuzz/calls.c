@@ -420,10 +420,13 @@ static void read_connection(struct pef_context *context, uint32_t connection)
         struct pef_bytes name = PEF_NO_BYTES;
         size_t sections = 0, written = 0;
         uint32_t address = 0;
+        bool is_present = false;
         if (pef_fragment_entries(context, connection, order[i], &entries) != PEF_OK)
             fails("pef_fragment_entries", (uint32_t)order[i]);
         if (pef_fragment_name(context, order[i], &name) != PEF_OK || pef_fragment_sections(context, order[i], &sections) != PEF_OK)
             fails("pef_fragment_name", (uint32_t)order[i]);
+        if (pef_is_present(context, name.at, name.length, &is_present) != PEF_OK || !is_present)
+            fails("pef_is_present", (uint32_t)order[i]);
         is_ok("pef_fragment_symbol", pef_fragment_symbol(context, connection, order[i], (const uint8_t *)"t", 1, &address));
         struct pef_target target = {0};
         for (size_t number = 0; number < 32; number++) {

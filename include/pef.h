@@ -899,6 +899,12 @@ uint32_t pef_init_order(struct pef_context *context, uint32_t connection, size_t
 /* Gives a fragment's name, which is what was added. It needn't be present. Returns PEF_NOT_THERE past the last fragment. */
 uint32_t pef_fragment_name(struct pef_context *context, size_t fragment, struct pef_bytes *name);
 
+/*
+ * Tells whether the fragment of a name is present: the closure of an open connection has it. If several fragments have the same
+ * name, the first is used. If none has it, false is stored.
+ */
+uint32_t pef_is_present(struct pef_context *context, const uint8_t *name, size_t name_length, bool *is_present);
+
 /* Counts the sections that a fragment has in memory: none, if it isn't present. */
 uint32_t pef_fragment_sections(struct pef_context *context, size_t fragment, size_t *count);
 
@@ -1014,6 +1020,12 @@ static inline uint32_t pef_fragment_name_const(const struct pef_context *context
 {
     struct pef_context copy = *context;
     return pef_fragment_name(&copy, fragment, name);
+}
+
+static inline uint32_t pef_is_present_const(const struct pef_context *context, const uint8_t *name, size_t name_length, bool *is_present)
+{
+    struct pef_context copy = *context;
+    return pef_is_present(&copy, name, name_length, is_present);
 }
 
 static inline uint32_t pef_fragment_sections_const(const struct pef_context *context, size_t fragment, size_t *count)

@@ -27,12 +27,14 @@ static void expect_not_open(struct pef_context *context)
     uint32_t connection = 7, address = 7;
     size_t order[1] = {7}, count = 7;
     uint8_t room[1] = {7};
+    bool is_present = true;
     expect(add_fragment(context, &fragments[0]) == PEF_NOT_OPEN, "pef_add on a closed context");
     expect(prepare_first(context, &connection, &names) == PEF_NOT_OPEN, "pef_prepare on a closed context");
     expect(pef_close(context, 0) == PEF_NOT_OPEN, "pef_close on a closed context");
     expect(pef_fragments(context, 0, order, 1, &count) == PEF_NOT_OPEN, "pef_fragments on a closed context");
     expect(pef_init_order(context, 0, order, 1, &count) == PEF_NOT_OPEN, "pef_init_order on a closed context");
     expect(pef_fragment_name(context, 0, &name) == PEF_NOT_OPEN, "pef_fragment_name on a closed context");
+    expect(pef_is_present(context, room, 1, &is_present) == PEF_NOT_OPEN && is_present, "pef_is_present on a closed context");
     expect(pef_fragment_sections(context, 0, &count) == PEF_NOT_OPEN, "pef_fragment_sections on a closed context");
     expect(pef_fragment_section(context, 0, 0, 0, &section) == PEF_NOT_OPEN, "pef_fragment_section on a closed context");
     expect(pef_fragment_bytes(context, 0, 0, room, 1, &count) == PEF_NOT_OPEN, "pef_fragment_bytes on a closed context");
@@ -130,6 +132,14 @@ static void expect_reserved(void)
     pef_free(&context);
 }
 
+/* The first fragment is present or not. No other name is that of a fragment that is present. */
+static void expect_present(struct pef_context *context, bool wanted, const char *what)
+{
+    bool is_present = !wanted;
+    expect(pef_is_present(context, fragments[0].name.at, fragments[0].name.length, &is_present) == PEF_OK && is_present == wanted, what);
+    expect(pef_is_present(context, (const uint8_t *)"no such name", 12, &is_present) == PEF_OK && !is_present, "no fragment of a name is present");
+}
+
 /* A context takes PEF_MAX_FRAGMENTS fragments and no more. */
 static void expect_full(struct pef_context *context)
 {
@@ -150,6 +160,7 @@ int main(int count, char **words)
         return 2;
     expect_not_open(&first);
     expect(open_all(&first, 0x10000000) == PEF_OK && open_all(&second, 0x10000000) == PEF_OK, "two contexts");
+    expect_present(&first, false, "a fragment that isn't prepared yet");
     expect(prepare_first(&first, &one, &names) == PEF_OK && prepare_first(&second, &other, &names) == PEF_OK, "two preparations");
     expect(one == 0 && other == 0, "the numbers of two connections");
     expect(tell_connection(&first_told, &first, one) && tell_connection(&second_told, &second, other), "all is told");
@@ -162,6 +173,10 @@ int main(int count, char **words)
     expect_none_new(&first, again);
     expect(pef_close(&first, one) == PEF_OK && !tell_connection(&first_told, &first, one), "a connection is closed");
     expect(tell_connection(&first_told, &first, again) && is_same(&first_told, &second_told), "the other one stays");
+    expect_present(&first, true, "a fragment that two connections needed, and one still needs");
+    expect(pef_close(&first, again) == PEF_OK, "the last connection is closed");
+    expect_present(&first, false, "a fragment that no connection needs");
+    expect_present(&second, true, "the same fragment in another context");
     pef_free(&first);
     expect_not_open(&first);
     expect(tell_connection(&first_told, &second, other) && is_same(&first_told, &second_told), "the second context stays");

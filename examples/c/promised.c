@@ -95,6 +95,8 @@ static void test_null_fragment(void)
     struct pef_bytes name;
     uint32_t connection = 7;
     size_t count = 7;
+    bool is_present;
+    memset(&is_present, 0xFF, sizeof is_present);
     memset(&names, 0xFF, sizeof names);
     expect(pef_open(&context, 0x10000000) == PEF_OK, "pef_open");
     expect(pef_add(&context, NULL, 0, NULL, 0) == PEF_OK, "pef_add of null");
@@ -102,6 +104,7 @@ static void test_null_fragment(void)
     expect(names.fragment.length == 0 && place.part == PEF_NOWHERE && connection == 7, "what is reported of it");
     expect(pef_fragment_name(&context, 0, &name) == PEF_OK && name.length == 0, "the name of it");
     expect(pef_fragment_name(&context, 1, &name) == PEF_NOT_THERE, "a fragment after it");
+    expect(pef_is_present(&context, NULL, 0, &is_present) == PEF_OK && !is_present, "whether it is present");
     expect(pef_fragment_sections(&context, 0, &count) == PEF_OK && count == 0, "its sections");
     pef_free(&context);
 }
@@ -162,6 +165,8 @@ static void test_filled_by_context(int byte)
     struct pef_bytes name;
     uint32_t connection = 7, address = 7;
     size_t count = 7;
+    bool is_present;
+    memset(&is_present, byte, sizeof is_present);
     memset(&names, byte, sizeof names);
     memset(&place, byte, sizeof place);
     memset(&section, byte, sizeof section);
@@ -174,6 +179,7 @@ static void test_filled_by_context(int byte)
     expect(place.part == PEF_NOWHERE && place.row == 0 && place.field == 0 && place.offset == PEF_NO_OFFSET, "its place");
     expect(pef_prepare(&context, (const uint8_t *)"it", 2, &connection, &names) == PEF_OK && connection == 0, "pef_prepare");
     expect(pef_fragment_name(&context, 0, &name) == PEF_OK && is_named(name, "it"), "the name of a fragment");
+    expect(pef_is_present(&context, (const uint8_t *)"it", 2, &is_present) == PEF_OK && is_present, "a fragment that is present");
     expect(pef_fragment_section(&context, 0, 0, 0, &section) == PEF_OK && section.address == 0x10000 && section.size == 16, "a section in memory");
     expect(section.kind == PEF_KIND_DATA && section.share == PEF_SHARE_PROCESS, "its kind and its share");
     expect(pef_fragment_entries(&context, 0, 0, &entries) == PEF_OK && entries.has_main && entries.main == 0x10000, "the main entry point");

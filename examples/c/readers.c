@@ -116,6 +116,7 @@ static void tell_symbols(struct told *told, const struct pef_context *from, size
 static bool tell_all(struct told *told, const struct pef_context *from)
 {
     size_t places[PEF_MAX_FRAGMENTS], count = 0;
+    bool is_present = false;
     bool is_told = tell_connection(told, from, connection);
     is_told = is_told && pef_new_fragments_const(from, connection, places, PEF_MAX_FRAGMENTS, &count) == PEF_OK;
     tell(told, places, count * sizeof places[0]);
@@ -123,6 +124,7 @@ static bool tell_all(struct told *told, const struct pef_context *from)
         tell_symbols(told, from, places[i]);
     is_told = is_told && pef_released_by_const(from, connection, places, PEF_MAX_FRAGMENTS, &count) == PEF_OK;
     tell(told, places, count * sizeof places[0]);
+    is_told = is_told && pef_is_present_const(from, fragments[0].name.at, fragments[0].name.length, &is_present) == PEF_OK && is_present;
     return is_told;
 }
 

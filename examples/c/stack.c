@@ -229,11 +229,13 @@ static void call_readers(void)
     static struct pef_entries entries;
     static struct pef_target target;
     static uint32_t address;
+    static bool is_present;
     pef_fragments(&context, connection, places, PEF_MAX_FRAGMENTS, &count);
     pef_init_order(&context, connection, places, PEF_MAX_FRAGMENTS, &count);
     pef_new_fragments(&context, connection, places, PEF_MAX_FRAGMENTS, &count);
     pef_released_by(&context, connection, places, PEF_MAX_FRAGMENTS, &count);
     pef_fragment_name(&context, 0, &bytes);
+    pef_is_present(&context, (const uint8_t *)"0", 1, &is_present);
     pef_fragment_sections(&context, 0, &count);
     pef_fragment_section(&context, connection, 0, 0, &section);
     pef_fragment_bytes(&context, 0, 0, room, ROOM, &written);

@@ -389,6 +389,7 @@ _CALLS: Dict[str, List[Any]] = {
     "pef_fragments": _IN_CONTEXT + [ctypes.c_uint32] + _PLACES + _SIZE,
     "pef_init_order": _IN_CONTEXT + [ctypes.c_uint32] + _PLACES + _SIZE,
     "pef_fragment_name": _IN_CONTEXT + [ctypes.c_size_t, ctypes.POINTER(_Bytes)],
+    "pef_is_present": _IN_CONTEXT + _IN + [ctypes.POINTER(ctypes.c_bool)],
     "pef_fragment_sections": _IN_CONTEXT + [ctypes.c_size_t] + _SIZE,
     "pef_fragment_section": _OF_FRAGMENT + [ctypes.c_size_t, ctypes.POINTER(_FragmentSection)],
     "pef_fragment_bytes": _IN_CONTEXT + [ctypes.c_size_t] * 2 + _ROOM + _SIZE,
@@ -1130,6 +1131,12 @@ class Context:
                 answer = library().pef_prepare(*words)
             _check(answer, place, fragment=names.fragment.text(), library=names.library.text(), symbol=names.symbol.text())
         return Connection(self, number.value)
+
+    def is_present(self, name: Text) -> bool:
+        """Whether the fragment of a name is present: the closure of an open connection has it. False if none was added."""
+        raw, answer = _raw(name), ctypes.c_bool()
+        self._call("pef_is_present", raw, len(raw), ctypes.byref(answer))
+        return answer.value
 
     def free(self) -> None:
         """Frees the context. What is called later raises PefError: 202."""

@@ -1,8 +1,8 @@
 -- What a context reports about its connections: the sections of their roots, the entry points of their
 -- fragments, and the exports of these (Mac OS Runtime Architectures, "Code Fragment Manager", "Finding
 -- Symbols").
-use Rattle.std.specs.Prelude.{ℕ, List, [], ◌∷◌, Option, None, Some, if◌then◌else◌, nat_lt, option_map, reverse}
-use Rattle.std.specs.Option.{option_and_then}
+use Rattle.std.specs.Prelude.{ℕ, Bool, false, List, [], ◌∷◌, Option, None, Some, if◌then◌else◌, nat_lt, option_map, reverse}
+use Rattle.std.specs.Option.{option_and_then, option_map_or}
 use Rattle.std.specs.Result.{result_unwrap_or}
 use Rattle.pef_format.specs.declared.export.ExportValue.{ExportValue}
 use Rattle.pef_format.specs.declared.export.ExportValue.TheVariants.{Absolute, InSection, Reexport}
@@ -10,7 +10,7 @@ use Rattle.pef_format.specs.Exports.{value_of}
 use Rattle.pef_views.specs.Container.{section_of}
 use Rattle.pef_views.specs.declared.section.SectionHeader.{SectionHeader}
 use Rattle.pef_loader.specs.Loader.{export_of, init_of, main_of, named_of, term_of}
-use Rattle.cfm_closure.specs.Stores.{Pair}
+use Rattle.cfm_closure.specs.Stores.{Pair, place_of}
 use Rattle.cfm_closure.specs.Fragments.{container_at, import_count, loader_at}
 use Rattle.cfm_closure.specs.Targets.{target_of}
 use Rattle.cfm_closure.specs.declared.targets.Target.TheVariants.{At}
@@ -18,10 +18,14 @@ use Rattle.cfm_prepare.specs.Prepared.{entry_address}
 use Rattle.cfm_prepare.specs.declared.entries.Entries.{Entries}
 use Rattle.cfm_prepare.specs.declared.imports.ImportTarget.{ImportTarget}
 use Rattle.cfm_prepare.specs.Addresses.{import_address, target_address}
-use Rattle.cfm_prepare.specs.Fragments.{Present, places_of}
+use Rattle.cfm_prepare.specs.Fragments.{Present, is_present, places_of}
 use Rattle.cfm_prepare.specs.Lists.{has}
 use Rattle.cfm_prepare.specs.Sections.{section_present}
 use Rattle.cfm_prepare.specs.Contexts.{ContextState, Open, is_needed, open_of, open_without}
+
+-- whether the first fragment with a name is present; not if there is none
+abbrev pub has_present : ContextState → List ℕ → Bool
+has_present s name = option_map_or (is_present s.present) (place_of s.pairs name) false
 
 -- section i of a connection's root
 abbrev pub root_section : ContextState → ℕ → ℕ → Option (ℕ × List ℕ)

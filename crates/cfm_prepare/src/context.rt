@@ -7,7 +7,7 @@ ghost use Rattle.cfm_prepare.specs.Fragments.{places_of};
 ghost use Rattle.cfm_prepare.specs.Made.{choices_of};
 ghost use Rattle.cfm_prepare.specs.Sections.{section_present, section_seen, sections_at, sections_left};
 ghost use Rattle.cfm_prepare.specs.Contexts.{fresh_state, made_state, open_of};
-ghost use Rattle.cfm_prepare.specs.Readers.{entries_of, import_target_of, main_address, numbered_export, released_by, root_section, section_header_of, symbol_address, symbol_of};
+ghost use Rattle.cfm_prepare.specs.Readers.{entries_of, has_present, import_target_of, main_address, numbered_export, released_by, root_section, section_header_of, symbol_address, symbol_of};
 ghost use Rattle.cfm_prepare.specs.Steps.{Adds, Closes, MayNotAdd, MayNotPrepare, Prepares, TakesOut};
 
 use crate::add_fault::AddFault;
@@ -312,6 +312,17 @@ impl<'a> Context<'a> {
         ensures { result.now ≡ self.now.pairs }
     {
         self.store.store()
+    }
+
+    /// Returns whether the fragment with a name is present: the closure of an open connection has it. If several
+    /// fragments have the same name, the first is used. `false` if there is none.
+    pub fn is_present(&self, name: &[u8]) -> bool
+        ensures { result ≡ has_present self.now name.now }
+    {
+        match self.store.find(name) {
+            Some(position) => self.fragments.has(position),
+            None => false,
+        }
     }
 
     /// Returns the address and the bytes of section `i` of the fragment in a place of the store. `None` if the

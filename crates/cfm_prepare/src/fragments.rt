@@ -2,7 +2,7 @@ ghost use Rattle.std.specs.Prelude.{◌≡◌, ◌≤◌, ◌+◌, ◌++◌, Lis
 ghost use Rattle.cfm_memory.specs.Placement.{IsClear};
 ghost use Rattle.cfm_memory.specs.Reservation.{MayNotReserve, Reserves};
 ghost use Rattle.cfm_prepare.specs.Addresses.{target_address};
-ghost use Rattle.cfm_prepare.specs.Fragments.{IsGivenBack, Present, new_among, none_present, places_of};
+ghost use Rattle.cfm_prepare.specs.Fragments.{IsGivenBack, Present, is_present, new_among, none_present, places_of};
 ghost use Rattle.cfm_prepare.specs.Bounds.{AreWithin, bytes_in, steps_in};
 ghost use Rattle.cfm_prepare.specs.Kept.Bounds.{IsPastBounds};
 ghost use Rattle.cfm_prepare.specs.Lists.{IsOnce};
@@ -123,6 +123,13 @@ impl Fragments {
         ensures { IsGivenBack self.old.memory self.old.present position self.new.memory self.new.present }
     {
         give_back_fragment(&mut self.memory, &mut self.present, position);
+    }
+
+    /// Returns whether the fragment in a place of the store is present.
+    pub fn has(&self, position: usize) -> bool
+        ensures { result ≡ is_present self.now.present position }
+    {
+        self.present.has(position)
     }
 
     /// Returns where the instantiated sections of the fragment in a place of the store lie, in their order;

@@ -18,6 +18,8 @@ mod many;
 #[cfg(test)]
 mod options;
 #[cfg(test)]
+mod present;
+#[cfg(test)]
 mod readers;
 #[cfg(test)]
 mod refused;

@@ -4,8 +4,8 @@ use crate::{
     PefEntries, PefFragmentSection, PefNames, PefTarget, pef_add, pef_close, pef_export_address,
     pef_fragment_bytes, pef_fragment_entries, pef_fragment_name, pef_fragment_section,
     pef_fragment_sections, pef_fragment_symbol, pef_fragments, pef_free, pef_import_target,
-    pef_init_order, pef_link, pef_new_fragments, pef_open, pef_prepare, pef_released_by,
-    pef_reserve,
+    pef_init_order, pef_is_present, pef_link, pef_new_fragments, pef_open, pef_prepare,
+    pef_released_by, pef_reserve,
 };
 use std::alloc::Global;
 use std::process::Abort;
@@ -160,6 +160,40 @@ fn new_and_released(rt: HostRuntime) {
     assert!(rt; pef_released_by(rt.alloc(), &mut context, 1, &mut places, &mut count) == 202);
     assert!(rt; pef_new_fragments(rt.alloc(), &mut context, 1, &mut places, &mut count) == 202);
     assert!(rt; places == [0, 1, 7] && count == 2);
+}
+
+/// Tests whether a fragment is present.
+fn test_presence(
+    rt: &impl Abort,
+    alloc: Global,
+    context: &mut PefContext,
+    name: &[u8],
+    wanted: bool,
+) {
+    let mut is_present = !wanted;
+    assert!(rt; pef_is_present(alloc, context, name, &mut is_present) == 0);
+    assert!(rt; is_present == wanted);
+}
+
+/// The library is present until no connection needs it. A name that was not added is never that of a fragment.
+#[test]
+fn present(rt: HostRuntime) {
+    let mut context = opened(&rt, rt.alloc(), true);
+    test_presence(&rt, rt.alloc(), &mut context, b"L", false);
+    prepare(&rt, rt.alloc(), &mut context, b"A", 0);
+    prepare(&rt, rt.alloc(), &mut context, b"L", 1);
+    test_presence(&rt, rt.alloc(), &mut context, b"A", true);
+    assert!(rt; pef_close(rt.alloc(), &mut context, 0) == 0);
+    test_presence(&rt, rt.alloc(), &mut context, b"A", false);
+    test_presence(&rt, rt.alloc(), &mut context, b"L", true);
+    test_presence(&rt, rt.alloc(), &mut context, b"M", false);
+    test_presence(&rt, rt.alloc(), &mut context, b"", false);
+    assert!(rt; pef_close(rt.alloc(), &mut context, 1) == 0);
+    test_presence(&rt, rt.alloc(), &mut context, b"L", false);
+    pef_free(rt.alloc(), &mut context);
+    let mut is_present = true;
+    assert!(rt; pef_is_present(rt.alloc(), &mut context, b"L", &mut is_present) == 202);
+    assert!(rt; is_present);
 }
 
 /// Sections are placed around a range, and no range meets a section or another range.

@@ -4,7 +4,7 @@ ghost use Rattle.std.specs.Prelude.{◌≡◌, Some, length, option_map, slice_g
 ghost use Rattle.std.specs.Option.{option_and_then, option_copied};
 ghost use Rattle.cfm_prepare.specs.Contexts.{open_of};
 ghost use Rattle.cfm_prepare.specs.Fragments.{places_of};
-ghost use Rattle.cfm_prepare.specs.Readers.{entries_of, symbol_of};
+ghost use Rattle.cfm_prepare.specs.Readers.{entries_of, has_present, symbol_of};
 ghost use Rattle.cfm_prepare.specs.Sections.{section_present};
 ghost use Rattle.pef_c.specs.Contexts.{held};
 ghost use Rattle.pef_c.specs.Reading.{CopyAnswers, ReadAnswers, entries_given, fragment_section_of};
@@ -84,6 +84,27 @@ pub extern "C" fn pef_fragment_name(
     };
     put(context, boxed);
     answer
+}
+
+/// Tells whether the fragment with this name is present: not if there is none.
+///
+/// Returns 0, or 202 if the context isn't open.
+#[unsafe(no_mangle)]
+pub extern "C" fn pef_is_present(
+    alloc: Global,
+    context: &mut PefContext,
+    name: &[u8],
+    is_present: &mut bool,
+) -> u32
+    ensures same { held context.new ≡ held context.old }
+    ensures read { ReadAnswers (λ s. Some (has_present s name.now)) (held context.old) is_present.old is_present.new result }
+{
+    let Some(boxed) = take(alloc, context) else {
+        return NOT_OPEN;
+    };
+    *is_present = boxed.is_present(given(name));
+    put(context, boxed);
+    0
 }
 
 /// Counts the sections that a fragment has in memory: none if it isn't present.

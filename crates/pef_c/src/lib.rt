@@ -60,7 +60,7 @@ pub use findings::{pef_findings, pef_more_notes};
 pub use fixups::pef_fixups;
 pub use fragments::{
     pef_fragment_bytes, pef_fragment_entries, pef_fragment_name, pef_fragment_section,
-    pef_fragment_sections, pef_fragment_symbol, pef_fragments, pef_init_order,
+    pef_fragment_sections, pef_fragment_symbol, pef_fragments, pef_init_order, pef_is_present,
 };
 pub use handle::PefContext;
 pub use link::pef_link;
