@@ -254,12 +254,17 @@ class MacFile:
 
     @classmethod
     def from_file(cls, path: Union[str, os.PathLike[str]]) -> "MacFile":
-        """The file at a path. If it has no resource fork, the usual places are looked at: `resource_files`. Raises OSError."""
-        it = cls(pathlib.Path(path).read_bytes())
-        if it.resource_fork is None and it.kind in (FileKind.OTHER, FileKind.CONTAINER):
+        """The file at a path. If it can be a data fork, the usual places of its resource fork are looked at: `resource_files`.
+
+        The first file there that can be read and has a resource fork is used. Raises OSError.
+        """
+        path = pathlib.Path(path)
+        it = cls(path.read_bytes())
+        if it.kind in (FileKind.OTHER, FileKind.CONTAINER) and not path.name.startswith("._"):
             for other in resource_files(path):
-                if other.is_file():
-                    it = cls(it.contents, other.read_bytes())
+                contents = _read(other)
+                if contents is not None and _has_resource_fork(contents):
+                    it = cls(it.contents, contents)
                     it.resource_path = other
                     break
         return it
@@ -442,8 +447,25 @@ def _places_in(contents: bytes) -> List[int]:
     return list(_all("pef_find_containers", ctypes.c_size_t, contents, len(contents)))
 
 
+def _read(path: pathlib.Path) -> Optional[bytes]:
+    """The bytes of a file, or None if it can't be read."""
+    try:
+        return path.read_bytes()
+    except OSError:
+        return None
+
+
+def _has_resource_fork(contents: bytes) -> bool:
+    """Whether a file has a resource fork that can be read."""
+    forks: _Forks = _empty(_Forks)
+    if library().pef_forks(contents, len(contents), ctypes.byref(forks)) != OK or forks.resource_fork.error != OK:
+        return False
+    fork = forks.resource_fork.bytes.value()
+    return bool(fork) and library().pef_resource_map(fork, len(fork), ctypes.byref(_ResourceMap())) == OK
+
+
 def resource_files(path: Union[str, os.PathLike[str]]) -> List[pathlib.Path]:
-    """Where the resource fork of a file usually is, if it is a file of its own."""
+    """Where the resource fork of a file usually is, if it is a file of its own: the places of `pef inspect`, in its order."""
     path = pathlib.Path(path)
     folder, name = path.parent, path.name
     return [

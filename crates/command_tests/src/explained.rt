@@ -35,6 +35,11 @@ const USAGE: &[(&[&str], &[u8], &str)] = &[
         "Usage: pef load <NAME=FILE>...\n",
     ),
     (
+        &["inspect", "--resources", "a.rsrc", "a", "b"],
+        b"error: give either FILEs or `--files0`",
+        "Usage: pef inspect [OPTIONS] [FILE]...\n",
+    ),
+    (
         &["--help"],
         b"Links, lists and loads PEF containers\n",
         "\n  show ",

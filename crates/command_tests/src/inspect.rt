@@ -3,19 +3,25 @@ use std::test::Fail;
 use test_bench::mac_files::fragment_file;
 use test_bench::runs::{Handed, assert_cut_output, assert_prints};
 
-/// What is printed of files without containers: the words, the file, the text and the status.
-const REPORTS: &[(&[&str], &[u8], &[u8], u8)] = &[
+/// The number of places at which a resource fork is looked for.
+const PLACES: u64 = 6;
+
+/// What is printed of files without containers: the words, the file, the text, the status, and the number of places at which
+/// no resource fork is found.
+const REPORTS: &[(&[&str], &[u8], &[u8], u8, u64)] = &[
     (
         &["inspect", "a"],
         b"",
         b"file a size 0 format other\ntotal containers 0 errors 0 notes 0\n",
         0,
+        PLACES,
     ),
     (
         &["inspect", "--json", "a"],
         b"text",
         b"{\"file\":\"a\",\"size\":4,\"format\":\"other\",\"forks\":[],\"fragments\":[],\"containers\":[],\"errors\":[],\"notes\":[]}\n",
         0,
+        PLACES,
     ),
     // A header of AppleDouble that is cut, and one with version 3.
     (
@@ -23,12 +29,14 @@ const REPORTS: &[(&[&str], &[u8], &[u8], u8)] = &[
         b"\x00\x05\x16\x07\x00\x02",
         b"file a size 6 format damaged\nerror 82 AppleHeaderCut fork\ntotal containers 0 errors 1 notes 0\n",
         1,
+        0,
     ),
     (
         &["inspect", "--json", "a"],
         b"\x00\x05\x16\x07\x00\x03\x00\x00\x00\x00\x00\x00\x00\x00\x00\x00\x00\x00\x00\x00\x00\x00\x00\x00\x00\x00",
         b"{\"file\":\"a\",\"size\":26,\"format\":\"damaged\",\"forks\":[],\"fragments\":[],\"containers\":[],\"errors\":[{\"number\":83,\"name\":\"BadAppleVersion\",\"part\":\"fork\",\"row\":null,\"field\":null,\"offset\":4}],\"notes\":[]}\n",
         1,
+        0,
     ),
     // A file that isn't there, and one after it.
     (
@@ -36,17 +44,46 @@ const REPORTS: &[(&[&str], &[u8], &[u8], u8)] = &[
         b"text",
         b"file missing\nerror 71 FileUnreadable\ntotal containers 0 errors 1 notes 0\nfile a size 4 format other\ntotal containers 0 errors 0 notes 0\n",
         1,
+        PLACES,
     ),
-    (&["inspect"], b"", b"usage\n", 2),
-    (&["inspect", "--files0", "a"], b"", b"usage\n", 2),
-    (&["inspect", "--jsonl", "a"], b"", b"usage\n", 2),
+    (&["inspect"], b"", b"usage\n", 2, 0),
+    (&["inspect", "--files0", "a"], b"", b"usage\n", 2, 0),
+    (&["inspect", "--jsonl", "a"], b"", b"usage\n", 2, 0),
+    // `--resources` is for one file, which the command line names.
+    (&["inspect", "--resources"], b"", b"usage\n", 2, 0),
+    (&["inspect", "--resources", "a"], b"", b"usage\n", 2, 0),
+    (
+        &["inspect", "--resources", "a", "a", "a"],
+        b"",
+        b"usage\n",
+        2,
+        0,
+    ),
+    (
+        &["inspect", "--resources", "a", "--resources", "a", "a"],
+        b"",
+        b"usage\n",
+        2,
+        0,
+    ),
+    (
+        &["inspect", "--resources", "a", "--files0"],
+        b"",
+        b"usage\n",
+        2,
+        0,
+    ),
 ];
 
 #[test]
 fn inspect(rt: HostRuntime) -> Result<(), Fail> {
     for row in REPORTS {
-        let (words, file, printed, status) = *row;
-        assert_prints(rt.alloc(), Handed::file(words, file), printed, status)?;
+        let (words, file, printed, status, looks) = *row;
+        let handed = Handed {
+            looks,
+            ..Handed::file(words, file)
+        };
+        assert_prints(rt.alloc(), handed, printed, status)?;
     }
     Ok(())
 }
@@ -85,29 +122,33 @@ fn inspect_input(rt: HostRuntime) -> Result<(), Fail> {
     Ok(())
 }
 
-/// What is printed of the files that the input lists: the input, the text and the status.
-const LISTED: &[(&[u8], &[u8], u8)] = &[
-    (b"", b"", 0),
+/// What is printed of the files that the input lists: the input, the text, the status, and the number of places at which no
+/// resource fork is found.
+const LISTED: &[(&[u8], &[u8], u8, u64)] = &[
+    (b"", b"", 0, 0),
     (
         b"a\x00",
         b"file a size 4 format other\ntotal containers 0 errors 0 notes 0\n",
         0,
+        PLACES,
     ),
     // The last path needs no zero byte, and an empty path is no file.
     (
         b"a\x00\x00a",
         b"file a size 4 format other\ntotal containers 0 errors 0 notes 0\nfile \nerror 71 FileUnreadable\ntotal containers 0 errors 1 notes 0\nfile a size 4 format other\ntotal containers 0 errors 0 notes 0\n",
         1,
+        2 * PLACES,
     ),
 ];
 
 #[test]
 fn inspect_listed(rt: HostRuntime) -> Result<(), Fail> {
     for row in LISTED {
-        let (list, printed, status) = *row;
+        let (list, printed, status, looks) = *row;
         let words = ["inspect", "--files0"];
         let handed = Handed {
             file: b"text",
+            looks,
             ..Handed::input(&words, list)
         };
         assert_prints(rt.alloc(), handed, printed, status)?;
@@ -135,9 +176,10 @@ fn inspect_unread(rt: HostRuntime) -> Result<(), Fail> {
         let handed = Handed {
             files_fail_at: 1,
             fault,
+            looks: PLACES,
             ..Handed::files(&words, b"a", b"b")
         };
-        assert_prints(rt.alloc(), handed, printed, 1)?.assert_calls((2, 0))?;
+        assert_prints(rt.alloc(), handed, printed, 1)?.assert_calls((2 + PLACES, 0))?;
     }
     Ok(())
 }
@@ -145,9 +187,13 @@ fn inspect_unread(rt: HostRuntime) -> Result<(), Fail> {
 #[test]
 fn inspect_output_fails(rt: HostRuntime) -> Result<(), Fail> {
     let words = ["inspect", "a"];
+    let handed = Handed {
+        looks: PLACES,
+        ..Handed::file(&words, b"")
+    };
     assert_cut_output(
         rt.alloc(),
-        Handed::file(&words, b""),
+        handed,
         b"file a size 0 format other\ntotal containers 0 errors 0 notes 0\n",
     )
 }

@@ -6,6 +6,8 @@
 #![tactic(auto)]
 
 #[cfg(test)]
+mod companions;
+#[cfg(test)]
 mod details;
 #[cfg(test)]
 mod explained;

@@ -1,5 +1,5 @@
 -- A container that was found in a file and written.
-use Rattle.std.proofs.Common.{◌≡◌, List, ℕ, Result, Ok, ap, sym, subst, ◌∙◌}
+use Rattle.std.proofs.Common.{◌≡◌, List, ℕ, Result, Ok, ap, sym, ◌∙◌}
 use Rattle.cfm_members.specs.declared.fragment_fault.FragmentFault.{FragmentFault}
 use Rattle.pef_ports.specs.Ports.{FilesPort, Reads, Writes}
 use Rattle.pef_ports.specs.declared.ports.FileFault.{FileFault}

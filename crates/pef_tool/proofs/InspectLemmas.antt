@@ -1,8 +1,9 @@
 -- How the files of `inspect` add up.
-use Rattle.std.proofs.Common.{◌≡◌, ◌+◌, ◌-◌, ◌^◌, ℕ, List, [], ◌∷◌, ◌++◌, Result, Ok, Err, IfErr, IfOk, min, refl, sym, subst, append_assoc, append-nil, ◌∙◌, IsErrAnd, inl, inr}
+use Rattle.std.proofs.Common.{◌≡◌, ◌+◌, ◌-◌, ◌^◌, ℕ, List, [], ◌∷◌, ◌++◌, Option, None, Some, Result, Ok, Err, codes, IfErr, IfOk, min, refl, sym, subst, append_assoc, append-nil, ◌∙◌, IsErrAnd, inr}
 use Rattle.std.specs.declared.alloc.Global.{Global}
 use Rattle.std.specs.declared.vec.Vec.{Vec}
-use Rattle.mac_report.specs.Reports.{unread_text}
+use Rattle.mac_report.specs.DataFiles.{DataFileIs}
+use Rattle.mac_report.specs.Reports.{unread_counts, unread_text}
 use Rattle.mac_report.specs.declared.file.Form.{Form}
 use Rattle.pef_faults.specs.Faults.{fault_name, fault_number}
 use Rattle.pef_faults.specs.declared.fault.Fault.{Fault}
@@ -13,7 +14,8 @@ use Rattle.pef_ports.specs.Sent.{Prints, StopsShort}
 use Rattle.pef_ports.specs.declared.input.InputFault.{InputFault}
 use Rattle.pef_ports.specs.declared.input.InputFault.TheVariants.{Unreadable, TooLong, OutOfMemory}
 use Rattle.pef_ports.proofs.Laws.Sending.{Prints-then, StopsShort-longer, StopsShort-then, sent-nothing}
-use Rattle.pef_tool.specs.Inspect.{Inspects, IsRead, ReadsPath, ReadsStandard, Reported}
+use Rattle.pef_tool.specs.Companions.{CompanionIs}
+use Rattle.pef_tool.specs.Inspect.{Inspects, IsPrinted, IsPrintedBeside, ReadsPath, ReadsStandard, Reported}
 use Rattle.pef_tool.specs.Kept.Inspecting.{read_seen}
 use Rattle.pef_tool.specs.Kept.Reading.{StopsFile}
 use Rattle.pef_tool.specs.Limits.{input_limit}
@@ -51,13 +53,32 @@ pub record HasInspected {F R : Type 0} (port : FilesPort F) (stream : R → Stre
   pub inspects : (last : F) (end : R) (text : List ℕ) (all : ℕ) → Inspects port stream form files last input end left errors text all → Inspects port stream form first last start end paths 0 (sent ++ text) all
 
 module _ {F R : Type 0} (port : FilesPort F) (stream : R → Stream) (form : Form) where
+  -- a file that wasn't reached has a report
+  unreached : (files : F) (input : R) (path : List ℕ)
+      → Reported port stream None form files files input input path (unread_text form path (fault_number fault.OutOfMemory) (fault_name fault.OutOfMemory)) 1
+  unreached files input path = record {
+    read = Err fault.OutOfMemory;
+    companion = None;
+    pair = record { between = files; rest = input; is = inr (refl, refl, refl); looks = ((refl, refl), refl) };
+    printed = record {
+      own = unread_text form path (fault_number fault.OutOfMemory) (fault_name fault.OutOfMemory);
+      own_errors = 1;
+      beside = [];
+      beside_errors = 0;
+      first = (refl, refl);
+      second = (refl, refl);
+      texts = sym (append-nil _);
+      sum = refl;
+    };
+  }
+
   -- files that weren't reached have some reports
   some_reports : (files : F) (input : R) (paths : List (List ℕ)) (errors : ℕ) → (text : List ℕ) × (all : ℕ) × Inspects port stream form files files input input paths errors text all
   some_reports files input [] errors = ([], errors, (refl, refl, refl, refl))
   some_reports files input (path ∷ paths) errors =
       let here = unread_text form path (fault_number fault.OutOfMemory) (fault_name fault.OutOfMemory) in
       let others = some_reports files input paths (min (errors + 1) (2 ^ 64 - 1)) in
-      (here ++ others.0, others.1, (files, input, here, 1, others.0, record { read = Err fault.OutOfMemory; is = inr (refl, refl, refl); printed = (refl, refl) }, others.2, refl))
+      (here ++ others.0, others.1, (files, input, here, 1, others.0, unreached files input path, others.2, refl))
 
   -- before the first file
   pub inspected-nothing : (files : F) (input : R) (out : Stream) (paths : List (List ℕ)) → HasInspected port stream form files files input input out out [] paths 0 paths
@@ -70,7 +91,7 @@ module _ {F R : Type 0} (port : FilesPort F) (stream : R → Stream) (form : For
     -- the next file
     pub inspected-more : (between : F) (rest : R) (after : Stream) (page' path : List ℕ) (others : List (List ℕ)) (here : List ℕ) (more : ℕ)
         → HasInspected port stream form first files start input before mid page paths errors left → left ≡ path ∷ others
-        → Reported port stream form files between input rest path here more → Prints mid after page page' here
+        → Reported port stream None form files between input rest path here more → Prints mid after page page' here
         → HasInspected port stream form first between start rest before after page' paths (min (errors + more) (2 ^ 64 - 1)) others
     inspected-more between rest after page' path others here more so_far is reported prints = record {
       sent = so_far.sent ++ here;
@@ -84,7 +105,7 @@ module _ {F R : Type 0} (port : FilesPort F) (stream : R → Stream) (form : For
     -- the output fails at the next file
     pub inspected-short : (between : F) (rest : R) (after : Stream) (path : List ℕ) (others : List (List ℕ)) (here : List ℕ) (more : ℕ)
         → HasInspected port stream form first files start input before mid page paths errors left → left ≡ path ∷ others
-        → Reported port stream form files between input rest path here more → StopsShort mid after page here
+        → Reported port stream None form files between input rest path here more → StopsShort mid after page here
         → (text : List ℕ) × (all : ℕ) × Inspects port stream form first between start rest paths 0 text all × StopsShort before after [] text
     inspected-short between rest after path others here more so_far is reported short =
         let next = some_reports between rest others (min (errors + more) (2 ^ 64 - 1)) in
@@ -102,6 +123,17 @@ module _ {F R : Type 0} (port : FilesPort F) (stream : R → Stream) (form : For
         let P : List ℕ → Type 0 = λ (t : List ℕ). Inspects port stream form first files start input paths 0 t errors in
         let Q : List (List ℕ) → Type 0 = λ (l : List (List ℕ)). Inspects port stream form files files input input l errors [] errors in
         (so_far.sent, subst P (append-nil so_far.sent) (so_far.inspects files input [] errors (subst Q (sym none) (refl, refl, refl, refl))), so_far.prints)
+
+-- some report on what was read
+some_printed : (form : Form) (path : List ℕ) (other : Option DataFileIs) (read : Result (List ℕ) Fault) → (text : List ℕ) × (errors : ℕ) × IsPrinted form path other read text errors
+some_printed form path other (Ok bytes) = (unread_text form path 99 (codes "OutOfMemory"), 1, (unread_counts, inr (refl, refl), refl))
+some_printed form path other (Err why) = (unread_text form path (fault_number why) (fault_name why), 1, (refl, refl))
+
+-- .. on a companion that wasn't reached
+pub some_beside : (form : Form) (path : List ℕ) (read : Result (List ℕ) Fault) (companion : Option CompanionIs) → (text : List ℕ) × (errors : ℕ) × IsPrintedBeside form path read companion text errors
+some_beside form path (Ok bytes) (Some c) = some_printed form c.path (Some (record { path = path; bytes = bytes })) c.read
+some_beside form path (Ok bytes) None = ([], 0, (refl, refl))
+some_beside form path (Err why) companion = ([], 0, (refl, refl))
 
 -- what was written of a text that was sent whole
 pub delivered : {before after : Stream} {text : List ℕ} → Prints before after [] [] text → Grows before.bytes after.bytes text

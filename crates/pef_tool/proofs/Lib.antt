@@ -4,6 +4,7 @@ mod OutcomeLemmas
 mod AloneLemmas
 mod AnswersProofs
 mod CheckLemmas
+mod CompanionLemmas
 mod EndLemmas
 mod ExplainLemmas
 mod ExtentLemmas

@@ -1,7 +1,9 @@
--- The answers of `inspect [--json] FILE ..` and of `inspect [--json] --files0` (docs/INSPECT.md). It reads one file after the other, in the order of the words,
--- and prints a report on each before it reads the next. It makes no other call on files. `-` names the standard input.
-use Rattle.std.specs.Prelude.{◌≡◌, ◌⊎◌, ℕ, ◌+◌, ◌-◌, ◌^◌, ◌==◌, ◌≤◌, Bool, true, false, List, [], ◌∷◌, ◌++◌, Result, Ok, Err, codes, length, min, if◌then◌else◌}
+-- The answers of `inspect [--json] FILE ..`, of `inspect [--json] --resources RESOURCES FILE` and of `inspect [--json] --files0`
+-- (docs/INSPECT.md). It reads one file after the other, in the order of the words, looks for the companion of each, and prints a
+-- report on both before it reads the next. It makes no other call on files. `-` names the standard input.
+use Rattle.std.specs.Prelude.{◌≡◌, ◌⊎◌, ℕ, ◌+◌, ◌-◌, ◌^◌, ◌==◌, ◌&&◌, ◌≤◌, Bool, true, false, not, List, [], ◌∷◌, ◌++◌, Option, None, Some, Result, Ok, Err, codes, length, min, if◌then◌else◌}
 use Rattle.std.specs.Str.{bytes_eq}
+use Rattle.mac_report.specs.DataFiles.{DataFileIs}
 use Rattle.mac_report.specs.Reports.{IsReport, unread_text}
 use Rattle.mac_report.specs.declared.file.Form.{Form}
 use Rattle.mac_report.specs.declared.file.Form.TheVariants.{Text, Json}
@@ -14,6 +16,7 @@ use Rattle.pef_ports.specs.declared.ports.FileFault.TheVariants as file_fault
 use Rattle.pef_report.specs.declared.frames.Counts.{Counts}
 use Rattle.pef_tool.specs.Answers.Answers.{Answer}
 use Rattle.pef_tool.specs.Answers.Faults.{fault_answer}
+use Rattle.pef_tool.specs.Companions.{CompanionIs, LooksIf, may_have_companion}
 use Rattle.pef_tool.specs.Limits.{input_limit}
 use Rattle.pef_tool.specs.Show.{RefusesToRead}
 use Rattle.pef_tool.specs.declared.answers.outcome.Outcome.{Outcome}
@@ -51,16 +54,57 @@ IsRead port stream files files' input input' path read =
     ReadsBy (is_input path) port stream files files' input input' path read
     ⊎ ((read ≡ Err OutOfMemory) × (files' ≡ files) × (input' ≡ input))
 
--- a report on what was read, and its number of errors. A file that wasn't read has one error
-abbrev pub IsPrinted : Form → List ℕ → Result (List ℕ) Fault → List ℕ → ℕ → Type 0
-IsPrinted form path (Ok bytes) text errors = (counts : Counts) × IsReport form path bytes text counts × (errors ≡ counts.errors)
-IsPrinted form path (Err fault) text errors = (text ≡ unread_text form path (fault_number fault) (fault_name fault)) × (errors ≡ 1)
+-- the companion of a file was looked for, if the file was read. The standard input has none
+abbrev pub LooksFor : {F : Type 0} → FilesPort F → F → F → List ℕ → Result (List ℕ) Fault → Option CompanionIs → Type 0
+LooksFor port before after path (Ok bytes) companion = LooksIf (not (is_input path) && may_have_companion path bytes) port before after path companion
+LooksFor port before after path (Err fault) companion = (companion ≡ None) × (after ≡ before)
 
--- one file was read and reported
-pub record Reported {F R : Type 0} (port : FilesPort F) (stream : R → Stream) (form : Form) (files files' : F) (input input' : R) (path text : List ℕ) (errors : ℕ) : Type 0 where
+-- the companion that was asked for was read, if the file was read
+abbrev pub ReadsGiven : {F R : Type 0} → List ℕ → FilesPort F → (R → Stream) → F → F → R → R → Result (List ℕ) Fault → Option CompanionIs → Type 0
+ReadsGiven resources port stream files files' input input' (Ok bytes) None = ⊥
+ReadsGiven resources port stream files files' input input' (Ok bytes) (Some c) = (c.path ≡ resources) × IsRead port stream files files' input input' resources c.read
+ReadsGiven resources port stream files files' input input' (Err fault) companion = (companion ≡ None) × (files' ≡ files) × (input' ≡ input)
+
+-- one or the other
+abbrev pub LooksBy : {F R : Type 0} → Option (List ℕ) → FilesPort F → (R → Stream) → F → F → R → R → List ℕ → Result (List ℕ) Fault → Option CompanionIs → Type 0
+LooksBy None port stream files files' input input' path read companion = LooksFor port files files' path read companion × (input' ≡ input)
+LooksBy (Some resources) port stream files files' input input' path read companion = ReadsGiven resources port stream files files' input input' read companion
+
+-- a file was read, and then its companion
+pub record ReadsPair {F R : Type 0} (port : FilesPort F) (stream : R → Stream) (given : Option (List ℕ)) (files files' : F) (input input' : R) (path : List ℕ) (read : Result (List ℕ) Fault) (companion : Option CompanionIs) : Type 0 where
+  pub between : F
+  pub rest : R
+  pub is : IsRead port stream files between input rest path read
+  pub looks : LooksBy given port stream between files' rest input' path read companion
+
+-- a report on what was read, and its number of errors. A file that wasn't read has one error
+abbrev pub IsPrinted : Form → List ℕ → Option DataFileIs → Result (List ℕ) Fault → List ℕ → ℕ → Type 0
+IsPrinted form path other (Ok bytes) text errors = (counts : Counts) × IsReport form path bytes other text counts × (errors ≡ counts.errors)
+IsPrinted form path other (Err fault) text errors = (text ≡ unread_text form path (fault_number fault) (fault_name fault)) × (errors ≡ 1)
+
+-- the report on the companion of a file, if there is one. The file has its data fork
+abbrev pub IsPrintedBeside : Form → List ℕ → Result (List ℕ) Fault → Option CompanionIs → List ℕ → ℕ → Type 0
+IsPrintedBeside form path (Ok bytes) (Some c) text errors = IsPrinted form c.path (Some (record { path = path; bytes = bytes })) c.read text errors
+IsPrintedBeside form path (Ok bytes) None text errors = (text ≡ []) × (errors ≡ 0)
+IsPrintedBeside form path (Err fault) companion text errors = (text ≡ []) × (errors ≡ 0)
+
+-- the report on a file, and that on its companion
+pub record IsPairPrinted (form : Form) (path : List ℕ) (read : Result (List ℕ) Fault) (companion : Option CompanionIs) (text : List ℕ) (errors : ℕ) : Type 0 where
+  pub own : List ℕ
+  pub own_errors : ℕ
+  pub beside : List ℕ
+  pub beside_errors : ℕ
+  pub first : IsPrinted form path None read own own_errors
+  pub second : IsPrintedBeside form path read companion beside beside_errors
+  pub texts : text ≡ own ++ beside
+  pub sum : errors ≡ min (own_errors + beside_errors) (2 ^ 64 - 1)
+
+-- one file was read and reported, with its companion
+pub record Reported {F R : Type 0} (port : FilesPort F) (stream : R → Stream) (given : Option (List ℕ)) (form : Form) (files files' : F) (input input' : R) (path text : List ℕ) (errors : ℕ) : Type 0 where
   pub read : Result (List ℕ) Fault
-  pub is : IsRead port stream files files' input input' path read
-  pub printed : IsPrinted form path read text errors
+  pub companion : Option CompanionIs
+  pub pair : ReadsPair port stream given files files' input input' path read companion
+  pub printed : IsPairPrinted form path read companion text errors
 
 -- the files at some paths were read and reported, one after the other, with this number of errors in all, up to the
 -- greatest number of 64 bits
@@ -68,7 +112,7 @@ abbrev pub Inspects : {F R : Type 0} → FilesPort F → (R → Stream) → Form
 Inspects {F} {R} port stream form files files' input input' [] before text errors = (files' ≡ files) × (input' ≡ input) × (text ≡ []) × (errors ≡ before)
 Inspects {F} {R} port stream form files files' input input' (path ∷ paths) before text errors =
     (between : F) × (rest : R) × (here : List ℕ) × (more : ℕ) × (others : List ℕ)
-    × Reported port stream form files between input rest path here more
+    × Reported port stream None form files between input rest path here more
     × Inspects port stream form between files' rest input' paths (min (before + more) (2 ^ 64 - 1)) others errors
     × (text ≡ here ++ others)
 
@@ -81,6 +125,14 @@ abbrev pub InspectAnswers : {F R : Type 0} → FilesPort F → (R → Stream) �
 InspectAnswers port stream json files files' input input' paths answer =
     ((text : List ℕ) × (errors : ℕ)
     × Inspects port stream (form_of json) files files' input input' paths 0 text errors
+    × (answer ≡ record { text = text; outcome = outcome_of errors }))
+    ⊎ ((answer ≡ fault_answer OutOfMemory) × (files' ≡ files) × (input' ≡ input))
+
+-- the answer of `inspect [--json] --resources RESOURCES FILE`. An allocation may fail before the command does anything
+abbrev pub InspectPairAnswers : {F R : Type 0} → FilesPort F → (R → Stream) → Bool → F → F → R → R → List ℕ → List ℕ → Answer → Type 0
+InspectPairAnswers port stream json files files' input input' resources path answer =
+    ((text : List ℕ) × (errors : ℕ)
+    × Reported port stream (Some resources) (form_of json) files files' input input' path text errors
     × (answer ≡ record { text = text; outcome = outcome_of errors }))
     ⊎ ((answer ≡ fault_answer OutOfMemory) × (files' ≡ files) × (input' ≡ input))
 

@@ -1,3 +1,4 @@
+pub mod Companions
 pub mod Distances
 pub mod Extents
 pub mod Extract

@@ -1,14 +1,14 @@
 -- The answer of a run. Each command has a line here, and its answers in a file of their own.
 use Rattle.std.specs.Prelude.{◌≡◌, ◌⊎◌, Option, None, Some}
 use Rattle.pef_ports.specs.Ports.{FilesPort, Stream}
-use Rattle.pef_tool.specs.Request.Requests.{Asked, check, distances, extract, inspect, inspect_listed, link, list, load, show, version}
+use Rattle.pef_tool.specs.Request.Requests.{Asked, check, distances, extract, inspect, inspect_listed, inspect_pair, link, list, load, show, version}
 use Rattle.pef_tool.specs.Answers.Answers.{Answer, answer_usage}
 use Rattle.pef_tool.specs.Load.{LoadAnswers}
 use Rattle.pef_tool.specs.Show.{ShowAnswers}
 use Rattle.pef_tool.specs.Check.{CheckAnswers}
 use Rattle.pef_tool.specs.Distances.{DistancesAnswers}
 use Rattle.pef_tool.specs.Extract.{ExtractAnswers}
-use Rattle.pef_tool.specs.Inspect.{InspectAnswers, InspectListedAnswers}
+use Rattle.pef_tool.specs.Inspect.{InspectAnswers, InspectListedAnswers, InspectPairAnswers}
 use Rattle.pef_tool.specs.Link.{LinkAnswers}
 use Rattle.pef_tool.specs.List.{ListAnswers}
 use Rattle.pef_tool.specs.Version.{VersionAnswers}
@@ -33,3 +33,4 @@ RunAnswers port stream (Some version) files files' input input' answer = Version
 RunAnswers port stream (Some (extract path name out)) files files' input input' answer = ExtractAnswers port files files' path name out answer × (input' ≡ input)
 RunAnswers port stream (Some (inspect json paths)) files files' input input' answer = InspectAnswers port stream json files files' input input' paths answer
 RunAnswers port stream (Some (inspect_listed json)) files files' input input' answer = InspectListedAnswers port stream json files files' input input' answer
+RunAnswers port stream (Some (inspect_pair json resources path)) files files' input input' answer = InspectPairAnswers port stream json files files' input input' resources path answer

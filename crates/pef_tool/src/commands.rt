@@ -11,7 +11,7 @@ use crate::answers::{Outcome, Usage, deliver};
 use crate::check::check_files;
 use crate::distances::print_distances;
 use crate::extract::{Extraction, extract_file};
-use crate::inspect::{Inspected, inspect_files, inspect_listed};
+use crate::inspect::{Inspected, InspectedPair, inspect_files, inspect_listed, inspect_pair};
 use crate::link::link_files;
 use crate::list::list_file;
 use crate::load::load_files;
@@ -118,5 +118,20 @@ fn run_request<F: Files, R: Source, W: Sink>(
             out,
         ),
         Request::InspectListed { json } => inspect_listed(alloc, files, input, json, out),
+        Request::InspectPair {
+            json,
+            resources,
+            file,
+        } => inspect_pair(
+            alloc,
+            files,
+            input,
+            InspectedPair {
+                json,
+                resources: resources.as_bytes(),
+                path: file.as_bytes(),
+            },
+            out,
+        ),
     }
 }

@@ -1,15 +1,18 @@
-ghost use Rattle.std.specs.Prelude.{◌≡◌, ◌<◌, ◌∷◌, IfOk, List, [], ℕ, Ok, length, map};
+ghost use Rattle.std.specs.Prelude.{◌≡◌, ◌<◌, ◌∷◌, IfOk, List, [], ℕ, None, Ok, Some, length, map, option_map};
 ghost use Rattle.pef_ports.specs.Sent.{Sends};
 ghost use Rattle.pef_tool.specs.Answers.Answers.{Answer, IsDelivered};
-ghost use Rattle.pef_tool.specs.Inspect.{InspectAnswers, InspectListedAnswers, Inspects, IsPrinted, ReadsBy, ReadsPath, ReadsStandard, form_of, is_input, listed_paths, outcome_of};
+ghost use Rattle.pef_tool.specs.Inspect.{InspectAnswers, InspectListedAnswers, InspectPairAnswers, Inspects, IsPairPrinted, IsPrinted, IsPrintedBeside, LooksFor, ReadsBy, ReadsGiven, ReadsPair, ReadsPath, ReadsStandard, Reported, form_of, is_input, listed_paths, outcome_of};
 ghost use Rattle.mac_report.specs.Reports.{unread_text};
-ghost use Rattle.pef_tool.specs.Kept.Inspecting.{read_seen};
+ghost use Rattle.mac_report.specs.Views.{data_file_seen};
+ghost use Rattle.pef_tool.specs.Kept.Inspecting.{companion_seen, read_seen};
 
 use crate::answers::{Outcome, deliver};
+use crate::companion::{Companion, find_companion, may_have_companion};
 use crate::reading::read_file;
-use mac_report::{FileReport, Form, UnreadFile};
+use mac_report::{DataFile, FileReport, Form, UnreadFile};
 use pef_faults::Fault;
 use pef_ports::{Files, Page, Sink, Source, StreamFault, flush, read_input};
+use pef_report::print_tokens;
 use std::alloc::{AllocError, Global};
 
 /// The most bytes of an input that are read.
@@ -22,7 +25,16 @@ pub struct Inspected<'a> {
     pub paths: &'a [&'a [u8]],
 }
 
-/// Prints a report on each file, one after the other. No more than one file is in memory at a time.
+/// What `inspect --resources` is asked for: the file at a path, with the file that has its resource fork, as text or as JSON.
+#[derive(Clone, Copy, Debug)]
+pub struct InspectedPair<'a> {
+    pub json: bool,
+    pub resources: &'a [u8],
+    pub path: &'a [u8],
+}
+
+/// Prints a report on each file, one after the other, each with its companion: another file that has its resource fork. No
+/// more than one file and one that may be its companion are in memory at a time.
 ///
 /// A file that can't be read is reported as an error of that file. The outcome is `SaidNo` if a file has an error.
 pub fn inspect_files<F: Files, R: Source, W: Sink>(
@@ -67,6 +79,24 @@ pub fn inspect_listed<F: Files, R: Source, W: Sink>(
             inspect_files(alloc, files, input, asked, out)
         }
         Err(AllocError) => deliver(out, &Fault::OutOfMemory),
+    }
+}
+
+/// Prints a report on a file, and one on the file that has its resource fork.
+pub fn inspect_pair<F: Files, R: Source, W: Sink>(
+    alloc: Global,
+    files: &mut F,
+    input: &mut R,
+    asked: InspectedPair<'_>,
+    out: &mut W,
+) -> Outcome
+    ensures { (answer : Answer)
+        × InspectPairAnswers (record { state = F.state; was_read = F.was_read; was_written = F.was_written }) R.stream asked.entry.json files.old files.new input.old input.new asked.entry.resources.now asked.entry.path.now answer
+        × IsDelivered (W.stream out.old) (W.stream out.new) answer result }
+{
+    match print_given(alloc, files, input, asked, out) {
+        Ok(errors) => outcome_of(errors),
+        Err(StreamFault) => Outcome::OutputFailed,
     }
 }
 
@@ -128,10 +158,30 @@ fn print_reports<F: Files, R: Source, W: Sink>(
     let form = form_of(asked.json);
     let mut errors: u64 = 0;
     for path in asked.paths {
-        let read = read_named(alloc, files, input, *path);
-        let more = print_report(alloc, out, &mut page, form, &read)?;
+        let pair = find_pair(alloc, files, input, *path);
+        let more = print_pair(alloc, out, &mut page, form, &pair)?;
         errors = errors.saturating_add(more);
     }
+    flush(out, &mut page)?;
+    Ok(errors)
+}
+
+/// Prints the reports on a file and on the one that has its resource fork, and returns the number of all errors.
+fn print_given<F: Files, R: Source, W: Sink>(
+    alloc: Global,
+    files: &mut F,
+    input: &mut R,
+    asked: InspectedPair<'_>,
+    out: &mut W,
+) -> Result<u64, StreamFault>
+    ensures { (text : List ℕ) × (errors : ℕ)
+        × Reported (record { state = F.state; was_read = F.was_read; was_written = F.was_written }) R.stream (Some asked.entry.resources.now) (form_of asked.entry.json) files.old files.new input.old input.new asked.entry.path.now text errors
+        × Sends result (W.stream out.old) (W.stream out.new) [] [] text
+        × IfOk result (λ n. n ≡ errors) }
+{
+    let mut page = Page::new();
+    let pair = given_pair(alloc, files, input, asked);
+    let errors = print_pair(alloc, out, &mut page, form_of(asked.json), &pair)?;
     flush(out, &mut page)?;
     Ok(errors)
 }
@@ -145,9 +195,82 @@ fn form_of(json: bool) -> Form
 
 /// A path, and the bytes that were read there.
 #[derive(Drop)]
-struct Named<'a> {
+pub(crate) struct Named<'a> {
+    pub path: &'a [u8],
+    pub bytes: Result<Vec<u8>, Fault<'a>>,
+}
+
+/// A file, and its companion if it has one.
+#[derive(Drop)]
+struct Pair<'a> {
+    named: Named<'a>,
+    companion: Option<Companion<'a>>,
+}
+
+/// Reads the file at a path, and looks for its companion.
+fn find_pair<'a, F: Files, R: Source>(
+    alloc: Global,
+    files: &mut F,
+    input: &mut R,
     path: &'a [u8],
-    bytes: Result<Vec<u8>, Fault<'a>>,
+) -> Pair<'a>
+    ensures path { result.named.path.now ≡ path.entry.now }
+    ensures pair { ReadsPair (record { state = F.state; was_read = F.was_read; was_written = F.was_written }) R.stream None files.old files.new input.old input.new path.entry.now (read_seen result.named.bytes) (option_map (companion_seen path.entry.now) result.companion) }
+{
+    let named = read_named(alloc, files, input, path);
+    let companion = companion_of(alloc, files, &named);
+    Pair { named, companion }
+}
+
+/// Looks for the companion of a file.
+fn companion_of<'a, F: Files>(
+    alloc: Global,
+    files: &mut F,
+    named: &Named<'a>,
+) -> Option<Companion<'a>>
+    ensures { LooksFor (record { state = F.state; was_read = F.was_read; was_written = F.was_written }) files.old files.new named.now.path.now (read_seen named.now.bytes) (option_map (companion_seen named.now.path.now) result) }
+{
+    match &named.bytes {
+        Ok(bytes) => {
+            if !is_input(named.path) && may_have_companion(named.path, bytes.as_slice()) {
+                find_companion(alloc, files, named.path)
+            } else {
+                None
+            }
+        }
+        Err(_) => None,
+    }
+}
+
+/// Reads a file, and the one that has its resource fork.
+fn given_pair<'a, F: Files, R: Source>(
+    alloc: Global,
+    files: &mut F,
+    input: &mut R,
+    asked: InspectedPair<'a>,
+) -> Pair<'a>
+    ensures path { result.named.path.now ≡ asked.entry.path.now }
+    ensures pair { ReadsPair (record { state = F.state; was_read = F.was_read; was_written = F.was_written }) R.stream (Some asked.entry.resources.now) files.old files.new input.old input.new asked.entry.path.now (read_seen result.named.bytes) (option_map (companion_seen asked.entry.path.now) result.companion) }
+{
+    let named = read_named(alloc, files, input, asked.path);
+    let companion = read_given(alloc, files, input, asked.resources, &named);
+    Pair { named, companion }
+}
+
+/// Reads the companion of a file at a path, if the file was read.
+fn read_given<'a, F: Files, R: Source>(
+    alloc: Global,
+    files: &mut F,
+    input: &mut R,
+    resources: &'a [u8],
+    named: &Named<'_>,
+) -> Option<Companion<'a>>
+    ensures { (own : List ℕ) → ReadsGiven resources.entry.now (record { state = F.state; was_read = F.was_read; was_written = F.was_written }) R.stream files.old files.new input.old input.new (read_seen named.now.bytes) (option_map (companion_seen own) result) }
+{
+    match &named.bytes {
+        Ok(_) => Some(Companion::Given(read_named(alloc, files, input, resources))),
+        Err(_) => None,
+    }
 }
 
 /// Reads the file at a path, or the standard input, which `-` names.
@@ -201,19 +324,155 @@ fn read_path<'a, F: Files>(
     read_file(alloc, files, path)
 }
 
-/// Prints the report on a file, and returns the number of its errors.
-fn print_report<W: Sink>(
+/// Prints the report on a file and that on its companion, and returns the number of their errors.
+fn print_pair<W: Sink>(
     alloc: Global,
     out: &mut W,
     page: &mut Page,
     form: Form,
-    named: &Named<'_>,
+    pair: &Pair<'_>,
 ) -> Result<u64, StreamFault>
     ensures { (text : List ℕ) × (errors : ℕ)
-        × IsPrinted form named.now.path.now (read_seen named.now.bytes) text errors
+        × IsPairPrinted form pair.now.named.path.now (read_seen pair.now.named.bytes) (option_map (companion_seen pair.now.named.path.now) pair.now.companion) text errors
         × Sends result (W.stream out.old) (W.stream out.new) page.old.items page.new.items text
         × IfOk result (λ n. n ≡ errors) }
 {
+    let shown = Shown {
+        form,
+        data_file: None,
+    };
+    let errors = print_report(alloc, out, page, shown, &pair.named)?;
+    let more = print_companion(alloc, out, page, form, pair)?;
+    Ok(errors.saturating_add(more))
+}
+
+/// Prints the report on the companion of a file, if there is one, and returns the number of its errors.
+fn print_companion<W: Sink>(
+    alloc: Global,
+    out: &mut W,
+    page: &mut Page,
+    form: Form,
+    pair: &Pair<'_>,
+) -> Result<u64, StreamFault>
+    ensures { (text : List ℕ) × (errors : ℕ)
+        × IsPrintedBeside form pair.now.named.path.now (read_seen pair.now.named.bytes) (option_map (companion_seen pair.now.named.path.now) pair.now.companion) text errors
+        × Sends result (W.stream out.old) (W.stream out.new) page.old.items page.new.items text
+        × IfOk result (λ n. n ≡ errors) }
+{
+    match &pair.named.bytes {
+        Ok(bytes) => {
+            let data_file = DataFile {
+                path: pair.named.path,
+                bytes: bytes.as_slice(),
+            };
+            print_beside(
+                alloc,
+                out,
+                page,
+                Beside { form, data_file },
+                &pair.companion,
+            )
+        }
+        Err(_) => print_nothing(out, page),
+    }
+}
+
+/// Prints the report on the companion of a file that was read, if there is one, and returns the number of its errors.
+fn print_beside<'x, W: Sink>(
+    alloc: Global,
+    out: &mut W,
+    page: &mut Page,
+    beside: Beside<'x>,
+    companion: &'x Option<Companion<'_>>,
+) -> Result<u64, StreamFault>
+    ensures { (text : List ℕ) × (errors : ℕ)
+        × IsPrintedBeside beside.entry.form beside.entry.data_file.path.now (Ok beside.entry.data_file.bytes.now) (option_map (companion_seen beside.entry.data_file.path.now) companion.now) text errors
+        × Sends result (W.stream out.old) (W.stream out.new) page.old.items page.new.items text
+        × IfOk result (λ n. n ≡ errors) }
+{
+    match companion {
+        Some(companion) => print_found(alloc, out, page, beside, companion),
+        None => print_nothing(out, page),
+    }
+}
+
+/// Prints the report on a companion, and returns the number of its errors.
+fn print_found<'x, W: Sink>(
+    alloc: Global,
+    out: &mut W,
+    page: &mut Page,
+    beside: Beside<'x>,
+    companion: &'x Companion<'_>,
+) -> Result<u64, StreamFault>
+    ensures { (text : List ℕ) × (errors : ℕ)
+        × IsPrinted beside.entry.form (companion_seen beside.entry.data_file.path.now companion.now).path (Some (data_file_seen beside.entry.data_file)) (companion_seen beside.entry.data_file.path.now companion.now).read text errors
+        × Sends result (W.stream out.old) (W.stream out.new) page.old.items page.new.items text
+        × IfOk result (λ n. n ≡ errors) }
+{
+    let form = beside.form;
+    let data_file = Some(beside.data_file);
+    match companion {
+        Companion::Found { path, bytes } => {
+            let report = FileReport {
+                form,
+                path: path.as_slice(),
+                bytes: bytes.as_slice(),
+                data_file,
+            };
+            print_read(alloc, out, page, report)
+        }
+        Companion::Given(named) => {
+            print_report(alloc, out, page, Shown { form, data_file }, named)
+        }
+        Companion::Lacking => {
+            let report = UnreadFile {
+                form,
+                path: beside.data_file.path,
+                number: 99,
+                name: b"OutOfMemory",
+            };
+            print_unread(out, page, report)
+        }
+    }
+}
+
+/// Prints nothing, which has no error.
+fn print_nothing<W: Sink>(out: &mut W, page: &mut Page) -> Result<u64, StreamFault>
+    ensures sent { Sends result (W.stream out.old) (W.stream out.new) page.old.items page.new.items [] }
+    ensures none { IfOk result (λ n. n ≡ 0) }
+{
+    print_tokens(out, page, &[])?;
+    Ok(0)
+}
+
+/// How a report is printed, and which file has the data fork, if it is another.
+#[derive(Clone, Copy)]
+struct Shown<'a> {
+    form: Form,
+    data_file: Option<DataFile<'a>>,
+}
+
+/// How the report on a companion is printed, and the file that it belongs to.
+#[derive(Clone, Copy)]
+struct Beside<'a> {
+    form: Form,
+    data_file: DataFile<'a>,
+}
+
+/// Prints the report on a file, and returns the number of its errors.
+fn print_report<'x, W: Sink>(
+    alloc: Global,
+    out: &mut W,
+    page: &mut Page,
+    shown: Shown<'x>,
+    named: &'x Named<'_>,
+) -> Result<u64, StreamFault>
+    ensures { (text : List ℕ) × (errors : ℕ)
+        × IsPrinted shown.entry.form named.now.path.now (option_map data_file_seen shown.entry.data_file) (read_seen named.now.bytes) text errors
+        × Sends result (W.stream out.old) (W.stream out.new) page.old.items page.new.items text
+        × IfOk result (λ n. n ≡ errors) }
+{
+    let form = shown.form;
     let path = named.path;
     match &named.bytes {
         Ok(bytes) => {
@@ -221,6 +480,7 @@ fn print_report<W: Sink>(
                 form,
                 path,
                 bytes: bytes.as_slice(),
+                data_file: shown.data_file,
             };
             print_read(alloc, out, page, report)
         }
@@ -244,7 +504,7 @@ fn print_read<W: Sink>(
     report: FileReport<'_>,
 ) -> Result<u64, StreamFault>
     ensures { (text : List ℕ) × (errors : ℕ)
-        × IsPrinted report.entry.form report.entry.path.now (Ok report.entry.bytes.now) text errors
+        × IsPrinted report.entry.form report.entry.path.now (option_map data_file_seen report.entry.data_file) (Ok report.entry.bytes.now) text errors
         × Sends result (W.stream out.old) (W.stream out.new) page.old.items page.new.items text
         × IfOk result (λ n. n ≡ errors) }
 {

@@ -8,6 +8,7 @@
 mod answers;
 mod check;
 mod commands;
+mod companion;
 mod distances;
 mod explanation;
 mod extent;

@@ -30,6 +30,8 @@ pub struct Handed<'a> {
     /// The call of the files that fails, and its fault.
     pub files_fail_at: u32,
     pub fault: FileFault,
+    /// The number of places at which `inspect` looks for a resource fork, and finds no file.
+    pub looks: u64,
 }
 
 impl<'a> Handed<'a> {
@@ -49,6 +51,7 @@ impl<'a> Handed<'a> {
             out_fails_at: 0,
             files_fail_at: 0,
             fault: FileFault::Failed,
+            looks: 0,
         }
     }
 
@@ -93,14 +96,14 @@ impl Outcome {
         Ok(())
     }
 
-    /// Tests that a failure of the files was counted exactly if one is reported.
-    fn assert_counted(&self) -> Result<(), Fail> {
+    /// Tests that a failure of the files was counted exactly if one is reported, besides those of places where no file is.
+    fn assert_counted(&self, looks: u64) -> Result<(), Fail> {
         let printed = self.printed.as_slice();
         let told = printed.starts_with(b"refused 71 ")
             || printed.starts_with(b"refused 72 ")
             || has_line(printed, b"error 71 FileUnreadable");
         let failures = self.papers.failures();
-        if failures != u64::from(told) {
+        if failures != u64::from(told).saturating_add(looks) {
             return Err(Fail::new(format_args!("{failures} failures of files")));
         }
         Ok(())
@@ -244,7 +247,7 @@ pub fn assert_prints(
     if outcome.printed.as_slice() != printed || outcome.status != status {
         return Err(unlike(handed.words, &outcome.printed, outcome.status));
     }
-    outcome.assert_counted()?;
+    outcome.assert_counted(handed.looks)?;
     Ok(outcome)
 }
 

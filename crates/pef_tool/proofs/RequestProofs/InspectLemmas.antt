@@ -11,23 +11,26 @@ use Rattle.clap.specs.Walk.{Rule, Text, Walk, finished, nothing_held, positional
 use Rattle.clap.specs.declared.builder.value_parser.ValueParser.TheVariants.{String}
 use Rattle.clap.specs.declared.error.kind.ErrorKind.{ErrorKind}
 use Rattle.clap.specs.declared.error.kind.ErrorKind.TheVariants as kind
-use Rattle.pef_tool.specs.Request.CommandLine.{asked_at, flag, inspect_command, inspected_operand, pef}
+use Rattle.pef_tool.specs.Request.CommandLine.{asked_at, flag, inspect_command, inspected_operand, pef, valued}
 use Rattle.pef_tool.specs.Request.Plain.{ArePlain, IsPlain, plain_inspect}
 use Rattle.pef_tool.proofs.RequestProofs.NameLemmas.{at_end, is_or_not, named, no_flag}
 use Rattle.pef_tool.specs.Request.Requests.{Asked, inspect}
 
--- the built command `inspect`, its flags and its operand
+-- the built command `inspect`, its options and its operand
 json_rule : Rule
 json_rule = filled (flag (codes "json"))
 
 listed_rule : Rule
 listed_rule = filled (flag (codes "files0"))
 
+resources_rule : Rule
+resources_rule = filled (valued (codes "resources"))
+
 files_rule : Rule
 files_rule = with_index 1 (filled inspected_operand)
 
 inspect_shape : Shape
-inspect_shape = record inspect_command.top { rules = json_rule ∷ listed_rule ∷ files_rule ∷ []; is_built = true; disable_help_flag = true; disable_help_subcommand = true }
+inspect_shape = record inspect_command.top { rules = json_rule ∷ listed_rule ∷ resources_rule ∷ files_rule ∷ []; is_built = true; disable_help_flag = true; disable_help_subcommand = true }
 
 -- some words of `inspect` are read
 taken : List Text → Walk
@@ -40,25 +43,25 @@ taken words = record {
 }
 
 first_taken : (word : Text) → IsPlain word → walked inspect_shape.rules [] (walk_from nothing_held) word ≡ taken (word ∷ [])
-unfolding clap_on_literals json_rule listed_rule files_rule inspect_shape taken
+unfolding clap_on_literals json_rule listed_rule resources_rule files_rule inspect_shape taken
 first_taken word plain =
     let a = no_flag word plain in
     rw (a.dashes, a.long, a.short) refl
 
 first_sound : (word : Text) → IsPlain word → turn_fault inspect_shape [] (walk_from nothing_held) word ≡ []
-unfolding clap_on_literals json_rule listed_rule files_rule inspect_shape
+unfolding clap_on_literals json_rule listed_rule resources_rule files_rule inspect_shape
 first_sound word plain =
     let a = no_flag word plain in
     rw (a.dashes, a.long, a.short) refl
 
 next_taken : (before : List Text) (word : Text) → IsPlain word → walked inspect_shape.rules [] (taken before) word ≡ taken (before ++ word ∷ [])
-unfolding clap_on_literals json_rule listed_rule files_rule inspect_shape taken
+unfolding clap_on_literals json_rule listed_rule resources_rule files_rule inspect_shape taken
 next_taken before word plain =
     let a = no_flag word plain in
     rw (a.dashes, a.long, a.short) refl
 
 next_sound : (before : List Text) (word : Text) → IsPlain word → turn_fault inspect_shape [] (taken before) word ≡ []
-unfolding clap_on_literals json_rule listed_rule files_rule inspect_shape taken
+unfolding clap_on_literals json_rule listed_rule resources_rule files_rule inspect_shape taken
 next_sound before word plain =
     let a = no_flag word plain in
     rw (a.dashes, a.long, a.short) refl
@@ -83,7 +86,7 @@ inspect_end w faults =
     (Some (codes "inspect", finished s.rules w.held))
 
 inspect_ends : (words : List Text) → at_end (named (codes "inspect") words) [] ≡ inspect_end (walk inspect_shape.rules [] nothing_held words) (walk_fault inspect_shape [] (walk_from nothing_held) words)
-unfolding pef clap_on_literals named at_end inspect_end inspect_shape json_rule listed_rule files_rule
+unfolding pef clap_on_literals named at_end inspect_end inspect_shape json_rule listed_rule resources_rule files_rule
 inspect_ends words = refl
 
 -- the request of `inspect`, by the faults of the number of its words and of the words
@@ -91,7 +94,7 @@ inspect_at : Kinds → Kinds → List Text → Option Asked
 inspect_at range values words = asked_at (or_else (or_else (or_else range values) []) []) (Some (codes "inspect", finished inspect_shape.rules (taken words).held))
 
 inspect_settles : (word : Text) (words : List Text) → inspect_end (taken (word ∷ words)) [] ≡ inspect_at (range_kinds 1 65536 (length (word ∷ words))) (values_kinds false String (word ∷ words)) (word ∷ words)
-unfolding inspect_end inspect_at clap_on_literals inspect_shape json_rule listed_rule files_rule taken
+unfolding inspect_end inspect_at clap_on_literals inspect_shape json_rule listed_rule resources_rule files_rule taken
 inspect_settles word words = refl
 
 -- each word may be a value
@@ -108,7 +111,7 @@ past_range : (n : ℕ) → 65536 < n → range_kinds 1 65536 n ≡ kind.TooManyV
 past_range n many = rw (ne_eqb n 0 (λ e. omega arith), le-ltb n 1 (omega arith), lt-ltb 65536 n many) refl
 
 inspect_within : (word : Text) (words : List Text) → inspect_at [] [] (word ∷ words) ≡ Some (inspect false (word ∷ words))
-unfolding inspect_at taken inspect_shape json_rule listed_rule files_rule
+unfolding inspect_at taken inspect_shape json_rule listed_rule resources_rule files_rule
 inspect_within word words = refl
 
 inspect_past : (k : ErrorKind) (words : List Text) → inspect_at (k ∷ []) [] words ≡ None

@@ -1,10 +1,25 @@
--- What `inspect` keeps of a file that it reads.
-use Rattle.std.specs.Prelude.{ℕ, List, Result}
+-- What `inspect` keeps of a file that it reads, and of its companion.
+use Rattle.std.specs.Prelude.{ℕ, List, Result, Ok, Err}
 use Rattle.std.specs.declared.alloc.Global.{Global}
 use Rattle.std.specs.declared.vec.Vec.{Vec}
 use Rattle.pef_words.specs.Refusals.{result_map}
 use Rattle.pef_faults.specs.declared.fault.Fault.{Fault}
+use Rattle.pef_faults.specs.declared.fault.Fault.TheVariants.{OutOfMemory}
+use Rattle.pef_tool.specs.Companions.{CompanionIs, place_of}
+use Rattle.pef_tool.specs.declared.companion.Companion.{Companion}
+use Rattle.pef_tool.specs.declared.companion.Companion.TheVariants as companion
+use Rattle.pef_tool.specs.declared.companion.Place.{Place}
 
 -- the bytes that were read, or why not
 abbrev pub read_seen : Result (Vec ℕ Global) Fault → Result (List ℕ) Fault
 read_seen read = result_map (λ bytes. bytes.items) read
+
+-- the companion of the file at a path
+abbrev pub companion_seen : List ℕ → Companion → CompanionIs
+companion_seen own (companion.Found path bytes) = record { path = path.items; read = Ok bytes.items }
+companion_seen own (companion.Given named) = record { path = named.path.now; read = read_seen named.bytes }
+companion_seen own companion.Lacking = record { path = own; read = Err OutOfMemory }
+
+-- the path of a place
+abbrev pub place_seen : List ℕ → List ℕ → Place → List ℕ
+place_seen folder name place = place_of folder name place.before.now place.after.now

@@ -5,7 +5,7 @@ use Rattle.clap.specs.Walk.{Row, Rule, Text, all_of, first_of}
 use Rattle.clap.specs.declared.builder.action.ArgAction.TheVariants.{SetTrue}
 use Rattle.clap.specs.Words.{App, Kinds, new_app, new_rule, with_rule, with_subcommand, fault_of, subcommand_of}
 use Rattle.pef_tool.specs.Request.Files.{named_files}
-use Rattle.pef_tool.specs.Request.Requests.{Asked, check, distances, extract, inspect, inspect_listed, link, list, load, show, version}
+use Rattle.pef_tool.specs.Request.Requests.{Asked, check, distances, extract, inspect, inspect_listed, inspect_pair, link, list, load, show, version}
 
 -- a required operand
 abbrev pub operand : Text → Rule
@@ -59,9 +59,15 @@ most_inspected = 65536
 abbrev pub inspected_operand : Rule
 inspected_operand = record (new_rule (codes "FILE")) { range = Some (record { start_inclusive = 1; end_inclusive = most_inspected }) }
 
--- `inspect [--json] FILE ..`, and `inspect [--json] --files0`
+-- an option with a value
+abbrev pub valued : Text → Rule
+valued name = record (new_rule name) { long = Some name; value_names = 1 }
+
+-- `inspect [--json] FILE ..`, `inspect [--json] --resources RESOURCES FILE`, and `inspect [--json] --files0`
 abbrev pub inspect_command : App
-inspect_command = with_rule (with_rule (with_rule (new_app (codes "inspect")) (flag (codes "json"))) (flag (codes "files0"))) inspected_operand
+inspect_command =
+    with_rule (with_rule (with_rule (with_rule (new_app (codes "inspect")) (flag (codes "json"))) (flag (codes "files0"))) (valued (codes "resources")))
+    inspected_operand
 
 -- the program, which requires a command and has no help
 abbrev pub top_command : App
@@ -104,17 +110,31 @@ abbrev pub is_set : Option Text → Bool
 is_set None = false
 is_set (Some value) = bytes_eq value (codes "true")
 
--- the request of `inspect`, by its flags and its operands: some files, or those that the standard input lists
-abbrev pub inspected : Bool → Bool → Option (List Text) → Option Asked
-inspected json false (Some files) = Some (inspect json files)
-inspected json true None = Some (inspect_listed json)
-inspected json false None = None
-inspected json true (Some files) = None
+-- the request of `inspect` of some files
+abbrev pub inspected_files : Bool → Option Text → List Text → Option Asked
+inspected_files json None files = Some (inspect json files)
+inspected_files json (Some resources) [] = None
+inspected_files json (Some resources) (file ∷ []) = Some (inspect_pair json resources file)
+inspected_files json (Some resources) (file ∷ next ∷ files) = None
+
+-- .. of the files that the standard input lists
+abbrev pub inspected_listed : Bool → Option Text → Option Asked
+inspected_listed json None = Some (inspect_listed json)
+inspected_listed json (Some resources) = None
+
+-- .. by its options and its operands: some files, or those that the standard input lists. One file may have the path of the file
+-- with its resource fork
+abbrev pub inspected : Bool → Bool → Option Text → Option (List Text) → Option Asked
+inspected json false resources (Some files) = inspected_files json resources files
+inspected json true resources None = inspected_listed json resources
+inspected json false resources None = None
+inspected json true resources (Some files) = None
 
 -- the request that the operands of `inspect` make
 abbrev pub inspect_asked : List Row → Option Asked
 inspect_asked rows =
-    inspected (is_set (first_of (codes "json") rows)) (is_set (first_of (codes "files0") rows)) (all_of (codes "FILE") rows)
+    inspected (is_set (first_of (codes "json") rows)) (is_set (first_of (codes "files0") rows)) (first_of (codes "resources") rows)
+    (all_of (codes "FILE") rows)
 
 -- the request that a command's name and operands make
 abbrev pub command_asked : Text → List Row → Option Asked

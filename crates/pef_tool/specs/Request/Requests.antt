@@ -6,8 +6,9 @@ use Rattle.pef_tool.specs.declared.request.command_line.Request.TheVariants as r
 use Rattle.pef_tool.specs.declared.request.command_line.WordsFault.{WordsFault}
 use Rattle.pef_tool.specs.declared.request.command_line.WordsFault.TheVariants.{Usage, OutOfMemory}
 
--- a command and its operands. The files of `load` are names, each with its path. Those of `inspect` are paths,
--- which the standard input may list; whether JSON is asked for is first.
+-- a command and its operands. The files of `load` are names, each with its path. Those of `inspect` are paths, which the
+-- standard input may list; whether JSON is asked for is first. A pair has the path of the file with the resource fork before that
+-- of the file.
 pub data Asked : Type 0 where
   show : Asked
   link : List ℕ → List ℕ → Asked
@@ -19,6 +20,7 @@ pub data Asked : Type 0 where
   extract : List ℕ → List ℕ → List ℕ → Asked
   inspect : Bool → List (List ℕ) → Asked
   inspect_listed : Bool → Asked
+  inspect_pair : Bool → List ℕ → List ℕ → Asked
 
 -- a file's name and its path
 abbrev pub named_path : NamedFile → List ℕ × List ℕ
@@ -36,6 +38,7 @@ asked_of request.Version = version
 asked_of (request.Extract file name out) = extract file.now name.now out.now
 asked_of (request.Inspect json files) = inspect json (map (λ file. file.now) files.items)
 asked_of (request.InspectListed json) = inspect_listed json
+asked_of (request.InspectPair json resources file) = inspect_pair json resources.now file.now
 
 -- the answer to a command line: its request, or that it is invalid
 abbrev pub AnswersWords : Result Request WordsFault → Option Asked → Type 0

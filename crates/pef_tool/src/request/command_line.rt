@@ -2,7 +2,7 @@ ghost use Rattle.std.specs.Prelude.{◌≡◌, IfOk, false, map, option_map, str
 ghost use Rattle.clap.specs.Walk.{rule_of};
 ghost use Rattle.clap.specs.Words.{app_of, found_of, new_app, new_rule, rows_of};
 ghost use Rattle.clap.specs.declared.builder.command.Command.TheViews.{out-Command};
-ghost use Rattle.pef_tool.specs.Request.CommandLine.{asked_by, asks_version, check_asked, check_command, command_asked, distances_asked, distances_command, extract_asked, extract_command, flag, inspect_asked, inspect_command, inspected, is_set, link_asked, link_command, list_asked, list_command, load_asked, load_command, operand, pef, request_by};
+ghost use Rattle.pef_tool.specs.Request.CommandLine.{asked_by, asks_version, check_asked, check_command, command_asked, distances_asked, distances_command, extract_asked, extract_command, flag, inspect_asked, inspect_command, inspected, inspected_files, inspected_listed, is_set, link_asked, link_command, list_asked, list_command, load_asked, load_command, operand, pef, request_by, valued};
 ghost use Rattle.pef_tool.specs.Request.Kept.Commands.{HasOneMore};
 ghost use Rattle.pef_tool.specs.Request.Kept.Kinds.{fault_of_kind};
 ghost use Rattle.pef_tool.specs.Request.Requests.{AnswersWords};
@@ -65,6 +65,12 @@ pub enum Request<'a> {
     /// Report the same of the files whose paths are on the standard input, each ended by a zero byte.
     InspectListed {
         json: bool,
+    },
+    /// Report the same of the file at a path, and of the one that has its resource fork.
+    InspectPair {
+        json: bool,
+        resources: &'a str,
+        file: &'a str,
     },
 }
 
@@ -289,6 +295,17 @@ fn flag<'a>(alloc: Global, name: &'a str, help: &'a str) -> Arg<'a>
         .help(help)
 }
 
+/// Returns an option with a value, with its help.
+fn valued<'a>(alloc: Global, name: &'a str, value: &'a str, help: &'a str) -> Arg<'a>
+    ensures rule { rule_of result ≡ valued name.entry.now }
+    ensures local { result.global ≡ false }
+{
+    Arg::new(alloc, name)
+        .long(name)
+        .value_name(value)
+        .help(help)
+}
+
 /// Returns an operand that may be missing, with its help.
 fn optional_operand<'a>(alloc: Global, name: &'a str, help: &'a str) -> Arg<'a>
     ensures rule { rule_of result ≡ new_rule name.entry.now }
@@ -297,8 +314,9 @@ fn optional_operand<'a>(alloc: Global, name: &'a str, help: &'a str) -> Arg<'a>
     Arg::new(alloc, name).help(help)
 }
 
-/// Returns the command `inspect [--json] FILE ..`, which is also `inspect [--json] --files0`.
-fn inspect_command<'a>(alloc: Global) -> Result<Command<'a>, AllocError>
+/// Returns the command `inspect [--json] FILE ..`, which is also `inspect [--json] --files0` and
+/// `inspect [--json] --resources RESOURCES FILE`.
+pub(crate) fn inspect_command<'a>(alloc: Global) -> Result<Command<'a>, AllocError>
     ensures app { IfOk result (λ c. app_of c ≡ inspect_command) }
     ensures local { IfOk result (λ c. (out-Command c).has_globals ≡ false) }
 {
@@ -311,6 +329,12 @@ fn inspect_command<'a>(alloc: Global) -> Result<Command<'a>, AllocError>
         alloc,
         "files0",
         "Read the paths of the files from the standard input, each ended by a zero byte",
+    );
+    let resources = valued(
+        alloc,
+        "resources",
+        "RESOURCES",
+        "The file that has the resource fork of the one FILE",
     );
     let files = optional_operand(
         alloc,
@@ -325,6 +349,7 @@ fn inspect_command<'a>(alloc: Global) -> Result<Command<'a>, AllocError>
     )
     .arg(json)?
     .arg(listed)?
+    .arg(resources)?
     .arg(files)
 }
 
@@ -435,25 +460,57 @@ fn inspect_request<'a>(alloc: Global, operands: &ArgMatches<'a>) -> Result<Reque
 {
     let json = is_set(operands.get_str("json"));
     let listed = is_set(operands.get_str("files0"));
-    inspected(alloc, json, listed, operands.get_strs("FILE"))
+    let resources = operands.get_str("resources");
+    inspected(alloc, json, listed, resources, operands.get_strs("FILE"))
 }
 
-/// Returns the request of `inspect`, by its flags and its operands.
+/// Returns the request of `inspect`, by its options and its operands.
 fn inspected<'a>(
     alloc: Global,
     json: bool,
     listed: bool,
+    resources: Option<&'a str>,
     words: Option<&[&'a str]>,
 ) -> Result<Request<'a>, WordsFault>
-    ensures { AnswersWords result (inspected json listed (option_map (λ ws. map (λ w. w.now) ws.now) words.entry)) }
+    ensures { AnswersWords result (inspected json listed (option_map (λ r. r.now) resources.entry) (option_map (λ ws. map (λ w. w.now) ws.now) words.entry)) }
 {
     match (listed, words) {
-        (false, Some(words)) => {
+        (false, Some(words)) => inspected_files(alloc, json, resources, words),
+        (true, None) => inspected_listed(json, resources),
+        (false, None) | (true, Some(_)) => Err(WordsFault::Usage),
+    }
+}
+
+/// Returns the request of `inspect` of some files.
+fn inspected_files<'a>(
+    alloc: Global,
+    json: bool,
+    resources: Option<&'a str>,
+    words: &[&'a str],
+) -> Result<Request<'a>, WordsFault>
+    ensures { AnswersWords result (inspected_files json (option_map (λ r. r.now) resources.entry) (map (λ w. w.now) words.now)) }
+{
+    match (resources, words) {
+        (None, words) => {
             let files = paths_of(alloc, words)?;
             Ok(Request::Inspect { json, files })
         }
-        (true, None) => Ok(Request::InspectListed { json }),
-        (false, None) | (true, Some(_)) => Err(WordsFault::Usage),
+        (Some(resources), [file]) => Ok(Request::InspectPair {
+            json,
+            resources,
+            file: *file,
+        }),
+        (Some(_), _) => Err(WordsFault::Usage),
+    }
+}
+
+/// Returns the request of `inspect` of the files that the standard input lists.
+fn inspected_listed<'a>(json: bool, resources: Option<&str>) -> Result<Request<'a>, WordsFault>
+    ensures { AnswersWords result (inspected_listed json (option_map (λ r. r.now) resources.entry)) }
+{
+    match resources {
+        None => Ok(Request::InspectListed { json }),
+        Some(_) => Err(WordsFault::Usage),
     }
 }
 

@@ -1,6 +1,6 @@
-use crate::request::command_line::{command, load_command};
+use crate::request::command_line::{command, inspect_command, load_command};
 use clap::error::ErrorKind;
-use clap::{Arg, ArgAction, Command, Error};
+use clap::{Arg, ArgAction, ArgMatches, Command, Error};
 use std::alloc::{AllocError, Global};
 
 /// The text that is printed if the system provides no command line.
@@ -18,7 +18,7 @@ pub fn words_help(alloc: Global, words: &[String]) -> Result<String, AllocError>
     }
     match helpful_command(alloc)?.try_get_matches_from(words) {
         Ok(matches) if matches.get_flag("version") => version_error(alloc)?.to_string(alloc),
-        Ok(_) => files_error(alloc)?.to_string(alloc),
+        Ok(matches) => accepted_error(alloc, &matches)?.to_string(alloc),
         Err(error) => error_text(alloc, &error),
     }
 }
@@ -53,6 +53,23 @@ fn error_text(alloc: Global, error: &Error) -> Result<String, AllocError> {
 fn version_error(alloc: Global) -> Result<Error, AllocError> {
     let mut command = command(alloc)?.bin_name("pef")?;
     command.error(ErrorKind::ArgumentConflict, "`--version` is used alone")
+}
+
+/// Returns the error of words that `clap` accepts, and that are no request.
+fn accepted_error(alloc: Global, matches: &ArgMatches<'_>) -> Result<Error, AllocError> {
+    match matches.subcommand() {
+        Some(("inspect", _)) => inspected_error(alloc),
+        Some(_) | None => files_error(alloc),
+    }
+}
+
+/// Returns the error of an `inspect` without files, or with options that don't go with them.
+fn inspected_error(alloc: Global) -> Result<Error, AllocError> {
+    let mut command = inspect_command(alloc)?.bin_name("pef inspect")?;
+    command.error(
+        ErrorKind::ArgumentConflict,
+        "give either FILEs or `--files0`, and `--resources` only with one FILE",
+    )
 }
 
 /// Returns the error of a `load` whose words `clap` accepts, since `clap` doesn't check the form NAME=FILE.

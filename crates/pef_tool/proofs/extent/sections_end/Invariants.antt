@@ -1,5 +1,5 @@
 -- The sections left, and the greatest end so far.
-use Rattle.std.specs.Prelude.{◌≡◌, ◌-◌, ◌+◌, ◌*◌, ◌<◌, ◌^◌}
+use Rattle.std.specs.Prelude.{◌≡◌, ◌-◌, ◌+◌, ◌*◌}
 use Rattle.pef_views.specs.Views.{contained}
 use Rattle.pef_tool.specs.Extents.{sections_end}
 use Rattle.pef_tool.proofs.extent.sections_end.Given as goal

@@ -1,5 +1,5 @@
 -- Each file is read and reported after the others, and the rest of the page is written last.
-use Rattle.std.proofs.Common.{◌∷◌, ◌∙◌, List, ℕ, [], ap, append-nil, drop, inl, map, refl, subst, sym}
+use Rattle.std.proofs.Common.{◌∷◌, ◌∙◌, List, ℕ, None, [], ap, append-nil, drop, map, option_map, refl, subst, sym}
 use Rattle.std.proofs.Common.{◌+◌}
 use Rattle.std.proofs.lemmas.List.{at_drop_more, drop_all}
 use Rattle.std.specs.Borrow.{Bor}
@@ -7,8 +7,8 @@ use Rattle.mac_report.specs.declared.file.Form.{Form}
 use Rattle.pef_ports.specs.Ports.{FilesPort}
 use Rattle.pef_ports.specs.Sent.{Prints, StopsShort}
 use Rattle.pef_ports.proofs.Laws.Sending.{Prints-then, Sends-short, StopsShort-then}
-use Rattle.pef_tool.specs.Inspect.{Inspects, ReadsBy, Reported, is_input}
-use Rattle.pef_tool.specs.Kept.Inspecting.{read_seen}
+use Rattle.pef_tool.specs.Inspect.{Inspects, ReadsPair, Reported}
+use Rattle.pef_tool.specs.Kept.Inspecting.{companion_seen, read_seen}
 use Rattle.pef_tool.proofs.InspectLemmas.{inspected-all, inspected-more, inspected-nothing, inspected-short, no_value}
 use Rattle.pef_tool.proofs.inspect.print_reports.Goals as goal
 
@@ -27,16 +27,17 @@ returns-in_err-more g c =
     let form = c.form_of-form.result in
     let at = c.loop-path in
     let paths = c.args.asked.paths.now in
-    let path = c.read_named-read.result.path.now in
+    let path = c.find_pair-pair.result.named.path.now in
     let others = map now (drop (at.path-index + 1) paths) in
-    let read = read_seen c.read_named-read.result.bytes in
+    let read = read_seen c.find_pair-pair.result.named.bytes in
+    let companion = c.find_pair-pair.result.companion in
     let e = c.in_err-more.ensures in
-    let P : List ℕ → Type 0 = λ (p : List ℕ). ReadsBy (is_input p) port stream at.files c.read_named-read.new.files at.input c.read_named-read.new.input p read in
-    let reported : Reported port stream form at.files c.read_named-read.new.files at.input c.read_named-read.new.input path e.0 e.1 =
-    record { read = read; is = inl (subst P (sym c.read_named-read.ensures.path) c.read_named-read.ensures.read); printed = e.2 } in
-    let w = inspected-short port stream form c.read_named-read.new.files c.read_named-read.new.input (g.W.Sink.stream c.print_report.new.out) path others e.0 e.1 at.invariant
-    (at_drop_more (map now) paths at.path-index _ c.loop-path-test.true ∙ ap (λ (p : List ℕ). p ∷ others) (sym c.read_named-read.ensures.path)) reported e.3 in
-    let Q : Form → Type 0 = λ (f : Form). Inspects port stream f c.args.files.now c.read_named-read.new.files c.args.input.now c.read_named-read.new.input (map now paths) 0 w.0 w.1 in
+    let P : List ℕ → Type 0 = λ (p : List ℕ). ReadsPair port stream None at.files c.find_pair-pair.new.files at.input c.find_pair-pair.new.input p read (option_map (companion_seen p) companion) in
+    let reported : Reported port stream None form at.files c.find_pair-pair.new.files at.input c.find_pair-pair.new.input path e.0 e.1 =
+    record { read = read; companion = option_map (companion_seen path) companion; pair = subst P (sym c.find_pair-pair.ensures.path) c.find_pair-pair.ensures.pair; printed = e.2 } in
+    let w = inspected-short port stream form c.find_pair-pair.new.files c.find_pair-pair.new.input (g.W.Sink.stream c.print_pair.new.out) path others e.0 e.1 at.invariant
+    (at_drop_more (map now) paths at.path-index _ c.loop-path-test.true ∙ ap (λ (p : List ℕ). p ∷ others) (sym c.find_pair-pair.ensures.path)) reported e.3 in
+    let Q : Form → Type 0 = λ (f : Form). Inspects port stream f c.args.files.now c.find_pair-pair.new.files c.args.input.now c.find_pair-pair.new.input (map now paths) 0 w.0 w.1 in
     (w.0, w.1, subst Q c.form_of-form.ensures w.2, Sends-short _ c.from_residual.result _ c.from_residual.ensures.1 w.3, no_value _ _ c.from_residual.result c.from_residual.ensures.1)
 
 pub loop-path-preserved : goal.loop-path-preserved
@@ -46,16 +47,17 @@ loop-path-preserved g c =
     let form = c.form_of-form.result in
     let at = c.loop-path in
     let paths = c.args.asked.paths.now in
-    let path = c.read_named-read.result.path.now in
+    let path = c.find_pair-pair.result.named.path.now in
     let others = map now (drop (at.path-index + 1) paths) in
-    let read = read_seen c.read_named-read.result.bytes in
+    let read = read_seen c.find_pair-pair.result.named.bytes in
+    let companion = c.find_pair-pair.result.companion in
     let e = c.in_ok-more.ensures in
-    let P : List ℕ → Type 0 = λ (p : List ℕ). ReadsBy (is_input p) port stream at.files c.read_named-read.new.files at.input c.read_named-read.new.input p read in
-    let reported : Reported port stream form at.files c.read_named-read.new.files at.input c.read_named-read.new.input path e.0 e.1 =
-    record { read = read; is = inl (subst P (sym c.read_named-read.ensures.path) c.read_named-read.ensures.read); printed = e.2 } in
+    let P : List ℕ → Type 0 = λ (p : List ℕ). ReadsPair port stream None at.files c.find_pair-pair.new.files at.input c.find_pair-pair.new.input p read (option_map (companion_seen p) companion) in
+    let reported : Reported port stream None form at.files c.find_pair-pair.new.files at.input c.find_pair-pair.new.input path e.0 e.1 =
+    record { read = read; companion = option_map (companion_seen path) companion; pair = subst P (sym c.find_pair-pair.ensures.path) c.find_pair-pair.ensures.pair; printed = e.2 } in
     rw (c.saturating_add-errors.ensures, e.4)
-    (inspected-more port stream form c.read_named-read.new.files c.read_named-read.new.input (g.W.Sink.stream c.print_report.new.out) c.print_report.new.page.items path others e.0 e.1 at.invariant
-    (at_drop_more (map now) paths at.path-index _ c.loop-path-test.true ∙ ap (λ (p : List ℕ). p ∷ others) (sym c.read_named-read.ensures.path)) reported e.3)
+    (inspected-more port stream form c.find_pair-pair.new.files c.find_pair-pair.new.input (g.W.Sink.stream c.print_pair.new.out) c.print_pair.new.page.items path others e.0 e.1 at.invariant
+    (at_drop_more (map now) paths at.path-index _ c.loop-path-test.true ∙ ap (λ (p : List ℕ). p ∷ others) (sym c.find_pair-pair.ensures.path)) reported e.3)
 
 pub returns-in_err-flush : goal.returns-in_err-flush
 returns-in_err-flush g c =
