@@ -1,12 +1,12 @@
 -- A name that is cut is looked for in its first bytes alone.
-use Rattle.std.proofs.Common.{◌≡◌, ℕ, zero, suc, ◌+◌, ◌-◌, ◌<◌, ◌≤◌, ◌==◌, inl, inr, List, [], ◌∷◌, Option, None, Some, true, false, length, take, drop, min, refl, sym, ◌∙◌, ap, length-drop, arith}
+use Rattle.std.proofs.Common.{◌≡◌, ℕ, zero, suc, ◌+◌, ◌-◌, ◌<◌, ◌≤◌, inl, inr, List, [], ◌∷◌, Option, None, Some, true, false, length, take, drop, min, refl, sym, ◌∙◌, ap, length-drop, arith}
 use Rattle.std.specs.Option.{is_none, option_map}
 use Rattle.std.proofs.lemmas.Option.{same_Some}
 use Rattle.std.proofs.lemmas.Bool.Decides.{eqb_tells, leb_tells}
 use Rattle.std.proofs.lemmas.Bool.{le-leb, lt-leb}
 use Rattle.std.proofs.lemmas.List.{nil_from_length, take-take, take_min}
 use Rattle.pef_words.specs.Bytes.{before_zero, name_at, part_of}
-use Rattle.pef_loader.specs.CutNames.{CutName, cut_name}
+use Rattle.pef_loader.specs.CutNames.{cut_name}
 use Rattle.pef_loader.specs.Kept.Names.{NamesEndAt, front_name}
 
 -- what a name with a byte before it is

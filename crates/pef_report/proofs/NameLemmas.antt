@@ -1,10 +1,9 @@
 -- What is printed of names that are cut.
-use Rattle.std.proofs.Common.{◌≡◌, ℕ, suc, ◌<◌, ◌≤◌, ◌++◌, inl, inr, List, None, Some, true, false, length, take, refl, sym, ap, ap₂, ◌∙◌, arith}
+use Rattle.std.proofs.Common.{◌≡◌, ℕ, ◌<◌, ◌≤◌, ◌++◌, inl, inr, List, None, Some, length, take, refl, arith}
 use Rattle.std.proofs.lemmas.Bool.{le-leb, lt-leb}
 use Rattle.std.proofs.lemmas.Bool.Decides.{leb_tells}
 use Rattle.std.proofs.lemmas.List.{length-take-le, take-take}
 use Rattle.pef_loader.specs.CutNames.{cut_name}
-use Rattle.pef_ports.specs.Names.{name_text}
 use Rattle.pef_report.specs.Theorems.{PrintsNames}
 use Rattle.pef_report.specs.Tokens.{cut_member, label_member, label_text, length_member, name_member}
 

@@ -1,5 +1,5 @@
 -- The objects of JSON of rows.
-use Rattle.std.specs.Prelude.{ℕ, ℤ, Bool, List, [], ◌++◌, Option, None, Some, codes, decimal, if◌then◌else◌}
+use Rattle.std.specs.Prelude.{ℕ, ℤ, Bool, List, [], ◌++◌, Option, codes, decimal, if◌then◌else◌}
 use Rattle.pef_listing.specs.Listing.{magnitude, sign_text}
 use Rattle.pef_loader.specs.CutNames.{CutName}
 use Rattle.pef_loader.specs.declared.header.LoaderHeader.{LoaderHeader}

@@ -1,5 +1,5 @@
 -- A name that begins before the last zero byte is found in its first bytes, and no other is there.
-use Rattle.std.proofs.Common.{◌≡◌, ◌+◌, ◌-◌, ◌∙◌, min, sym, ap}
+use Rattle.std.proofs.Common.{◌+◌, ◌-◌, ◌∙◌, min, sym, ap}
 use Rattle.pef_loader.proofs.CutLemmas.{cut-no-part, cut-part}
 use Rattle.pef_loader.proofs.cut_name.Names.name.Goals as goal
 
