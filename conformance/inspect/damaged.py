@@ -681,5 +681,23 @@ def named_container(names: List[bytes]) -> bytes:
     return head + own + tables + rows + strings
 
 
+def shared_by_imports(count: int, length: int) -> bytes:
+    """A container without sections but the loader section, with imports of one library, which all have the library's name."""
+    strings = b"n" * length + b"\0"
+    start = 56 + 24 + 4 * count
+    end = start + len(strings)
+    tables = struct.pack(">iIiIiIIIIIIIII", -1, 0, -1, 0, -1, 0, 1, count, 0, start, start, end, 0, 0)
+    tables += struct.pack(">IIIIIBxxx", 0, 0, 0, count, 0, 0) + struct.pack(">I", 0x02000000) * count
+    head = b"Joy!peffpwpc" + struct.pack(">IIIIIHHI", 1, 0, 0, 0, 0, 1, 0, 0)
+    own = struct.pack(">iIIIIIBBBB", -1, 0, 0, 0, end, 68, 4, 4, 4, 0)
+    return head + own + tables + strings
+
+
+def shared_by_sections(count: int, length: int) -> bytes:
+    """The header of a container, and headers of sections without bytes, which all have one name."""
+    head = b"Joy!peffpwpc" + struct.pack(">IIIIIHHI", 1, 0, 0, 0, 0, count, 0, 0)
+    return head + struct.pack(">iIIIIIBBBB", 0, 0, 0, 0, 0, 0, 5, 4, 4, 0) * count + b"n" * length + b"\0"
+
+
 for group in container_header, sections, loader, exports, packed_data, programs, several, truncated, limits, other_files:
     group()
