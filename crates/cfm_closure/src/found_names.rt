@@ -14,8 +14,8 @@ const WORD: usize = 8;
 /// An odd number whose bits are spread evenly.
 const MIXER: u64 = 0x9E37_79B9_7F4A_7C15;
 
-/// How many slots are looked at for one name.
-const PROBES: usize = 8;
+/// How many slots are looked at for one name. If half of the slots are free, names that find none in these are very rare.
+const PROBES: usize = 32;
 
 /// An export that was found by its name. `mixed` is the name's number. The name itself is in the loader section, beside
 /// those of other exports.
