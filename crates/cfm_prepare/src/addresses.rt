@@ -12,7 +12,7 @@ use std::alloc::{AllocError, Global};
 pub(crate) fn section_addresses(alloc: Global, places: &[Place]) -> Result<Vec<u32>, AllocError>
     ensures { IfOk result (λ addresses. addresses.items ≡ map (λ p. p.address) places.now) }
 {
-    let mut addresses = Vec::new(alloc);
+    let mut addresses = Vec::with_capacity(alloc, places.len())?;
     for place in places {
         addresses.push(place.address)?;
     }
@@ -40,8 +40,8 @@ pub(crate) fn import_addresses(
     requires { Contains closure.now.order position }
     ensures { IfOk result (λ addresses. addresses.items ≡ addresses_from closure.now.pairs present.now.items position 0 (import_count closure.now.pairs position)) }
 {
-    let mut addresses = Vec::new(alloc);
     let count = closure.loader(position).imports();
+    let mut addresses = Vec::with_capacity(alloc, count)?;
     for import in 0..count {
         let target = closure.target(position, import);
         addresses.push(target_address(present, target))?;
