@@ -1,3 +1,4 @@
 mod Merging
 mod NameLemmas
+mod StringLemmas
 mod TokenLemmas

@@ -1,6 +1,6 @@
 -- Strings of JSON (RFC 8259), in ASCII alone. Names are in Mac Roman, so a byte above 7F is the character that Apple's
 -- ROMAN.TXT of the Unicode Consortium gives it.
-use Rattle.std.specs.Prelude.{ℕ, ◌-◌, ◌==◌, ◌&&◌, Bool, true, List, [], ◌∷◌, ◌++◌, codes, get_or, nat_le, nat_lt, if◌then◌else◌}
+use Rattle.std.specs.Prelude.{ℕ, ◌-◌, ◌==◌, ◌&&◌, Bool, true, not, List, [], ◌∷◌, ◌++◌, codes, get_or, nat_le, nat_lt, if◌then◌else◌}
 use Rattle.byteorder.specs.Endian.{big_bytes}
 use Rattle.pef_ports.specs.Text.{hex_text}
 
@@ -31,6 +31,10 @@ character_of b = if nat_lt b 128 then b else get_or mac_roman (b - 128) 0
 -- a character that is written with an escape: a control character, or one outside ASCII
 abbrev pub escaped : ℕ → List ℕ
 escaped character = codes "\\u" ++ hex_text (big_bytes 2 character)
+
+-- a byte that a string has unchanged
+abbrev pub is_plain : ℕ → Bool
+is_plain b = (nat_le 0x20 b && nat_le b 0x7E) && (not (b == 34) && not (b == 92))
 
 -- a character of a string
 unfoldable pub byte_string : ℕ → List ℕ

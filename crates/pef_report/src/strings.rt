@@ -1,8 +1,8 @@
-ghost use Rattle.std.specs.Prelude.{◌≡◌, ◌<◌, ◌≤◌};
+ghost use Rattle.std.specs.Prelude.{◌≡◌, ◌<◌, ◌≤◌, ◌++◌, drop, length, take};
 ghost use Rattle.pef_ports.specs.Sent.{Sends};
-ghost use Rattle.pef_report.specs.Strings.{byte_string, character_of, is_ascii, string_text};
+ghost use Rattle.pef_report.specs.Strings.{byte_string, character_of, is_ascii, is_plain, string_text};
 
-use pef_ports::{Page, Piece, Sink, StreamFault, print_pieces};
+use pef_ports::{Page, Piece, Sink, StreamFault, print_pieces, send};
 
 /// The characters of the bytes 80 to FF of Mac Roman (Apple's ROMAN.TXT of the Unicode Consortium).
 const MAC_ROMAN: [u16; 128] = [
@@ -19,14 +19,42 @@ const MAC_ROMAN: [u16; 128] = [
     0x00AF, 0x02D8, 0x02D9, 0x02DA, 0x00B8, 0x02DD, 0x02DB, 0x02C7,
 ];
 
-/// Prints the inside of a JSON string: the text of a name in Mac Roman.
+/// Prints the inside of a JSON string: the text of a name in Mac Roman. Characters that stand there unchanged are sent together.
 pub fn print_string<W: Sink>(out: &mut W, page: &mut Page, name: &[u8]) -> Result<(), StreamFault>
     ensures { Sends result (W.stream out.old) (W.stream out.new) page.old.items page.new.items (string_text name.now) }
 {
-    for b in name {
+    let mut rest = name;
+    while !rest.is_empty() {
+        let (plain, others) = rest.split_at(plain_len(rest));
+        send(out, page, plain)?;
+        let Some((b, after)) = others.split_first() else {
+            return Ok(());
+        };
         print_byte(out, page, *b)?;
+        rest = after;
     }
     Ok(())
+}
+
+/// Returns how many bytes at the front of a name stand in a string unchanged.
+#[tactic(auto, using(crate::proofs::StringLemmas::plain_more))]
+fn plain_len(name: &[u8]) -> usize
+    ensures inside { result ≤ length name.now }
+    ensures text { string_text name.now ≡ take result name.now ++ string_text (drop result name.now) }
+{
+    for (i, b) in name.iter().enumerate() {
+        if !is_plain(*b) {
+            return i;
+        }
+    }
+    name.len()
+}
+
+/// Returns whether a byte stands in a string unchanged.
+fn is_plain(b: u8) -> bool
+    ensures { result ≡ is_plain b }
+{
+    b >= 0x20 && b <= 0x7E && (b != b'"' && b != b'\\')
 }
 
 /// Prints a character of a JSON string.

@@ -1,0 +1,30 @@
+-- How the inside of a string is put together.
+use Rattle.std.proofs.Common.{◌≡◌, ◌&&◌, ◌==◌, ℕ, ◌+◌, ◌<◌, true, false, not, List, [], ◌∷◌, ◌++◌, length, get_or, take, drop, nat_le, refl, sym, ap, ◌∙◌, append_assoc, arith}
+use Rattle.std.proofs.lemmas.List.{at_drop_more, take_more}
+use Rattle.std.proofs.lemmas.Bool.{and_parts, not-true}
+use Rattle.pef_report.specs.Strings.{byte_string, is_plain, string_text}
+
+-- a byte that stands there unchanged
+plain_text : (b : ℕ) → is_plain b ≡ true → byte_string b ≡ b ∷ []
+unfolding byte_string
+plain_text b plain =
+    let parts = and_parts (nat_le 0x20 b && nat_le b 0x7E) (not (b == 34) && not (b == 92)) plain in
+    let others = and_parts (not (b == 34)) (not (b == 92)) parts.1 in
+    let no_quote : (b == 34) ≡ false = not-true (b == 34) others.0 in
+    let no_slash : (b == 92) ≡ false = not-true (b == 92) others.1 in
+    rw no_quote (rw no_slash (rw parts.0 refl))
+
+-- one more byte at the front that stands there unchanged
+pub plain_more : (name : List ℕ) (i : ℕ) → i < length name → is_plain (get_or name i 0) ≡ true → string_text name ≡ take i name ++ string_text (drop i name) → string_text name ≡ take (i + 1) name ++ string_text (drop (i + 1) name)
+plain_more name i under plain so_far =
+    let rest = string_text (drop (i + 1) name) in
+    let b = get_or name i 0 in
+    so_far
+    ∙ ap (λ (t : List ℕ). take i name ++ t) (at_drop_more string_text name i 0 under ∙ ap (λ (t : List ℕ). t ++ rest) (plain_text b plain))
+    ∙ sym (append_assoc (take i name) (b ∷ []) rest)
+    ∙ ap (λ (t : List ℕ). t ++ rest) (sym (take_more name i 0 under))
+
+-- the text of no byte
+pub no_text : (name : List ℕ) → length name ≡ 0 → string_text name ≡ []
+no_text [] none = refl
+no_text (b ∷ name) none = absurd (omega arith)
