@@ -4,7 +4,7 @@ use Rattle.std.proofs.lemmas.List.{at_drop_more, take_more}
 use Rattle.std.proofs.lemmas.Bool.{and_parts, not-true}
 use Rattle.pef_report.specs.Strings.{byte_string, is_plain, string_text}
 
--- a byte that stands there unchanged
+-- a byte that needs no escape
 plain_text : (b : ℕ) → is_plain b ≡ true → byte_string b ≡ b ∷ []
 unfolding byte_string
 plain_text b plain =
@@ -14,7 +14,7 @@ plain_text b plain =
     let no_slash : (b == 92) ≡ false = not-true (b == 92) others.1 in
     rw no_quote (rw no_slash (rw parts.0 refl))
 
--- one more byte at the front that stands there unchanged
+-- one more byte at the front that needs no escape
 pub plain_more : (name : List ℕ) (i : ℕ) → i < length name → is_plain (get_or name i 0) ≡ true → string_text name ≡ take i name ++ string_text (drop i name) → string_text name ≡ take (i + 1) name ++ string_text (drop (i + 1) name)
 plain_more name i under plain so_far =
     let rest = string_text (drop (i + 1) name) in

@@ -32,7 +32,7 @@ character_of b = if nat_lt b 128 then b else get_or mac_roman (b - 128) 0
 abbrev pub escaped : ℕ → List ℕ
 escaped character = codes "\\u" ++ hex_text (big_bytes 2 character)
 
--- a byte that a string has unchanged
+-- a byte that needs no escape
 abbrev pub is_plain : ℕ → Bool
 is_plain b = (nat_le 0x20 b && nat_le b 0x7E) && (not (b == 34) && not (b == 92))
 

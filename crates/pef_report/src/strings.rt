@@ -19,7 +19,7 @@ const MAC_ROMAN: [u16; 128] = [
     0x00AF, 0x02D8, 0x02D9, 0x02DA, 0x00B8, 0x02DD, 0x02DB, 0x02C7,
 ];
 
-/// Prints the inside of a JSON string: the text of a name in Mac Roman. Characters that stand there unchanged are sent together.
+/// Prints the inside of a JSON string: the text of a name in Mac Roman. Characters that need no escape are sent together.
 pub fn print_string<W: Sink>(out: &mut W, page: &mut Page, name: &[u8]) -> Result<(), StreamFault>
     ensures { Sends result (W.stream out.old) (W.stream out.new) page.old.items page.new.items (string_text name.now) }
 {
@@ -36,7 +36,7 @@ pub fn print_string<W: Sink>(out: &mut W, page: &mut Page, name: &[u8]) -> Resul
     Ok(())
 }
 
-/// Returns how many bytes at the front of a name stand in a string unchanged.
+/// Returns how many bytes at the front of a name need no escape in a string.
 #[tactic(auto, using(crate::proofs::StringLemmas::plain_more))]
 fn plain_len(name: &[u8]) -> usize
     ensures inside { result ≤ length name.now }
@@ -50,7 +50,7 @@ fn plain_len(name: &[u8]) -> usize
     name.len()
 }
 
-/// Returns whether a byte stands in a string unchanged.
+/// Returns whether a byte needs no escape in a string.
 fn is_plain(b: u8) -> bool
     ensures { result ≡ is_plain b }
 {
