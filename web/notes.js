@@ -64,12 +64,19 @@ function extents(container, bytes) {
 /** How many words are compared, of all programs together, to find those that are relocated twice. */
 const MOST_WORDS = 0x100000;
 
-/** Returns the notes on the first word of each program that is relocated twice. `reached` says how many programs are verified. */
+/**
+ * Returns the notes on the first word of each program to which it or an earlier one has already added. `reached` says how many
+ * programs are verified.
+ */
 export function twiceNotes(container, reached) {
     const notes = [];
+    const words = new Map();
     let left = MOST_WORDS;
     for (let k = 0; k < reached; k += 1) {
-        const { count, twice } = searchWords(container, k, left);
+        const { section } = container.relocations[k];
+        const seen = words.get(section) ?? new Set();
+        words.set(section, seen);
+        const { count, twice } = searchWords(container, k, seen, left);
         if (count > left) {
             const { offset } = container.relocations[k];
             notes.push({ number: 110, name: "ProgramsUnverified", isError: false, part: "relocation", rank: 9, row: k, field: 0, offset });
@@ -84,10 +91,9 @@ export function twiceNotes(container, reached) {
     return notes;
 }
 
-/** Returns how many words a program relocates, up to one more than `most`, and the first one that it relocates twice. */
-function searchWords(container, k, most) {
+/** Adds the words of a program to those seen. Returns how many they are, up to one more than `most`, and the first one seen before. */
+function searchWords(container, k, seen, most) {
     const relocation = container.relocations[k];
-    const seen = new Set();
     let count = 0;
     let twice = null;
     if (relocation.section >= Math.min(container.header.instantiated, container.sections.length)) {

@@ -299,6 +299,14 @@ note 107 WordOutsideImage reloc 1 halfword 0 at 0000019A word 00000010""")
     case("word-past-the-image", "19A 4005", "note 107 WordOutsideImage reloc 1 halfword 0 at 0000019A word 00000010")
     # Two instructions add to word 0. The note is at the program.
     case("word-twice", "196 0000", "note 114 WordRelocatedTwice reloc 0 halfword 0 at 0000018C word 00000000")
+    # Program 1 is for section 2, too, and adds to its words 0 and 4. Program 0 adds to both; then only to 4, 8, 12, 16 and 28.
+    case("word-of-an-earlier-program", "180 0002", "note 114 WordRelocatedTwice reloc 1 halfword 0 at 0000019A word 00000000")
+    case("second-word-of-an-earlier-program", "180 0002, 18C 8003", """
+note 114 WordRelocatedTwice reloc 1 halfword 0 at 0000019A word 00000004""")
+    # Program 0 adds to word 0 twice, and then to 4. Program 1 is its last two instructions, which add to word 4.
+    case("word-of-a-program-after-one-twice", "18C 4000 A000 0000 4000 4A02 8003 4200, 180 0002 0000 00000002 0000000A", """
+note 114 WordRelocatedTwice reloc 0 halfword 0 at 0000018C word 00000000
+note 114 WordRelocatedTwice reloc 1 halfword 0 at 00000196 word 00000004""")
 
 
 # What is printed of the relocation headers, with the programs that these changes make. The numbers are those of docs/FORMATS.md,

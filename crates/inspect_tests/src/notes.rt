@@ -1,6 +1,6 @@
 use pef_inspect::{Cause, Finding, Note, find_more_notes, find_notes};
 use test_data::changes::with_words;
-use test_data::containers::{RICH, SPELLED, VECTORS_LEAST};
+use test_data::containers::{RICH, SPELLED, TWICE, VECTORS_LEAST};
 
 /// A note: its number, its offset, and the length or the word that it has.
 type Noted = (u32, usize, u64);
@@ -54,6 +54,8 @@ const ODDITIES: &[Oddity] = &[
     (SPELLED, &[], &[(107, 190, 12)], &[]),
     // Both additions are to the word at 4.
     (SPELLED, &[(188, 0x0004_6600)], &[], &[(114, 180, 4)]),
+    // The second program adds to the words at 0 and 4, the first one to that at 4.
+    (TWICE, &[], &[], &[(114, 198, 4)]),
     // 512 words, and 2,048 times 512 more.
     (
         SPELLED,

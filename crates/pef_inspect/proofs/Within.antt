@@ -3,7 +3,6 @@ use Rattle.std.proofs.Common.{◌≡◌, ℕ, suc, ◌+◌, ◌-◌, ◌<◌, �
 use Rattle.std.specs.Prelude.{nat_lt}
 use Rattle.std.specs.Option.{option_to_list}
 use Rattle.std.proofs.lemmas.Bool.{le-ltb, lt-ltb, ltb-false, ltb-true}
-use Rattle.std.proofs.lemmas.Option.{cond_some}
 use Rattle.pef_words.specs.Findings.{all_among}
 use Rattle.pef_inspect.specs.declared.finding.Finding.{Finding}
 use Rattle.pef_inspect.specs.Limits.{checked_within, left_within, less, rest_of, within}
@@ -60,7 +59,7 @@ left-ends cost left i n past =
     let e : n - i ≡ 0 = omega arith in
     rw e refl
 
-nil-right : {F : Type 0} (xs : List F) → xs ≡ xs ++ []
+pub nil-right : {F : Type 0} (xs : List F) → xs ≡ xs ++ []
 nil-right [] = refl
 nil-right (x ∷ xs) = ap (λ ys. x ∷ ys) (nil-right xs)
 

@@ -2,6 +2,7 @@ pub mod Errors
 pub mod Extents
 pub mod Findings
 pub mod First
+pub mod Kept
 pub mod Left
 pub mod Limits
 pub mod More

@@ -9,8 +9,8 @@ use pef_views::PartialContainer;
 use std::alloc::{AllocError, Global};
 
 /// Returns the notes that need memory: bytes that two parts have, bytes between parts that belong to none, bytes after the
-/// last part, and the first word of each program that is relocated twice. Programs with too many words together aren't
-/// searched for such words, and the note on programs that weren't verified says from which one on.
+/// last part, and the first word of each program to which it or an earlier one has already added. Programs with too many words
+/// together aren't searched for such words, and the note on programs that weren't verified says from which one on.
 ///
 /// # Errors
 ///

@@ -31,8 +31,8 @@ pub enum Note {
     Overlap { length: usize },
     /// `length` bytes belong to no part.
     UnownedBytes { length: usize },
-    /// An address is added to a word to which one was added already. `word` is its offset in the section. The note is at the
-    /// beginning of the program, once for its first such word.
+    /// An address is added to a word to which one was added already, by the same program or by an earlier one of the section.
+    /// `word` is its offset in the section. The note is at the beginning of the program, once for its first such word.
     WordRelocatedTwice { word: u64 },
 }
 

@@ -1,4 +1,4 @@
-ghost use Rattle.std.specs.Prelude.{◌≡◌, ◌++◌, OnOk, option_map};
+ghost use Rattle.std.specs.Prelude.{◌≡◌, ◌++◌, IfSome, OnOk, option_map};
 ghost use Rattle.pef_views.specs.PartialViews.{partly};
 ghost use Rattle.pef_loader.specs.PartialViews.{partly_loaded};
 ghost use Rattle.pef_inspect.specs.Errors.{programs_reached, run_at, run_cost, run_errors, sizes_at};
@@ -84,15 +84,17 @@ pub(crate) fn runs_within(
     within(&Runs { container, loader }, limits.steps, programs)
 }
 
-/// A readable program, and what its section is tested against.
+/// A readable program, with its section and what this is tested against.
 #[derive(Clone, Copy)]
 pub(crate) struct Run<'a> {
+    pub section: u16,
     pub sizes: Sizes,
     pub program: Program<'a>,
 }
 
 impl<'a> Run<'a> {
     ghost use Rattle.pef_inspect.specs.Runs.{run_seen};
+    ghost use Rattle.pef_inspect.specs.Twice.{section_at};
 
     /// Returns the program of relocation header `k`, if it is readable and for an instantiated section.
     pub(crate) fn at(
@@ -100,14 +102,20 @@ impl<'a> Run<'a> {
         loader: &PartialLoader<'a>,
         k: u32,
     ) -> Option<Run<'a>>
-        ensures { option_map run_seen result ≡ run_at (partly container.now) (partly_loaded loader.now) k }
+        ensures seen { option_map run_seen result ≡ run_at (partly container.now) (partly_loaded loader.now) k }
+        ensures section { IfSome result (λ run. run.section ≡ section_at (partly_loaded loader.now) k) }
     {
         let relocation = loader.relocation(k as usize)?;
         let bytes = relocation.program?;
         match Program::read(bytes) {
             Ok(program) => {
-                let sizes = sizes(container, loader, relocation.section)?;
-                Some(Run { sizes, program })
+                let section = relocation.section;
+                let sizes = sizes(container, loader, section)?;
+                Some(Run {
+                    section,
+                    sizes,
+                    program,
+                })
             }
             Err(_) => None,
         }

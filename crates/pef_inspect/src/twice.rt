@@ -1,11 +1,12 @@
-ghost use Rattle.std.specs.Prelude.{◌≡◌, ◌++◌, ◌≤◌, [], IfOk, OnOk, length};
+ghost use Rattle.std.specs.Prelude.{◌≡◌, ◌++◌, ◌≤◌, ℕ, List, IfOk, OnOk, length};
 ghost use Rattle.std.specs.Option.{option_to_list};
 ghost use Rattle.pef_words.specs.Findings.{all_among};
 ghost use Rattle.pef_views.specs.PartialViews.{partly};
 ghost use Rattle.pef_loader.specs.PartialViews.{partly_loaded};
 ghost use Rattle.pef_reloc.specs.Left.{fixups_left};
 ghost use Rattle.pef_inspect.specs.Limits.{left_within, less, within};
-ghost use Rattle.pef_inspect.specs.Twice.{first_again, twice_in, twice_note, twice_notes, words_cost, words_of};
+ghost use Rattle.pef_inspect.specs.Kept.Seen.{IsSeen};
+ghost use Rattle.pef_inspect.specs.Twice.{again_note, first_again, twice_in, twice_note, twice_notes, words_at, words_cost, words_in};
 
 use crate::checked::{Costed, Reach, within};
 use crate::extents::push_some;
@@ -21,7 +22,7 @@ use pef_views::PartialContainer;
 use std::alloc::{AllocError, Global};
 use std::collections::BTreeSet;
 
-/// Adds the note on the first word that is relocated twice of each program.
+/// Adds the note on the first word of each program to which it or an earlier one has already added.
 #[tactic(auto, unfolding(crate::specs::Twice::twice_in))]
 pub(crate) fn add_twice(
     alloc: Global,
@@ -80,11 +81,15 @@ fn add_each(
 ) -> Result<(), AllocError>
     ensures { OnOk result (found.new.items ≡ found.old.items ++ all_among (λ k. option_to_list (twice_note (partly words.entry.container.now) (partly_loaded words.entry.loader.now) k)) 0 count) }
 {
+    let mut seen = BTreeSet::new(alloc);
     for k in 0..count {
-        push_some(words.twice(alloc, k)?, found)?;
+        push_some(words.twice(k, &mut seen)?, found)?;
     }
     Ok(())
 }
+
+/// A word of a section: the section, and the offset in it.
+type Word = (u16, u64);
 
 /// The words that the programs of a loader section relocate.
 #[derive(Clone, Copy)]
@@ -109,15 +114,16 @@ impl<'c, 'a> Costed for Words<'c, 'a> {
 }
 
 impl<'c, 'a> Words<'c, 'a> {
-    /// Returns the note on the first word that the program of relocation header `k` relocates twice.
-    fn twice(self, alloc: Global, k: u32) -> Result<Option<Finding>, AllocError>
-        ensures { IfOk result (λ note. note ≡ twice_note (partly self.entry.container.now) (partly_loaded self.entry.loader.now) k) }
+    /// Adds the words of the program of relocation header `k` to those seen, and returns the note on the first that was among them.
+    fn twice(self, k: u32, seen: &mut BTreeSet<Word>) -> Result<Option<Finding>, AllocError>
+        ensures note { (before : List (ℕ × ℕ)) → IsSeen seen.old before → IfOk result (λ note. note ≡ again_note (partly self.entry.container.now) k (first_again before (words_at (partly self.entry.container.now) (partly_loaded self.entry.loader.now) k))) }
+        ensures seen { (before : List (ℕ × ℕ)) → IsSeen seen.old before → OnOk result (IsSeen seen.new (before ++ words_at (partly self.entry.container.now) (partly_loaded self.entry.loader.now) k)) }
     {
         let Some(run) = Run::at(self.container, self.loader, k) else {
             return Ok(None);
         };
-        match first_again(alloc, run.program.fixups())? {
-            Some(word) => {
+        match add_words(seen, run.section, run.program.fixups())? {
+            Some((_, word)) => {
                 let place = partial_place(self.container, Part::Program, k, 0);
                 Ok(Some(Finding::of_note(Note::WordRelocatedTwice { word }, place)))
             }
@@ -141,16 +147,23 @@ fn words_left(fixups: Fixups<'_>, limit: u64) -> Option<u64>
     Some(left)
 }
 
-/// Returns the first word to which a program adds a second time.
-fn first_again(alloc: Global, fixups: Fixups<'_>) -> Result<Option<u64>, AllocError>
-    ensures { IfOk result (λ word. word ≡ first_again [] (words_of (fixups_left fixups.entry))) }
+/// Adds the words of a section to which a program adds to those seen, and returns the first that was among them.
+fn add_words(
+    seen: &mut BTreeSet<Word>,
+    section: u16,
+    fixups: Fixups<'_>,
+) -> Result<Option<Word>, AllocError>
+    ensures again { (before : List (ℕ × ℕ)) → IsSeen seen.old before → IfOk result (λ word. word ≡ first_again before (words_in section (fixups_left fixups.entry))) }
+    ensures seen { (before : List (ℕ × ℕ)) → IsSeen seen.old before → OnOk result (IsSeen seen.new (before ++ words_in section (fixups_left fixups.entry))) }
 {
     let mut left = fixups;
-    let mut seen = BTreeSet::new(alloc);
+    let mut again = None;
     while let Some(addition) = left.next() {
-        if !seen.insert(addition.offset)? {
-            return Ok(Some(addition.offset));
+        let word = (section, addition.offset);
+        let is_new = seen.insert(word)?;
+        if !is_new && again.is_none() {
+            again = Some(word);
         }
     }
-    Ok(None)
+    Ok(again)
 }

@@ -1,5 +1,5 @@
 -- The parts passed, and those that are left.
-use Rattle.std.proofs.Common.{◌≡◌, ◌<◌, ◌∙◌, sym, arith}
+use Rattle.std.proofs.Common.{◌<◌, ◌∙◌, sym, arith}
 use Rattle.pef_inspect.proofs.Within.{left-next, less-some, within-next}
 use Rattle.pef_inspect.proofs.checked.within.Goals as goal
 
