@@ -105,13 +105,22 @@ named_with name data_fork (Err fault) = Err (Resource fault)
 unfoldable pub named_in_forks : List ℕ → Option (Result Lying ForkFault) → List ℕ → Result (List ℕ) FragmentFault
 named_in_forks name data_fork resources = named_with name data_fork (fork_of resources)
 
--- .. in a file
-abbrev pub named_in_file : List ℕ → List ℕ → Result MacFileIs ForkFault → Result (List ℕ) FragmentFault
-named_in_file name bytes (Ok file) = and_then (fork_bytes (resource_fork_of bytes file)) (named_in_forks name (data_fork_of bytes file))
-named_in_file name bytes (Err fault) = Err (Fork fault)
+-- .. of a data fork and of a file with the resource fork
+abbrev pub named_beside : List ℕ → Option (Result Lying ForkFault) → List ℕ → Result MacFileIs ForkFault → Result (List ℕ) FragmentFault
+named_beside name data_fork resources (Ok file) = and_then (fork_bytes (resource_fork_of resources file)) (named_in_forks name data_fork)
+named_beside name data_fork resources (Err fault) = Err (Fork fault)
 
+-- .. of a file with the data fork and of one with the resource fork
+abbrev pub named_in_pair : List ℕ → List ℕ → Result MacFileIs ForkFault → List ℕ → Result (List ℕ) FragmentFault
+named_in_pair name bytes (Ok file) resources = named_beside name (data_fork_of bytes file) resources (mac_file_of resources)
+named_in_pair name bytes (Err fault) resources = Err (Fork fault)
+
+unfoldable pub container_in_pair : List ℕ → List ℕ → List ℕ → Result (List ℕ) FragmentFault
+container_in_pair bytes resources name = named_in_pair name bytes (mac_file_of bytes) resources
+
+-- .. of a file that has both
 unfoldable pub container_named : List ℕ → List ℕ → Result (List ℕ) FragmentFault
-container_named bytes name = named_in_file name bytes (mac_file_of bytes)
+container_named bytes name = container_in_pair bytes bytes name
 
 -- the container with a number, from 0, among all that begin in some bytes, and all bytes after it
 unfoldable pub container_numbered : List ℕ → ℕ → Option (List ℕ)

@@ -2,9 +2,11 @@ ghost use Rattle.std.specs.Prelude.{◌≡◌, option_map};
 ghost use Rattle.std.specs.List.{slice_get};
 ghost use Rattle.std.specs.Option.{option_copied};
 ghost use Rattle.pef_words.specs.Refusals.{result_map};
+ghost use Rattle.mac_forks.specs.MacFile.{mac_file_of};
 ghost use Rattle.mac_forks.specs.Views.{mac_file_seen, part_seen};
 ghost use Rattle.mac_resources.specs.Views.{fork_seen, resource_seen};
 ghost use Rattle.cfm_members.specs.Fragments.{
+  container_in_pair,
   container_named,
   container_numbered,
   contents_bytes,
@@ -13,6 +15,7 @@ ghost use Rattle.cfm_members.specs.Fragments.{
   fork_bytes,
   is_named,
   lying_in,
+  named_beside,
   named_here,
   named_in,
   named_in_forks,
@@ -83,13 +86,43 @@ impl<'a> Forks<'a> {
 pub fn named_container<'a>(bytes: &'a [u8], name: &[u8]) -> Result<&'a [u8], FragmentFault>
     ensures { result_map (λ container. container.now) result ≡ container_named bytes.entry.now name.now }
 {
-    let file = match MacFile::read(bytes) {
+    container_in_pair(bytes, bytes, name)
+}
+
+/// Returns the container of the fragment with a name, as [`named_container`] does, of a file whose resource fork is in another
+/// file.
+///
+/// # Errors
+///
+/// The error of the file's header, or the same of the other file.
+#[tactic(auto, unfolding(crate::specs::Fragments::container_in_pair))]
+pub fn container_in_pair<'a>(
+    bytes: &'a [u8],
+    resources: &'a [u8],
+    name: &[u8],
+) -> Result<&'a [u8], FragmentFault>
+    ensures { result_map (λ container. container.now) result ≡ container_in_pair bytes.entry.now resources.entry.now name.now }
+{
+    match MacFile::read(bytes) {
+        Ok(file) => container_beside(Forks::of(bytes, &file).data_fork, resources, name),
+        Err(fault) => Err(FragmentFault::Fork(fault)),
+    }
+}
+
+/// Returns the container of the fragment with a name, by a data fork and a file with the resource fork.
+fn container_beside<'a>(
+    data_fork: Option<Result<Part<'a>, ForkFault>>,
+    resources: &'a [u8],
+    name: &[u8],
+) -> Result<&'a [u8], FragmentFault>
+    ensures { result_map (λ container. container.now) result ≡ named_beside name.now (option_map (result_map part_seen) data_fork.entry) resources.entry.now (mac_file_of resources.entry.now) }
+{
+    let file = match MacFile::read(resources) {
         Ok(file) => file,
         Err(fault) => return Err(FragmentFault::Fork(fault)),
     };
-    let forks = Forks::of(bytes, &file);
-    match fork_bytes(forks.resource_fork) {
-        Ok(resources) => container_in_forks(forks.data_fork, resources, name),
+    match fork_bytes(Forks::of(resources, &file).resource_fork) {
+        Ok(resources) => container_in_forks(data_fork, resources, name),
         Err(fault) => Err(fault),
     }
 }

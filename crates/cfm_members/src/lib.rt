@@ -19,7 +19,9 @@ mod table;
 pub use fault::MemberFault;
 pub use file_kind::FileKind;
 pub use fragment_fault::FragmentFault;
-pub use fragments::{Forks, container_in_forks, named_container, numbered_container};
+pub use fragments::{
+    Forks, container_in_forks, container_in_pair, named_container, numbered_container,
+};
 pub use member::{Locator, Member, MemberHeader, Usage};
 pub use num_version::{NumVersion, Stage};
 pub use search::Containers;

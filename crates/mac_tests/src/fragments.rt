@@ -1,10 +1,12 @@
 use crate::fixture::{Written, written};
 use cfm_members::{
-    FragmentFault, MemberFault, container_in_forks, named_container, numbered_container,
+    FragmentFault, MemberFault, container_in_forks, container_in_pair, named_container,
+    numbered_container,
 };
 use mac_forks::{ForkFault, Part};
 use mac_resources::ResourceFault;
 use std::alloc::Global;
+use test_data::changes::{At, change};
 use test_data::containers::VECTORS_BYTES;
 use test_data::mac_files::{fragment_file, fragment_fork};
 
@@ -131,6 +133,54 @@ fn without_a_data_fork(rt: HostRuntime) {
     let fork = fragment_fork(rt.alloc(), &[]).expect(&rt, "a fork");
     assert!(rt; is_found(&fork, named_container(&fork, b"Calc"), Err(outside)));
     assert!(rt; is_found(&fork, named_container(&fork, b"Drv"), Ok((200, 3))));
+}
+
+/// The first bytes of AppleDouble, without the rest of the header.
+const CUT_HEADER: &[u8] = b"\x00\x05\x16\x07\x00\x03";
+
+/// Returns a data fork with a container at 8, where the member `Calc` has it.
+fn data_fork(alloc: Global) -> Option<Vec<u8>> {
+    let mut fork = vec![in alloc; 0u8; 264].ok()?;
+    change(&mut fork, At::Front(8), &VECTORS_BYTES)?;
+    Some(fork)
+}
+
+#[test]
+fn in_two_files(rt: HostRuntime) {
+    let data = data_fork(rt.alloc()).expect(&rt, "a fork");
+    let fork = fragment_fork(rt.alloc(), &[]).expect(&rt, "a fork");
+    assert!(rt;
+        is_found(
+            &data,
+            container_in_pair(&data, &fork, b"Calc"),
+            Ok((8, 250))
+        )
+    );
+    assert!(rt; is_found(&fork, container_in_pair(&data, &fork, b"Drv"), Ok((200, 3))));
+}
+
+/// Returns the error of a name in two files.
+fn error_of_pair(bytes: &[u8], resources: &[u8], name: &[u8]) -> Option<FragmentFault> {
+    match container_in_pair(bytes, resources, name) {
+        Ok(_) => None,
+        Err(fault) => Some(fault),
+    }
+}
+
+#[test]
+fn not_in_two_files(rt: HostRuntime) {
+    let data = data_fork(rt.alloc()).expect(&rt, "a fork");
+    let fork = fragment_fork(rt.alloc(), &[]).expect(&rt, "a fork");
+    let cut = Some(FragmentFault::Fork(ForkFault::AppleHeaderCut));
+    assert!(rt; error_of_pair(&data, &fork, b"calc") == Some(FragmentFault::NoContainer));
+    assert!(rt; error_of_pair(&data, &data, b"Calc") == Some(FragmentFault::NoContainer));
+    assert!(rt; error_of_pair(CUT_HEADER, &fork, b"Calc") == cut);
+    assert!(rt; error_of_pair(&data, CUT_HEADER, b"Calc") == cut);
+    let outside = FragmentFault::Member(MemberFault::FragmentOutside {
+        member: 1,
+        offset: 104,
+    });
+    assert!(rt; error_of_pair(&data[..257], &fork, b"Calc") == Some(outside));
 }
 
 /// The number of a container, and where it begins.
