@@ -484,20 +484,21 @@ def limits() -> None:
     # 112 + 56 + 12 x 65.
     CASES.append(Case(name, contents, ["note 110 ProgramsUnverified reloc 65 sectionIndex at 000003B4"], seconds=120))
 
-    # A program that adds to 1,048,747 words of a section without an image: one more than 1,048,576 and the length of the file.
-    name, size = "words-of-one-program", 4 * 1048747
+    # A program that adds to 1,048,579 words of a section without an image: one more than 1,048,576 and a 64th of the length of the
+    # file, which is 2.
+    name, size = "words-of-one-program", 4 * 1048579
     large = struct.pack(">iIIIIIBBBB", -1, 0, size, 0, 0, 0, 1, 1, 4, 0)
     own = struct.pack(">iIIIIIBBBB", -1, 0, 0, 0, 74, 96, 4, 4, 4, 0)
     tables = struct.pack(">iIiIiIIIIIIIII", -1, 0, -1, 0, -1, 0, 0, 0, 1, 68, 74, 74, 0, 0)
-    contents = head + large + own + tables + struct.pack(">HHII", 0, 0, 3, 0) + bytes.fromhex("4000 B010 00AA")
+    contents = head + large + own + tables + struct.pack(">HHII", 0, 0, 3, 0) + bytes.fromhex("4000 B010 0002")
     assert len(contents) == 170
     outside = "note 107 WordOutsideImage reloc 0 halfword 0 at 000000A4 word 00000000"
     unverified = "note 110 ProgramsUnverified reloc 0 sectionIndex at {:08X}"
     CASES.append(Case(name, contents, [unverified.format(0x98), outside], seconds=120))
     # One word fewer is as many.
-    CASES.append(Case("words-within-the-limit", contents[:-1] + b"\xA9", [outside], seconds=120))
-    # That program again in a second container: it has the same words, and 170 more are left than the first one used.
-    twice = contents[:-1] + b"\xA9"
+    CASES.append(Case("words-within-the-limit", contents[:-1] + b"\x01", [outside], seconds=120))
+    # That program again in a second container: a 64th of the length is 5 now, and 3 more are left than the first one used.
+    twice = contents[:-1] + b"\x01"
     CASES.append(Case("words-of-two-containers", twice * 2, [
         "note 109 TrailingBytes container at 000000AA length 170", outside,
         unverified.format(0xAA + 0x98), "note 107 WordOutsideImage reloc 0 halfword 0 at 0000014E word 00000000",

@@ -1,6 +1,6 @@
 -- What is printed of the containers of a file, in the order in which a search finds them. The budget and the limits, which
 -- keep the work for a file linear in its length, are this project's own.
-use Rattle.std.specs.Prelude.{◌≡◌, ℕ, ◌+◌, ◌-◌, ◌*◌, ◌^◌, ◌==◌, ◌&&◌, Bool, true, false, List, [], ◌∷◌, ◌++◌, Option, None, Some, Result, Ok, Err, codes, decimal, drop, length, min, nat_le, nat_lt, unwrap_or, if◌then◌else◌}
+use Rattle.std.specs.Prelude.{◌≡◌, ℕ, ◌+◌, ◌-◌, ◌*◌, ◌/◌, ◌^◌, ◌==◌, ◌&&◌, Bool, true, false, List, [], ◌∷◌, ◌++◌, Option, None, Some, Result, Ok, Err, codes, decimal, drop, length, min, nat_le, nat_lt, unwrap_or, if◌then◌else◌}
 use Rattle.std.specs.Option.{option_or}
 use Rattle.mac_forks.specs.Parts.{Lying}
 use Rattle.pef_words.specs.Bytes.{number_at}
@@ -115,9 +115,10 @@ skipped_in (inspected i) = 0
 skipped_in (lacking at) = 0
 skipped_in skipped = 1
 
--- the limits of a file: those for one container, each with the file's length
+-- the limits of a file: those for one container, each with the file's length. Words are kept while they are compared, so
+-- only a part of the length is added to them
 abbrev pub file_limits : ℕ → Limits
-file_limits n = record { program_bytes = most_program_bytes + n; steps = most_steps + n; packed_bytes = most_packed + n; words = most_words + n }
+file_limits n = record { program_bytes = most_program_bytes + n; steps = most_steps + n; packed_bytes = most_packed + n; words = most_words + n / 64 }
 
 -- what is counted before the first container of a file: nothing, with the limits of the file, and a budget of 64 megabytes
 -- and the file's length

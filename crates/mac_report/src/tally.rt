@@ -66,7 +66,7 @@ impl Tally {
 }
 
 /// Returns the limits of a file. With its length they are enough for each file whose containers share no bytes and repeat
-/// little.
+/// little. Words are kept while they are compared, each in about 40 bytes.
 fn file_limits(bytes: &[u8]) -> Limits
     ensures { result ≡ file_limits (length bytes.now) }
 {
@@ -75,7 +75,7 @@ fn file_limits(bytes: &[u8]) -> Limits
         program_bytes: MAX_PROGRAM_BYTES + len,
         steps: MAX_STEPS + len,
         packed_bytes: MAX_PACKED_BYTES + len,
-        words: MAX_WORDS + len,
+        words: MAX_WORDS + len / 64,
     }
 }
 
