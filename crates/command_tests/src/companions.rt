@@ -1,4 +1,4 @@
-//! `inspect` of a data fork whose resource fork is in another file.
+//! `inspect` and `extract` of a data fork whose resource fork is in another file.
 
 use pef_tool::FileFault;
 use std::alloc::Global;
@@ -188,6 +188,49 @@ fn lacking_companions(rt: HostRuntime) -> Result<(), Fail> {
         printed.as_slice(),
         1,
     )?;
+    assert!(rt; papers.calls() == (2, 0));
+    Ok(())
+}
+
+/// A place of the resource fork, a name, what `extract` of the file `d/a` prints, the numbers of `read` and `write` calls, and
+/// the bytes of OUT. `Calc` is in the data fork from 8 on, and `Drv` is a resource.
+const EXTRACTED: &[(&str, &str, &[u8], (u64, u64), Option<&[u8]>)] = &[
+    (
+        "d/._a",
+        "Calc",
+        b"extracted 250 bytes\n",
+        (2, 1),
+        Some(&[0; 250]),
+    ),
+    ("d/%a", "Drv", b"extracted 3 bytes\n", (7, 1), Some(b"drv")),
+    ("d/._a", "calc", b"refused 80 NoContainer\n", (2, 0), None),
+    ("._a", "Calc", b"refused 80 NoContainer\n", (7, 0), None),
+    // A number is that of a container of the file alone.
+    ("d/._a", "#0", b"refused 80 NoContainer\n", (1, 0), None),
+];
+
+#[test]
+fn extracted_by_companions(rt: HostRuntime) -> Result<(), Fail> {
+    for row in EXTRACTED {
+        let (place, name, printed, calls, bytes) = *row;
+        let mut papers = papers(rt.alloc(), &[(place, b"r")])?;
+        let words = ["extract", "d/a", name, "out"];
+        let status = u8::from(bytes.is_none());
+        assert_prints_over(rt.alloc(), &mut papers, &words, printed, status)?;
+        assert!(rt; papers.calls() == calls);
+        assert!(rt; papers.bytes(b"out") == bytes);
+    }
+    Ok(())
+}
+
+#[test]
+fn extracted_without_memory(rt: HostRuntime) -> Result<(), Fail> {
+    let mut papers = Papers::new(rt.alloc(), 2, FileFault::OutOfMemory);
+    put_file(&mut papers, "d/a", DATA_FORK)?;
+    put_file(&mut papers, "d/._a", b"text")?;
+    let words = ["extract", "d/a", "Calc", "out"];
+    let printed = b"refused 99 OutOfMemory\n";
+    assert_prints_over(rt.alloc(), &mut papers, &words, printed, 1)?;
     assert!(rt; papers.calls() == (2, 0));
     Ok(())
 }

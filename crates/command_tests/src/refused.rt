@@ -6,6 +6,7 @@ use pef_tool::FileFault;
 use std::alloc::Global;
 use std::test::Fail;
 use test_bench::containers::VECTORS_LEAST;
+use test_bench::mac_files::fragment_fork;
 use test_bench::ports::Papers;
 use test_bench::runs::{assert_prints_or_lacks_memory, put_file, put_linked};
 use test_bench::scripts::{
@@ -105,6 +106,22 @@ fn extract(rt: HostRuntime) -> Result<(), Fail> {
     let written = papers.bytes(b"out");
     assert!(rt; written.is_none() || written == Some(VECTORS_LEAST));
     Ok(())
+}
+
+/// The fragment is found in two files, or an allocation failed in one of them.
+#[test]
+fn extract_beside(rt: HostRuntime) -> Result<(), Fail> {
+    let mut papers = papers(rt.alloc(), &[0; 264])?;
+    let fork = fragment_fork(rt.alloc(), &[]).ok_or("no fork")?;
+    put_file(&mut papers, "._a", fork.as_slice())?;
+    assert_prints_or_lacks_memory(
+        &rt,
+        rt.alloc(),
+        &mut papers,
+        &["extract", "a", "Calc", "out"],
+        b"",
+        b"extracted 250 bytes\n",
+    )
 }
 
 /// What is printed of the container `VECTORS_LEAST`, from its fields.

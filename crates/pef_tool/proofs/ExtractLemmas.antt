@@ -1,16 +1,79 @@
--- A container that was found in a file and written.
-use Rattle.std.proofs.Common.{◌≡◌, List, ℕ, Result, Ok, ap, sym, ◌∙◌}
+-- A container that was found in a file and its companion, and written.
+use Rattle.std.proofs.Common.{◌≡◌, ◌∙◌, ◌⊎◌, ℕ, Bool, true, false, List, [], ◌∷◌, Option, None, Some, Result, Ok, Err, ap, inl, inr, subst, sym}
+use Rattle.cfm_members.specs.Fragments.{container_in_pair}
 use Rattle.cfm_members.specs.declared.fragment_fault.FragmentFault.{FragmentFault}
+use Rattle.pef_faults.specs.declared.fault.Fault.{Fault}
+use Rattle.pef_faults.specs.declared.fault.Fault.TheVariants.{Fragment, Unwritable, OutOfMemory}
 use Rattle.pef_ports.specs.Ports.{FilesPort, Reads, Writes}
 use Rattle.pef_ports.specs.declared.ports.FileFault.{FileFault}
-use Rattle.pef_tool.specs.Extract.{FindsContainer, WritesFound, found_in}
+use Rattle.pef_ports.specs.declared.ports.FileFault.TheVariants as file_fault
+use Rattle.pef_tool.specs.Answers.Answers.{Answer}
+use Rattle.pef_tool.specs.Companions.{CompanionIs, Looks, LooksAt, LooksIf, companion_places}
+use Rattle.pef_tool.specs.Extract.{ExtractAnswers, ExtractRefuses, FindsContainer, FindsIn, WritesFound, as_fault, extracts, found_beside, found_in, found_with, refuses}
+use Rattle.pef_tool.specs.Kept.Extracting.{EndsWith, ReadEnds, WrittenAnswer}
 
-pub finds : {F : Type 0} {port : FilesPort F} {before after : F} {path : List ℕ} {bytes : List ℕ} (given name : List ℕ) (found : Result (List ℕ) FragmentFault)
-    → Reads port before after path (Ok bytes) → given ≡ bytes → found_in given name ≡ found → FindsContainer port before after path name found
-finds {F} {port} {before} {after} {path} {bytes} given name found read same is =
-    record { bytes = bytes; read = read; is = ap (λ b. found_in b name) (sym same) ∙ is }
+-- what was read of a companion: its bytes, unless an allocation failed
+abbrev IsRead : Result (List ℕ) Fault → Type 0
+IsRead read = ((bytes : List ℕ) × (read ≡ Ok bytes)) ⊎ (read ≡ Err OutOfMemory)
 
-pub written : {F : Type 0} {port : FilesPort F} {before between after : F} {path name out container : List ℕ} {answer : Result (Unit {0}) FileFault}
-    → FindsContainer port before between path name (Ok container) → Writes port between after out container answer → WritesFound port before after path name out container answer
-written {F} {port} {before} {between} {after} {path} {name} {out} {container} {answer} found wrote =
-    record { between = between; finds = found; written = wrote }
+-- why nothing was found: an error of the fragment, or an allocation failed
+abbrev IsNotFound : Fault → Type 0
+IsNotFound why = ((fault : FragmentFault) × (Fragment fault ≡ why)) ⊎ (OutOfMemory ≡ why)
+
+fragment_error : (found : Result (List ℕ) FragmentFault) (why : Fault) → as_fault found ≡ Err why → IsNotFound why
+fragment_error (Ok container) why is = absurd (cc is)
+fragment_error (Err fault) why is = inl (fault, cc is)
+
+error_beside : (bytes name : List ℕ) (read : Result (List ℕ) Fault) (why : Fault) → IsRead read → found_beside bytes name read ≡ Err why → IsNotFound why
+error_beside bytes name (Ok resources) why read is = fragment_error (container_in_pair bytes resources name) why is
+error_beside bytes name (Err fault) why (inl whole) is = absurd (cc whole.1)
+error_beside bytes name (Err fault) why (inr lacks) is = inr (cc (sym lacks ∙ is))
+
+same_companion : (c d : CompanionIs) → Some c ≡ Some d → d ≡ c
+same_companion c d is = sym (cc is)
+
+module _ {F : Type 0} (port : FilesPort F) (path : List ℕ) where
+  read_at : (before after : F) (place : List ℕ) (c : CompanionIs) → LooksAt port path before after place (Some c) → IsRead c.read
+  read_at before after place c (inl found) = inl (found.0, ap (λ (d : CompanionIs). d.read) found.3)
+  read_at before after place c (inr lacking) = inr (ap (λ (d : CompanionIs). d.read) lacking.1)
+
+  read_among : (places : List (List ℕ)) (before after : F) (c : CompanionIs) → Looks port path before after places (Some c) → IsRead c.read
+  read_among [] before after c looks = absurd (cc looks.0)
+  read_among (place ∷ places) before after c (inl here) = subst (λ (d : CompanionIs). IsRead d.read) (same_companion c here.0 here.2) (read_at before after place here.0 here.1)
+  read_among (place ∷ places) before after c (inr later) = read_among places later.0 after c later.2
+
+  read_if : (asked : Bool) (before after : F) (c : CompanionIs) → LooksIf asked port before after path (Some c) → IsRead c.read
+  read_if true before after c looks = read_among (companion_places path) before after c looks
+  read_if false before after c looks = absurd (cc looks.0)
+
+  error_with : (asked : Bool) (before after : F) (bytes name : List ℕ) (companion : Option CompanionIs) (why : Fault)
+      → LooksIf asked port before after path companion → found_with bytes name companion ≡ Err why → IsNotFound why
+  error_with asked before after bytes name None why looks is = fragment_error (found_in bytes name) why is
+  error_with asked before after bytes name (Some c) why looks is = error_beside bytes name c.read why (read_if asked before after c looks) is
+
+  not_found : (before after : F) (bytes name : List ℕ) (why : Fault) → FindsIn port before after path name bytes (Err why) → IsNotFound why
+  not_found before after bytes name why finds = error_with _ before after bytes name finds.companion why finds.looked finds.is
+
+  refused : (before after : F) (name out : List ℕ) (why : Fault) → FindsContainer port before after path name (Err why) → ExtractRefuses port before after path name out why
+  refused before after name out why found =
+      let P : Fault → Type 0 = λ (w : Fault). FindsContainer port before after path name (Err w) → ExtractRefuses port before after path name out w in
+      elim (not_found found.between after found.bytes name why found.finds) [
+        | inl fault ↦ subst P fault.1 (λ it. it) found
+        | inr lacks ↦ subst P lacks (λ it. inr (inr (inl it))) found
+      ]
+
+  module _ (before between after : F) (name out container : List ℕ) (found : FindsContainer port before between path name (Ok container)) (answer : Answer) where
+    written : (result : Result (Unit {0}) FileFault) → Writes port between after out container result → WrittenAnswer out container result answer → ExtractAnswers port before after path name out answer
+    written (Ok u) writes told = (extracts container, record { between = between; finds = found; written = writes }, told)
+    written (Err file_fault.Failed) writes told =
+        (refuses (Unwritable told.0), (told.1, (container, record { between = between; finds = found; written = writes })), told.2)
+    written (Err file_fault.OutOfMemory) writes told =
+        (refuses OutOfMemory, inr (inr (inr (container, record { between = between; finds = found; written = writes }))), told)
+
+  -- FILE was read, and the container is found and written
+  pub ends : (before read after : F) (name out bytes : List ℕ) (answer : Answer) → Reads port before read path (Ok bytes) → ReadEnds port read after path name out bytes answer → ExtractAnswers port before after path name out answer
+  ends before read after name out bytes answer reads (Ok container, between, finds, end) =
+      written before between after name out container (record { bytes = bytes; between = read; read = reads; finds = finds }) answer end.0 end.1 end.2
+  ends before read after name out bytes answer reads (Err why, between, finds, end) =
+      let P : F → Type 0 = λ (last : F). FindsContainer port before last path name (Err why) in
+      (refuses why, refused before after name out why (subst P (sym end.0) (record { bytes = bytes; between = read; read = reads; finds = finds })), end.1)

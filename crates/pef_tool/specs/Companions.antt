@@ -1,6 +1,6 @@
--- The companion of a file: another file that has its resource fork. Where `inspect` looks for it, and what it finds. macOS makes
--- `._NAME` and `__MACOSX/._NAME`, netatalk `.AppleDouble/NAME`, emulators and other tools the rest. The order is this project's
--- own.
+-- The companion of a file: another file that has its resource fork. Where `inspect` and `extract` look for it, and what they
+-- find. macOS makes `._NAME` and `__MACOSX/._NAME`, netatalk `.AppleDouble/NAME`, emulators and other tools the rest. The order
+-- is this project's own.
 use Rattle.std.specs.Prelude.{◌≡◌, ◌⊎◌, ◌==◌, ◌||◌, ◌&&◌, ℕ, Bool, true, false, not, List, [], ◌∷◌, ◌++◌, Option, None, Some, Result, Ok, Err, codes, take, if◌then◌else◌}
 use Rattle.std.specs.Str.{bytes_eq}
 use Rattle.mac_report.specs.DataFiles.{is_data_fork, is_resource_file}

@@ -1,8 +1,8 @@
--- The answer of `extract FILE NAME OUT` (README). It reads FILE, finds a container in it, and writes the whole container
--- to OUT. It makes no other call on files.
-use Rattle.std.specs.Prelude.{◌≡◌, ◌⊎◌, ◌==◌, ℕ, List, [], ◌∷◌, ◌++◌, Option, Result, Ok, Err, codes, decimal, length, if◌then◌else◌}
-use Rattle.std.specs.Option.{option_map_or}
-use Rattle.cfm_members.specs.Fragments.{container_named, container_numbered}
+-- The answer of `extract FILE NAME OUT` (README). It reads FILE, looks for its companion if NAME is no number, finds a
+-- container in them, and writes the whole container to OUT. It makes no other call on files.
+use Rattle.std.specs.Prelude.{◌≡◌, ◌⊎◌, ◌==◌, ◌&&◌, ℕ, Bool, List, [], ◌∷◌, ◌++◌, Option, None, Some, Result, Ok, Err, codes, decimal, length, if◌then◌else◌}
+use Rattle.std.specs.Option.{is_none, option_map_or}
+use Rattle.cfm_members.specs.Fragments.{container_in_pair, container_named, container_numbered}
 use Rattle.cfm_members.specs.declared.fragment_fault.FragmentFault.{FragmentFault}
 use Rattle.cfm_members.specs.declared.fragment_fault.FragmentFault.TheVariants.{NoContainer}
 use Rattle.pef_faults.specs.declared.fault.Fault.{Fault}
@@ -13,6 +13,7 @@ use Rattle.pef_ports.specs.declared.ports.FileFault.{FileFault}
 use Rattle.pef_ports.specs.declared.ports.FileFault.TheVariants as file_fault
 use Rattle.pef_tool.specs.Answers.Answers.{Answer, answer_done}
 use Rattle.pef_tool.specs.Answers.Faults.{fault_answer}
+use Rattle.pef_tool.specs.Companions.{CompanionIs, LooksIf, may_have_companion}
 use Rattle.pef_tool.specs.Extents.{own_bytes}
 
 -- the container with a number, up to where its own parts end
@@ -31,11 +32,37 @@ number_of (b ∷ digits) = if b == 0x23 then decimal_number digits else decimal_
 unfoldable pub found_in : List ℕ → List ℕ → Result (List ℕ) FragmentFault
 found_in bytes name = wanted bytes name (number_of name)
 
--- FILE was read, and this is the container that was found in it, or why there is none
-pub record FindsContainer {F : Type 0} (port : FilesPort F) (before after : F) (path name : List ℕ) (found : Result (List ℕ) FragmentFault) : Type 0 where
+-- an error of a fragment, as one of a command
+abbrev pub as_fault : Result (List ℕ) FragmentFault → Result (List ℕ) Fault
+as_fault (Ok container) = Ok container
+as_fault (Err fault) = Err (Fragment fault)
+
+-- the container of the fragment with this name, by what was read of the companion
+abbrev pub found_beside : List ℕ → List ℕ → Result (List ℕ) Fault → Result (List ℕ) Fault
+found_beside bytes name (Ok resources) = as_fault (container_in_pair bytes resources name)
+found_beside bytes name (Err why) = Err why
+
+-- the container that NAME asks for, in FILE and its companion if there is one
+abbrev pub found_with : List ℕ → List ℕ → Option CompanionIs → Result (List ℕ) Fault
+found_with bytes name None = as_fault (found_in bytes name)
+found_with bytes name (Some c) = found_beside bytes name c.read
+
+-- a companion of FILE is looked for: NAME is no number, and FILE may have one
+abbrev pub is_looked_for : List ℕ → List ℕ → List ℕ → Bool
+is_looked_for path name bytes = is_none (number_of name) && may_have_companion path bytes
+
+-- FILE has these bytes, its companion was looked for, and this is the container that was found, or why there is none
+pub record FindsIn {F : Type 0} (port : FilesPort F) (before after : F) (path name bytes : List ℕ) (found : Result (List ℕ) Fault) : Type 0 where
+  pub companion : Option CompanionIs
+  pub looked : LooksIf (is_looked_for path name bytes) port before after path companion
+  pub is : found_with bytes name companion ≡ found
+
+-- FILE was read before that
+pub record FindsContainer {F : Type 0} (port : FilesPort F) (before after : F) (path name : List ℕ) (found : Result (List ℕ) Fault) : Type 0 where
   pub bytes : List ℕ
-  pub read : Reads port before after path (Ok bytes)
-  pub is : found_in bytes name ≡ found
+  pub between : F
+  pub read : Reads port before between path (Ok bytes)
+  pub finds : FindsIn port between after path name bytes found
 
 -- FILE was read, this container was found in it, and the write of the whole container to OUT returned this result
 pub record WritesFound {F : Type 0} (port : FilesPort F) (before after : F) (path name out container : List ℕ) (answer : Result (Unit {0}) FileFault) : Type 0 where
@@ -43,17 +70,19 @@ pub record WritesFound {F : Type 0} (port : FilesPort F) (before after : F) (pat
   pub finds : FindsContainer port before between path name (Ok container)
   pub written : Writes port between after out container answer
 
--- an allocation failed: before or while FILE was read, or during the write of the whole container
+-- an allocation failed: before or while FILE was read, while its companion was looked for, or during the write of the whole
+-- container
 abbrev pub ExtractLacksMemory : {F : Type 0} → FilesPort F → F → F → List ℕ → List ℕ → List ℕ → Type 0
 ExtractLacksMemory port before after path name out =
     (after ≡ before)
     ⊎ Reads port before after path (Err file_fault.OutOfMemory)
+    ⊎ FindsContainer port before after path name (Err OutOfMemory)
     ⊎ ((container : List ℕ) × WritesFound port before after path name out container (Err file_fault.OutOfMemory))
 
 -- why `extract` is refused: FILE can't be read or has no such container, OUT can't be written, or an allocation failed
 abbrev pub ExtractRefuses : {F : Type 0} → FilesPort F → F → F → List ℕ → List ℕ → List ℕ → Fault → Type 0
 ExtractRefuses port before after path name out (Unreadable told) = (told.now ≡ path) × Reads port before after path (Err file_fault.Failed)
-ExtractRefuses port before after path name out (Fragment fault) = FindsContainer port before after path name (Err fault)
+ExtractRefuses port before after path name out (Fragment fault) = FindsContainer port before after path name (Err (Fragment fault))
 ExtractRefuses port before after path name out (Unwritable told) = (told.now ≡ out) × ((container : List ℕ) × WritesFound port before after path name out container (Err file_fault.Failed))
 ExtractRefuses port before after path name out OutOfMemory = ExtractLacksMemory port before after path name out
 ExtractRefuses port before after path name out _ = ⊥

@@ -1,3 +1,4 @@
+pub mod Extracting
 pub mod Inspecting
 -- Definitions for private contracts and proofs. Public contracts don't use them.
 pub mod Linking

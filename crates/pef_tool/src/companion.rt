@@ -1,12 +1,14 @@
 //! Looks for the companion of a file: another file that has its resource fork.
 ghost use Rattle.std.specs.Prelude.{◌≡◌, ◌≤◌, IfOk, List, ℕ, codes, drop, length, map, option_map, take};
 ghost use Rattle.std.specs.Str.{bytes_eq};
+ghost use Rattle.pef_words.specs.Refusals.{result_map};
 ghost use Rattle.pef_tool.specs.Companions.{Looks, LooksAt, companion_places, folder_of, may_have_companion, name_of, place_of};
 ghost use Rattle.pef_tool.specs.Kept.Inspecting.{companion_seen, place_seen};
 
 use crate::inspect::Named;
 use mac_report::{is_data_fork, is_resource_file};
 use memchr::memrchr;
+use pef_faults::Fault;
 use pef_ports::{FileFault, Files};
 use std::alloc::{AllocError, Global};
 
@@ -19,6 +21,22 @@ pub(crate) enum Companion<'a> {
     Given(Named<'a>),
     /// An allocation failed while it was looked for.
     Lacking,
+}
+
+impl<'a> Companion<'a> {
+    /// Returns what was read of the companion.
+    pub(crate) fn resources(&self) -> Result<&[u8], Fault<'a>>
+        ensures { (own : List ℕ) → result_map (λ bytes. bytes.now) result ≡ (companion_seen own self.now).read }
+    {
+        match self {
+            Companion::Found { bytes, .. } => Ok(bytes.as_slice()),
+            Companion::Given(Named { bytes, .. }) => match bytes {
+                Ok(bytes) => Ok(bytes.as_slice()),
+                Err(fault) => Err(*fault),
+            },
+            Companion::Lacking => Err(Fault::OutOfMemory),
+        }
+    }
 }
 
 /// What the path of a companion has before and after the file's name.

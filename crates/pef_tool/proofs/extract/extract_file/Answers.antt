@@ -1,10 +1,9 @@
--- FILE is read, the container is found in it, and the whole container is written, whatever that write returns.
-use Rattle.std.proofs.Common.{Ok, Err, inr, length, refl, sym}
-use Rattle.pef_faults.specs.declared.fault.Fault.TheVariants.{Fragment, Unwritable, OutOfMemory}
-use Rattle.pef_tool.specs.Answers.Answers.{answer_done}
+-- FILE is read, and its container is found and written.
+use Rattle.std.proofs.Common.{Ok, refl, subst, sym}
+use Rattle.pef_ports.specs.Ports.{FilesPort, Reads}
 use Rattle.pef_tool.specs.Answers.Faults.{fault_answer}
-use Rattle.pef_tool.specs.Extract.{extracts, extracted_text, refuses}
-use Rattle.pef_tool.proofs.ExtractLemmas.{finds, written}
+use Rattle.pef_tool.specs.Extract.{refuses}
+use Rattle.pef_tool.proofs.ExtractLemmas.{ends}
 use Rattle.pef_tool.proofs.OutcomeLemmas.{extract_refuses}
 use Rattle.pef_tool.proofs.extract.extract_file.Goals as goal
 
@@ -15,33 +14,10 @@ returns-in-Err g c =
     let refused = extract_refuses _ c.args.files.now c.read_file.new.files asked.path.now asked.name.now asked.target.now why c.in-Err.ensures.refused in
     (fault_answer why, (refuses why, refused, refl), c.deliver.ensures)
 
-pub returns-in-Err-find : goal.returns-in-Err-find
-returns-in-Err-find g c =
-    let fault = Fragment c.in-Err-find.fault in
-    let found = finds c.as_slice.result.now c.args.asked.name.now (Err c.in-Err-find.fault) c.in-Ok.ensures.read c.as_slice.ensures.value (sym c.in-Err-find.ensures) in
-    (fault_answer fault, (refuses fault, found, refl), c.deliver-in-Err-find.ensures)
-
-pub returns-in-Ok-write : goal.returns-in-Ok-write
-returns-in-Ok-write g c =
-    let container = c.in-Ok-find.container.now in
-    let found = finds c.as_slice.result.now c.args.asked.name.now (Ok container) c.in-Ok.ensures.read c.as_slice.ensures.value (sym c.in-Ok-find.ensures) in
-    let writes = written found (record { call = c.in-Ok-write.ensures.call; told = c.in-Ok-write.ensures.told }) in
-    (answer_done (extracted_text (length container)), (extracts container, writes, refl), c.deliver-in-Ok-write.ensures)
-
-pub returns-in-Err-Failed : goal.returns-in-Err-Failed
-returns-in-Err-Failed g c =
-    let container = c.in-Ok-find.container.now in
-    let call = rw c.in-Err-Failed.field-0-is at c.in-Err-Failed.ensures.call in
-    let told = rw c.in-Err-Failed.field-0-is at c.in-Err-Failed.ensures.told in
-    let found = finds c.as_slice.result.now c.args.asked.name.now (Ok container) c.in-Ok.ensures.read c.as_slice.ensures.value (sym c.in-Ok-find.ensures) in
-    let writes = written found (record { call = call; told = told }) in
-    (fault_answer (Unwritable c.args.asked.target), (refuses (Unwritable c.args.asked.target), (refl, (container, writes)), refl), c.deliver-in-Err-Failed.ensures)
-
-pub returns : goal.returns
-returns g c =
-    let container = c.in-Ok-find.container.now in
-    let call = rw c.in-Err-OutOfMemory.field-0-is at c.in-Err-OutOfMemory.ensures.call in
-    let told = rw c.in-Err-OutOfMemory.field-0-is at c.in-Err-OutOfMemory.ensures.told in
-    let found = finds c.as_slice.result.now c.args.asked.name.now (Ok container) c.in-Ok.ensures.read c.as_slice.ensures.value (sym c.in-Ok-find.ensures) in
-    let writes = written found (record { call = call; told = told }) in
-    (fault_answer OutOfMemory, (refuses OutOfMemory, inr (inr (container, writes)), refl), c.deliver-in-Err-OutOfMemory.ensures)
+pub returns-in-Ok : goal.returns-in-Ok
+returns-in-Ok g c =
+    let port : FilesPort _ = record { state = g.F.Files.state; was_read = g.F.Files.was_read; was_written = g.F.Files.was_written } in
+    let asked = c.args.asked in
+    let reads = subst (λ bytes. Reads port c.args.files.now c.read_file.new.files asked.path.now (Ok bytes)) (sym c.as_slice.ensures.value) c.in-Ok.ensures.read in
+    let answered = ends port asked.path.now c.args.files.now c.read_file.new.files c.extract_read.new.files asked.name.now asked.target.now c.as_slice.result.now c.extract_read.ensures.0 reads c.extract_read.ensures.1 in
+    (c.extract_read.ensures.0, answered, c.extract_read.ensures.2)
