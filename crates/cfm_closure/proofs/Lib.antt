@@ -3,6 +3,7 @@ mod BoundLemmas
 mod CacheLemmas
 mod ClosedLemmas
 mod EndlessLemmas
+mod ExportedLemmas
 mod FollowLemmas
 mod FragmentLemmas
 mod FrameLemmas

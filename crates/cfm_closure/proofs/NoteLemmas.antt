@@ -1,8 +1,8 @@
 -- A target noted in the table of fragments.
-use Rattle.std.proofs.Common.{◌≡◌, ℕ, ◌<◌, false, List, [], length, Option, None, Some, Ok, refl, sym, ap, ◌∙◌, subst, get_or, set, arith, Contains}
-use Rattle.std.specs.Prelude.{is_some, option_map}
+use Rattle.std.proofs.Common.{◌≡◌, ℕ, ◌<◌, List, [], length, Option, None, Some, Ok, refl, sym, ap, ◌∙◌, subst, get_or, set, arith, Contains}
+use Rattle.std.specs.Prelude.{IfSome, IsSome}
 use Rattle.std.specs.Option.{option_map_or}
-use Rattle.std.proofs.lemmas.List.{length-set}
+use Rattle.std.proofs.lemmas.List.{length-set, set-get_or}
 use Rattle.pef_loader.specs.Loader.{Loaded}
 use Rattle.pef_words.proofs.Laws.Lists.{all-weaker}
 use Rattle.cfm_closure.specs.Stores.{Pair}
@@ -12,23 +12,21 @@ use Rattle.cfm_closure.specs.declared.fragment.ClosedFragment.{ClosedFragment}
 use Rattle.cfm_closure.specs.declared.targets.Target.{Target}
 use Rattle.cfm_closure.specs.Kept.Bindings.{AreBindings}
 use Rattle.cfm_closure.specs.Kept.Paths.{IsClosed, IsWalked}
-use Rattle.cfm_closure.specs.Kept.Found.{meant}
-use Rattle.cfm_closure.specs.declared.targets.Found.{Found}
 use Rattle.cfm_closure.specs.Kept.Rows.{row_of, rows_of}
-use Rattle.cfm_closure.specs.Kept.Targets.{AreRight, IsKnown, Keeps, Row, Rows, known_at, led_to}
+use Rattle.cfm_closure.specs.Kept.Targets.{AreRight, IsKnown, Keeps, Row, Rows, led_to}
 use Rattle.cfm_closure.proofs.HopFacts.{loader_at-is}
 use Rattle.cfm_closure.proofs.KnownLemmas.{kept-noted, known-noted, noted, right-noted}
 use Rattle.cfm_closure.proofs.OrderFacts.{all-contains}
 use Rattle.cfm_closure.proofs.RowLemmas.{row-at, rows-length, rows-set}
 use Rattle.cfm_closure.proofs.TableLemmas.{walked-set}
 
--- a target that isn't known in the rows isn't known in the row of its fragment
-pub unknown-in : (table : List (Option ClosedFragment)) (p j : ℕ) (f : ClosedFragment) → get_or table p None ≡ Some f → known_at (rows_of table) p j ≡ None → get_or f.targets j None ≡ None
-unknown-in table p j f here none = sym (ap (λ (row : Row). get_or row j None) (row-at table p ∙ ap row_of here)) ∙ none
-
-pub none-meant : (found : Option Found) → is_some found ≡ false → option_map meant found ≡ None
-none-meant None never = refl
-none-meant (Some found) never = absurd (cc)
+-- a target that is known is noted once more
+pub set-known : (row : Row) (j : ℕ) (t : Option Target) → IsSome (get_or row j None) → IfSome (get_or row j None) (λ known. known ≡ t) → set row j (Some t) ≡ row
+set-known row j t known same = by (get_or row j None) refl known same
+  where
+    by : (o : Option (Option Target)) → get_or row j None ≡ o → IsSome o → IfSome o (λ known. known ≡ t) → set row j (Some t) ≡ row
+    by None is known same = absurd (cc)
+    by (Some u) is known same = ap (λ x. set row j x) (sym (is ∙ ap Some same)) ∙ set-get_or row j None
 
 module _ (pairs : List Pair) (table : List (Option ClosedFragment)) (order : List ℕ) (are : AreBindings pairs table order) (p : ℕ) (there : Contains order p)
     (f : ClosedFragment) (here : get_or table p None ≡ Some f) where
@@ -47,6 +45,14 @@ module _ (pairs : List Pair) (table : List (Option ClosedFragment)) (order : Lis
 
   row : get_or (rows_of table) p [] ≡ f.targets
   row = row-at table p ∙ ap row_of here
+
+  -- the target of an import, if it is known, is where the import leads to
+  pub same-noted : (j : ℕ) (t : Option Target) → led_to pairs (p, j) ≡ Some (Ok t) → IfSome (get_or f.targets j None) (λ known. known ≡ t)
+  same-noted j t led = by (get_or f.targets j None) refl
+    where
+      by : (o : Option (Option Target)) → get_or f.targets j None ≡ o → IfSome o (λ known. known ≡ t)
+      by None is = tt
+      by (Some u) is = let both : Some (Ok u) ≡ Some (Ok t) = sym (closed.right j u is) ∙ led in cc
 
   module _ (j : ℕ) (t : Option Target) (import : j < import_count pairs p) where
     -- an import has a place in the row of its fragment

@@ -2,6 +2,7 @@
 pub mod Bindings
 pub mod Caches
 pub mod Entries
+pub mod Exported
 pub mod Found
 pub mod FoundNames
 pub mod Hops

@@ -182,7 +182,7 @@ impl<'a> Bindings<'a> {
         fragment.targets.share(alloc)
     }
 
-    /// Notes the target of import `j` of a fragment of the order, unless it is known.
+    /// Notes the target of import `j` of a fragment of the order. It may be known.
     pub fn note(&mut self, p: usize, j: usize, found: Found)
         requires place { Contains self.old.order p }
         requires import { j < import_count self.old.pairs p }
@@ -190,9 +190,6 @@ impl<'a> Bindings<'a> {
         ensures keeps { Keeps self.old self.new }
         ensures known { IsKnown self.new.rows p j }
     {
-        if self.target(p, j).is_some() {
-            return;
-        }
         let fragment = self.fragments.value_mut(p);
         fragment.targets.note(j, found);
     }

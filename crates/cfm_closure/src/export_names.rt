@@ -1,11 +1,13 @@
-ghost use Rattle.std.specs.Prelude.{◌≡◌, ◌<◌, IfOk, IfSome, IsSome, OnOk, Contains, None, Some, slice_index_or};
-ghost use Rattle.pef_loader.specs.Loader.{Loaded, named_of};
-ghost use Rattle.cfm_closure.specs.Fragments.{export_count, loader_at};
+ghost use Rattle.std.specs.Prelude.{◌≡◌, IfOk, IsSome, OnOk, Contains, None, Some, slice_index_or};
+ghost use Rattle.pef_loader.specs.Loader.{Loaded};
+ghost use Rattle.cfm_closure.specs.Fragments.{loader_at};
+ghost use Rattle.cfm_closure.specs.Kept.Exported.{MeansFirst};
 ghost use Rattle.cfm_closure.specs.Kept.Names.{AreNamesOf};
 
 use crate::bindings::Bindings;
 use crate::found_names::FoundNames;
 use crate::place_table::PlaceTable;
+use pef_format::ExportValue;
 use std::alloc::{AllocError, Global};
 
 /// Names of a fragment are kept if the closure has this many imports for each of its exports.
@@ -37,18 +39,17 @@ impl<'a> ExportNames<'a> {
         })
     }
 
-    /// Returns the first export with a name of a fragment of the closure order.
+    /// Returns what the first export with a name of a fragment of the closure order means.
     pub fn find(
         &mut self,
         bindings: &Bindings<'a>,
         q: usize,
         name: &[u8],
-    ) -> Result<Option<usize>, AllocError>
+    ) -> Result<Option<ExportValue>, AllocError>
         requires place { Contains bindings.now.order q }
         requires names { AreNamesOf bindings.now.pairs bindings.now.order self.old }
         ensures names { AreNamesOf bindings.now.pairs bindings.now.order self.new }
-        ensures value { IfOk result (λ e. (l : Loaded) → loader_at bindings.now.pairs q ≡ Some l → e ≡ named_of l name.now) }
-        ensures below { IfOk result (λ e. IfSome e (λ i. i < export_count bindings.now.pairs q)) }
+        ensures value { IfOk result (λ v. (l : Loaded) → loader_at bindings.now.pairs q ≡ Some l → MeansFirst l name.now v) }
     {
         if self.tables.get(q).is_none() {
             self.begin(bindings, q)?;
@@ -75,14 +76,13 @@ impl<'a> ExportNames<'a> {
         Ok(())
     }
 
-    /// Returns the first export with a name of a fragment whose exports are asked for.
-    fn find_in(&mut self, bindings: &Bindings<'a>, q: usize, name: &[u8]) -> Option<usize>
+    /// Returns the same of a fragment whose exports are asked for.
+    fn find_in(&mut self, bindings: &Bindings<'a>, q: usize, name: &[u8]) -> Option<ExportValue>
         requires place { Contains bindings.now.order q }
         requires names { AreNamesOf bindings.now.pairs bindings.now.order self.old }
         requires begun { IsSome (slice_index_or self.old.tables q None) }
         ensures names { AreNamesOf bindings.now.pairs bindings.now.order self.new }
-        ensures value { (l : Loaded) → loader_at bindings.now.pairs q ≡ Some l → result ≡ named_of l name.now }
-        ensures below { IfSome result (λ e. e < export_count bindings.now.pairs q) }
+        ensures value { (l : Loaded) → loader_at bindings.now.pairs q ≡ Some l → MeansFirst l name.now result }
     {
         let names = self.tables.value_mut(q);
         names.find(name)

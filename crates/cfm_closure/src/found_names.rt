@@ -1,9 +1,9 @@
-ghost use Rattle.std.specs.Prelude.{◌≡◌, ◌<◌, IfOk, IfSome, Some, true};
-ghost use Rattle.pef_format.specs.Exports.{Export};
-ghost use Rattle.pef_loader.specs.Loader.{export_of, named_of};
+ghost use Rattle.std.specs.Prelude.{◌≡◌, IfOk, IfSome};
 ghost use Rattle.pef_loader.specs.Views.{loaded};
+ghost use Rattle.cfm_closure.specs.Kept.Exported.{Means, MeansFirst, ShowsFirst};
 
 use byteorder::{ByteOrder, LittleEndian};
+use pef_format::{ExportValue, ExportView};
 use pef_loader::Loader;
 use std::alloc::{AllocError, Global};
 use std::marker::Model;
@@ -17,20 +17,22 @@ const MIXER: u64 = 0x9E37_79B9_7F4A_7C15;
 /// How many slots are looked at for one name. If half of the slots are free, names that find none in these are very rare.
 const PROBES: usize = 32;
 
-/// An export that was found by its name. `mixed` is the name's number. The name itself is in the loader section, beside
-/// those of other exports.
+/// A name, and what the first export with it means.
 #[derive(Clone, Copy)]
-pub(crate) struct FoundName {
+pub(crate) struct FoundName<'a> {
+    name: &'a [u8],
+    /// The name's number.
     mixed: u32,
-    export: u32,
+    value: ExportValue,
 }
 
-/// The exports of a loader section by their names. Those that were found are kept, so that they are found faster again.
+/// The exports of a loader section by their names. Those that were found are kept, so that they are found faster again
+/// and their rows aren't read again.
 #[derive(Drop)]
 pub(crate) struct FoundNames<'a> {
     loader: Loader<'a>,
     /// None, or a power of two. A name is in one of the slots from that of its number on, or in none.
-    slots: Vec<Option<FoundName>>,
+    slots: Vec<Option<FoundName<'a>>>,
 }
 
 impl<'a> Model for FoundNames<'a> {
@@ -59,58 +61,53 @@ impl<'a> FoundNames<'a> {
         Ok(FoundNames { loader, slots })
     }
 
-    /// Returns the first export with a name.
-    pub fn find(&mut self, name: &[u8]) -> Option<usize>
-        ensures value { result ≡ named_of self.old name.now }
-        ensures below { IfSome result (λ e. e < self.old.header.export_count) }
+    /// Returns what the first export with a name means.
+    pub fn find(&mut self, name: &[u8]) -> Option<ExportValue>
+        ensures value { MeansFirst self.old name.now result }
         ensures same { self.new ≡ self.old }
     {
         if self.slots.is_empty() {
-            return self.loader.export_named(name);
+            return Some(self.read(name)?.value());
         }
         let mixed = mixed(name);
         let at = place(&self.slots, mixed);
-        if let Some(export) = self.kept(at, name) {
-            return Some(export);
+        if let Some(value) = self.kept(at, name) {
+            return Some(value);
         }
-        let export = self.loader.export_named(name)?;
-        let count = self.loader.exports();
-        if at < self.slots.len() && export < count {
+        let export = self.read(name)?;
+        let value = export.value();
+        if at < self.slots.len() {
             self.slots[at] = Some(FoundName {
+                name: export.name,
                 mixed,
-                export: export as u32,
+                value,
             });
         }
-        Some(export)
+        Some(value)
     }
 
-    /// Returns the export in a slot, if it has this name.
-    fn kept(&self, at: usize, name: &[u8]) -> Option<usize>
-        ensures value { IfSome result (λ e. named_of self.now name.now ≡ Some e) }
-        ensures below { IfSome result (λ e. e < self.now.header.export_count) }
+    /// Returns what the export in a slot means, if it has this name.
+    fn kept(&self, at: usize, name: &[u8]) -> Option<ExportValue>
+        ensures { IfSome result (λ v. Means self.now name.now v) }
     {
-        if let Some(Some(found)) = self.slots.get(at) {
-            if is_named(&self.loader, found.export as usize, name) {
-                return Some(found.export as usize);
-            }
+        match self.slots.get(at) {
+            Some(Some(found)) if found.name == name => Some(found.value),
+            _ => None,
         }
-        None
     }
-}
 
-/// Returns whether an export has a name.
-fn is_named(loader: &Loader<'_>, e: usize, name: &[u8]) -> bool
-    ensures { result ≡ true → (x : Export) × (export_of (loaded loader.now) e ≡ Some x) × (x.name ≡ name.now) }
-{
-    match loader.export(e) {
-        Some(export) => export.name == name,
-        None => false,
+    /// Reads the first export with a name.
+    fn read(&self, name: &[u8]) -> Option<ExportView<'a>>
+        ensures { ShowsFirst self.now name.now result }
+    {
+        let export = self.loader.export_named(name)?;
+        self.loader.export(export)
     }
 }
 
 /// Returns the first slot from that of a name's number on which is free, or whose name has this number. If there is none
 /// near, it is the first slot, where the name takes another's place.
-fn place(slots: &[Option<FoundName>], mixed: u32) -> usize {
+fn place(slots: &[Option<FoundName<'_>>], mixed: u32) -> usize {
     let last = slots.len().saturating_sub(1);
     for probe in 0..PROBES {
         let at = (mixed as usize + probe) & last;

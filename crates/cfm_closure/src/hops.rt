@@ -1,11 +1,10 @@
-ghost use Rattle.std.specs.Prelude.{◌<◌, ◌^◌, Contains, None, IfOk};
+ghost use Rattle.std.specs.Prelude.{ℕ, ◌<◌, ◌^◌, Contains, None, IfOk};
 ghost use Rattle.pef_format.specs.Symbols.{import_seen};
 ghost use Rattle.pef_format.specs.declared.place.Part.TheVariants.{Import};
-ghost use Rattle.pef_loader.specs.Views.{loaded};
 ghost use Rattle.cfm_closure.specs.Fragments.{part_place};
 ghost use Rattle.cfm_closure.specs.Views.{fragment_seen};
-ghost use Rattle.cfm_closure.specs.Targets.{hop, hop_to};
-ghost use Rattle.cfm_closure.specs.Kept.Hops.{HasHop, LeadsTo, StaysInside, StaysBelow};
+ghost use Rattle.cfm_closure.specs.Targets.{hop, hop_by, hop_to};
+ghost use Rattle.cfm_closure.specs.Kept.Hops.{IsHop, LeadsTo, StaysInside};
 ghost use Rattle.cfm_closure.specs.Kept.Names.{AreNamesOf};
 ghost use Rattle.cfm_closure.specs.Kept.Symbols.{AreSymbolsOf};
 
@@ -16,7 +15,6 @@ use crate::fragment::FragmentView;
 use crate::symbols::Symbols;
 use crate::targets::Found;
 use pef_format::{ExportValue, ImportView};
-use pef_loader::Loader;
 
 /// The next step from an import.
 #[derive(Clone, Copy)]
@@ -28,18 +26,13 @@ pub(crate) enum Hop {
     Through { fragment: usize, import: usize },
 }
 
-/// Returns the next step by export `e` of a fragment: into a section, to an absolute value, or to the
+/// Returns the next step by an export of a fragment: into a section, to an absolute value, or to the
 /// import that it passes on.
-fn export_hop(fragment: usize, loader: &Loader<'_>, e: usize) -> Hop
-    requires fragment { fragment < 2 ^ 16 }
-    requires export { e < (loaded loader.now).header.export_count }
-    ensures answer { HasHop fragment (loaded loader.now) e result }
-    ensures below { StaysBelow (loaded loader.now).header.import_count result }
+fn export_hop(fragment: usize, value: ExportValue) -> Hop
+    requires { fragment < 2 ^ 16 }
+    ensures { (e : ℕ) → IsHop result (hop_by fragment e value) }
 {
-    let Some(export) = loader.export(e) else {
-        unreachable!()
-    };
-    match export.value() {
+    match value {
         ExportValue::InSection { section, offset } => {
             Hop::Ends(Found::at(fragment, section, offset))
         }
@@ -80,7 +73,7 @@ pub(crate) fn import_hop<'a>(
     let library = bindings.fragment(q);
     let export = names.find(bindings, q, symbol.name)?;
     match export {
-        Some(e) => Ok(export_hop(q, &library.loader, e)),
+        Some(value) => Ok(export_hop(q, value)),
         None => missing(bindings.fragment(p), library.name, symbol, j),
     }
 }

@@ -1,4 +1,4 @@
-ghost use Rattle.std.specs.Prelude.{◌≡◌, ◌<◌, ◌^◌, true, None, Some, length, option_map, replicate, slice_index_or, slice_set, IfOk};
+ghost use Rattle.std.specs.Prelude.{◌≡◌, ◌<◌, ◌^◌, true, None, Some, length, option_map, replicate, slice_index_or, slice_set, IfOk, IfSome};
 ghost use Rattle.cfm_closure.specs.declared.targets.Target.TheVariants.{Absolute, At};
 ghost use Rattle.cfm_closure.specs.Kept.Found.{meant};
 ghost use Rattle.cfm_closure.specs.Kept.Targets.{AllKnown};
@@ -196,16 +196,17 @@ impl Targets {
         }
     }
 
-    /// Notes the target of import `j`, which isn't known.
+    /// Notes the target of import `j`. If one is known, it is this one.
     pub fn note(&mut self, j: usize, found: Found)
         requires import { j < length self.old }
-        requires unknown { slice_index_or self.old j None ≡ None }
+        requires right { IfSome (slice_index_or self.old j None) (λ known. known ≡ meant found) }
         ensures { self.new ≡ slice_set self.old j (Some (meant found)) }
     {
-        match &mut self.row {
-            TargetRow::Own(known) => known[j] = Some(found),
-            TargetRow::Shared(_) => unreachable!(),
-        }
+        let known = match &mut self.row {
+            TargetRow::Own(known) => known,
+            TargetRow::Shared(_) => return,
+        };
+        known[j] = Some(found);
     }
 
     /// Returns the targets, to be shared with other closures. All must be known. They aren't copied.

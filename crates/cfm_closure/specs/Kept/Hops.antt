@@ -1,14 +1,12 @@
 -- The next steps in the code.
-use Rattle.std.specs.Prelude.{◌≡◌, ℕ, ◌<◌, List, Some, Result, Ok, Err, Contains}
-use Rattle.pef_format.specs.Exports.{Export, value_of}
-use Rattle.pef_loader.specs.Loader.{Loaded, export_of}
+use Rattle.std.specs.Prelude.{◌≡◌, ℕ, ◌<◌, List, Result, Ok, Err, Contains}
 use Rattle.cfm_closure.specs.Stores.{Pair}
 use Rattle.cfm_closure.specs.declared.fault.BindFault.{BindFault}
 use Rattle.cfm_closure.specs.Faults.{BindRefusal, FailsAs}
 use Rattle.cfm_closure.specs.Fragments.{import_count}
 use Rattle.cfm_closure.specs.declared.hops.Hop.{Hop as CodeHop}
 use Rattle.cfm_closure.specs.declared.hops.Hop.TheVariants as code
-use Rattle.cfm_closure.specs.Targets.{Hop, ends, hop_by, through}
+use Rattle.cfm_closure.specs.Targets.{Hop, ends, through}
 use Rattle.cfm_closure.specs.Kept.Found.{meant}
 
 -- a step of the code doesn't have the export that it goes through
@@ -16,22 +14,13 @@ abbrev pub IsHop : CodeHop → Hop → Type 0
 IsHop (code.Ends found) h = h ≡ ends (meant found)
 IsHop (code.Through q k) h = (e : ℕ) × (h ≡ through q e k)
 
--- the hop by an export of a fragment
-abbrev pub HasHop : ℕ → Loaded → ℕ → CodeHop → Type 0
-HasHop q l e h = (x : Export) × (export_of l e ≡ Some x) × IsHop h (hop_by q e (value_of x.section x.value))
-
 -- a result is the hop, or the refusal
 abbrev pub LeadsTo : Result CodeHop BindFault → Result Hop BindRefusal → Type 0
 LeadsTo (Ok (code.Ends found)) expected = expected ≡ Ok (ends (meant found))
 LeadsTo (Ok (code.Through q k)) expected = (e : ℕ) × (expected ≡ Ok (through q e k))
 LeadsTo (Err e) expected = FailsAs e expected
 
--- an import that is passed on has a number below this
-abbrev pub StaysBelow : ℕ → CodeHop → Type 0
-StaysBelow count (code.Ends found) = Unit {0}
-StaysBelow count (code.Through q k) = k < count
-
--- it is an import of a fragment of the order
+-- an import that is passed on is one of a fragment of the order
 abbrev pub StaysInside : List Pair → List ℕ → CodeHop → Type 0
 StaysInside pairs order (code.Ends found) = Unit {0}
 StaysInside pairs order (code.Through q k) = Contains order q × (k < import_count pairs q)

@@ -1,9 +1,7 @@
--- The hop goes through this export.
-use Rattle.std.proofs.Common.{◌∙◌, ap, sym}
-use Rattle.pef_format.specs.Exports.{export_seen}
+-- The import that is passed on has this number.
+use Rattle.std.proofs.Common.{ap}
 use Rattle.cfm_closure.specs.Targets.{hop_by}
 use Rattle.cfm_closure.proofs.hops.export_hop.Goals as goal
 
-pub returns-in-Reexport-clause-answer : goal.returns-in-Reexport-clause-answer
-returns-in-Reexport-clause-answer c =
-    (export_seen c.in-Some.export, sym c.in-Some.ensures.value, (c.args.e, ap (hop_by c.args.fragment c.args.e) (sym c.value.ensures ∙ c.in-Reexport.is)))
+pub returns-in-Reexport : goal.returns-in-Reexport
+returns-in-Reexport c = λ e. (e, ap (hop_by c.args.fragment e) c.in-Reexport.is)

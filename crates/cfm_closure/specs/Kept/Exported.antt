@@ -1,0 +1,31 @@
+-- The first export with a name.
+use Rattle.std.specs.Prelude.{◌≡◌, ℕ, List, IsTrue, Option, None, Some}
+use Rattle.pef_format.specs.Exports.{Export, value_of}
+use Rattle.pef_format.specs.declared.export.ExportValue.{ExportValue}
+use Rattle.pef_format.specs.declared.export.ExportView.{ExportView}
+use Rattle.pef_loader.specs.Export.{is_there}
+use Rattle.pef_loader.specs.Loader.{Loaded, export_of, named_of}
+
+-- a value is what it means, and exists
+pub record Means (l : Loaded) (name : List ℕ) (value : ExportValue) : Type 0 where
+  pub index : ℕ
+  pub named : named_of l name ≡ Some index
+  pub export : Export
+  pub row : export_of l index ≡ Some export
+  pub is : value ≡ value_of export.section export.value
+  pub inside : IsTrue (is_there l.header l.sections value)
+
+-- .. if there is one
+abbrev pub MeansFirst : Loaded → List ℕ → Option ExportValue → Type 0
+MeansFirst l name None = named_of l name ≡ None
+MeansFirst l name (Some value) = Means l name value
+
+-- a view shows it
+pub record Shows (l : Loaded) (name : List ℕ) (x : ExportView) : Type 0 where
+  pub called : x.name.now ≡ name
+  pub means : Means l name (value_of x.section x.value)
+
+-- .. if there is one
+abbrev pub ShowsFirst : Loaded → List ℕ → Option ExportView → Type 0
+ShowsFirst l name None = named_of l name ≡ None
+ShowsFirst l name (Some x) = Shows l name x
