@@ -67,13 +67,23 @@ impl<'a> FoundNames<'a> {
         ensures same { self.new ≡ self.old }
     {
         if self.slots.is_empty() {
-            return Some(self.read(name)?.value());
+            return self.find_anew(0, 0, name);
         }
         let mixed = mixed(name);
         let at = place(&self.slots, mixed);
         if let Some(value) = self.kept(at, name) {
             return Some(value);
         }
+        self.find_anew(at, mixed, name)
+    }
+
+    /// Returns what the first export with a name means, and keeps it in slot `at`, if there is such a slot. Inside `find`, each
+    /// call would pay for the locals.
+    #[inline(never)]
+    fn find_anew(&mut self, at: usize, mixed: u32, name: &[u8]) -> Option<ExportValue>
+        ensures value { MeansFirst self.old name.now result }
+        ensures same { self.new ≡ self.old }
+    {
         let export = self.read(name)?;
         let value = export.value();
         if at < self.slots.len() {
@@ -137,8 +147,8 @@ fn mixed(name: &[u8]) -> u32 {
     (mixed >> 32) as u32
 }
 
-/// Returns a number after one more word.
+/// Returns a number after one more word: both halves of a product, so that the last bytes of a name change all its bits.
 fn mix(mixed: u64, word: u64) -> u64 {
-    let product = (mixed ^ word).wrapping_mul(MIXER);
-    product ^ (product >> 29)
+    let product = u128::from(mixed ^ word).wrapping_mul(u128::from(MIXER));
+    (product >> 64) as u64 ^ (product % (1 << 64)) as u64
 }
