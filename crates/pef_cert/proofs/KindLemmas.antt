@@ -1,5 +1,7 @@
 -- The tests of all states of a fixup, one kind of instruction after the other.
-use Rattle.std.proofs.Common.{◌≡◌, ℕ, ◌+◌, ◌-◌, ◌<◌, inl, inr, Bool, true, false, ◌||◌, ◌==◌, nat_le, List, ◌∷◌, length, drop, Some, refl, ap, sym, ◌∙◌, subst, arith, slice_get, eq-eqb}
+use Rattle.std.proofs.Common.{◌≡◌, ℕ, ◌+◌, ◌-◌, ◌*◌, ◌/◌, ◌%◌, ◌<◌, ◌≤◌, inl, inr, Bool, true, false, ◌||◌, ◌==◌, nat_le, List, [], ◌∷◌, length, drop, Some, refl, ap, sym, ◌∙◌, subst, arith, slice_get, slice_index, eq-eqb}
+use Rattle.std.specs.Prelude.{slice_index_or}
+use Rattle.std.proofs.Math.Nat.{div-add-mod, div-lt_iff_lt-mul, mod-lt}
 use Rattle.std.proofs.lemmas.Bool.{and_from, and_parts, eqb-true, le-leb, leb-true, or_cases, or_left, or_right}
 use Rattle.pef_reloc.specs.declared.fixup.Base.{Base}
 use Rattle.pef_reloc.specs.declared.fixup.Base.TheVariants.{Section, Import}
@@ -12,10 +14,12 @@ use Rattle.pef_cert.specs.declared.feasible.TestedFixup.{TestedFixup}
 use Rattle.pef_cert.specs.declared.runs.TestedState.{TestedState}
 use Rattle.pef_cert.specs.Labels.{Labels, class_of, classes}
 use Rattle.pef_cert.specs.Extension.{extension}
-use Rattle.pef_cert.specs.Kept.Claims.{Sees, UnderTest, labels_claimed, state_of}
+use Rattle.pef_cert.specs.Kept.Claims.{Sees, UnderTest, labels_claimed, row_at, state_of}
+use Rattle.pef_cert.specs.Kept.Sets.{RowWithin}
+use Rattle.pef_cert.specs.Rows.{rows_from}
 use Rattle.pef_cert.specs.Kept.Tests.{AllSingles, AllTests, ImportRuns, SectionRuns, label_of, single_test}
 use Rattle.pef_cert.specs.LabelTests.{base_test, import_cost, numbered_test, row_test, second_test}
-use Rattle.pef_cert.proofs.ClaimLemmas.{get_under, knows-sees, label_there}
+use Rattle.pef_cert.proofs.ClaimLemmas.{get_under, knows-sees, label_there, place_under, value-here}
 use Rattle.pef_cert.proofs.ClassLemmas.{class_of-below}
 use Rattle.pef_cert.proofs.TestLemmas.{ImportTests, SectionTests, import_tests, import_tests-met, section_tests, section_tests-met}
 
@@ -156,3 +160,52 @@ single-here claim u c d cost label n p value x here is cost_is at value_is test 
     ∙ (ap (λ y. nat_le y (n + value)) (is ∙ label_there l claim.fixups.now u.at u.fixup c d here)
     ∙ (ap (λ y. nat_le (label_of l u.fixup rest c d) (y + value)) cost_is
     ∙ ap (λ y. nat_le (label_of l u.fixup rest c d) (cost + y)) (value_is ∙ ap (λ q. extension l rest (q + 4) c d) at)))
+
+-- what holds at the place of each two classes holds at all places
+at_places : (r : ℕ) (P : ℕ → Type 0) → 0 < r → ((c d : ℕ) → c < r → d < r → P (c * r + d)) → (k : ℕ) → k < r * r → P k
+at_places r P some each k under =
+    let line : k / r < r = (div-lt_iff_lt-mul {k = r} {x = k} {y = r} some).1 under in
+    let place : r * (k / r) + k % r ≡ k = div-add-mod k r in
+    let turned : k / r * r + k % r ≡ k = omega (arith, place) in
+    subst P turned (each (k / r) (k % r) line (mod-lt k some))
+
+-- if the next word has a fixup, the addition alone leads to its row of labels
+pub singles-near : (b : CheckedSuffix) (u : TestedFixup) (g : Fixup) (cost : ℕ) (row later : List ℕ) (answer : Bool) → UnderTest b u
+    → slice_get b.claim.fixups.now (u.at + 1) ≡ Some g → g.offset ≡ u.fixup.offset + 4
+    → row ≡ row_at b.claim u.at → later ≡ row_at b.claim (u.at + 1)
+    → length row ≡ (length b.claim.registers.now + 1) * (length b.claim.registers.now + 1)
+    → Says answer (RowWithin cost row later)
+    → Says answer (AllSingles (labels_claimed b.claim) cost u.fixup (drop (u.at + 1) b.claim.fixups.now))
+singles-near b u g cost row later answer under next near row_is later_is wide says =
+    let l = labels_claimed b.claim in
+    let fixups = b.claim.fixups.now in
+    let n = length fixups in
+    let r = length b.claim.registers.now + 1 in
+    let rest = drop (u.at + 1) fixups in
+    let p = u.fixup.offset + 4 in
+    let rows = rows_from b.claim.kept.width 0 b.claim.kept.ends.now b.claim.kept.values.now in
+    let inside : u.at + 1 < n = get_under fixups (u.at + 1) g next in
+    let here : n - (n - u.at) ≡ u.at = omega arith in
+    let there : n - (n - (u.at + 1)) ≡ u.at + 1 = omega arith in
+    let label : (c d : ℕ) → label_of l u.fixup rest c d ≡ slice_index row (c * r + d) = λ c d.
+    sym (label_there l fixups u.at u.fixup c d under.here)
+    ∙ ap (λ i. slice_index (slice_index_or rows i []) (c * r + d)) here
+    ∙ ap (λ line. slice_index line (c * r + d)) (sym row_is) in
+    let value : (c d : ℕ) → slice_index later (c * r + d) ≡ extension l rest p c d = λ c d.
+    ap (λ line. slice_index line (c * r + d)) later_is
+    ∙ sym (ap (λ i. slice_index (slice_index_or rows i []) (c * r + d)) there)
+    ∙ value-here l fixups (u.at + 1) g p c d (l.label (n - (u.at + 1)) c d) next (sym near) refl in (
+      (λ yes c under_c d under_d.
+          let low = says.0 yes (c * r + d) (subst (λ w. c * r + d < w) (sym wide) (place_under r c d under_c under_d)) in
+          let first = label c d in
+          let second = value c d in
+          le-leb (label_of l u.fixup rest c d) (cost + extension l rest p c d) (omega (arith, low, first, second))),
+      (λ all. says.1 (λ k below.
+          at_places r (λ k. slice_index row k ≤ cost + slice_index later k) (omega arith)
+          (λ c d under_c under_d.
+          let low = leb-true (label_of l u.fixup rest c d) (cost + extension l rest p c d) (all c under_c d under_d) in
+          let first = label c d in
+          let second = value c d in
+          omega (arith, low, first, second))
+          k (subst (λ w. k < w) wide below))),
+    )

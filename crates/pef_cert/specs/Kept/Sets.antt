@@ -12,6 +12,10 @@ LinesHold row count k = LineHolds row (k * count) 1 count × LineHolds row k cou
 abbrev pub RowHolds : List ℕ → ℕ → Type 0
 RowHolds row count = (k : ℕ) → k < count → LinesHold row count k
 
+-- each label of a row is at most this much above that of another row
+abbrev pub RowWithin : ℕ → List ℕ → List ℕ → Type 0
+RowWithin cost row others = (k : ℕ) → k < length row → slice_index row k ≤ cost + slice_index others k
+
 -- all labels of a row are 0
 abbrev pub RowIsZero : List ℕ → Type 0
 RowIsZero row = (k : ℕ) → k < length row → slice_index row k ≡ 0
