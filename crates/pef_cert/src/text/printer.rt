@@ -1,4 +1,4 @@
-ghost use Rattle.std.specs.Prelude.{◌≡◌, ◌+◌, ◌-◌, ◌^◌, ◌<◌, ◌∷◌, ◌++◌, [], codes, decimal, length, true, IfOk, Ok, OnOk};
+ghost use Rattle.std.specs.Prelude.{◌≡◌, ◌+◌, ◌-◌, ◌*◌, ◌^◌, ◌<◌, ◌≤◌, ◌∷◌, ◌++◌, [], codes, decimal, drop, length, true, IfOk, Ok, OnOk};
 ghost use Rattle.std.specs.List.{AllByRecursion};
 ghost use Rattle.std.specs.Option.{option_to_list};
 ghost use Rattle.std.specs.Result.{IfErr};
@@ -10,10 +10,16 @@ ghost use Rattle.pef_cert.specs.Text.Printed.{Printable, certificate_text, certi
 
 use crate::text::CertFault;
 use crate::{Certificate, LabelRows, LabelRun};
-use itoa::Buffer;
+use itoa::{Buffer, write_digits};
 use pef_ports::{Line, push_hex};
 use pef_reloc::{Instr, Spelling};
 use std::alloc::{AllocError, Global};
+
+/// How many numbers are appended at once, at most.
+const MAX_PART: usize = 64;
+
+/// The most bytes of a number of 32 bits and the space before it.
+const MAX_WORD: usize = 11;
 
 /// Appends a word after the first of its line.
 fn append_word(text: &mut Vec<u8>, word: &[u8]) -> Result<(), AllocError>
@@ -36,10 +42,42 @@ fn append_number(text: &mut Vec<u8>, number: usize) -> Result<(), AllocError>
 fn append_numbers(text: &mut Vec<u8>, numbers: &[u32]) -> Result<(), AllocError>
     ensures { OnOk result (text.new.items ≡ text.old.items ++ words_text (number_words numbers.now)) }
 {
-    for number in numbers {
-        append_number(text, *number as usize)?;
+    let mut left = numbers;
+    'parts: while !left.is_empty() {
+        let (part, others) = left.split_at(left.len().min(MAX_PART));
+        append_part(text, part)?;
+        left = others;
     }
     Ok(())
+}
+
+/// Appends a few of the numbers.
+fn append_part(text: &mut Vec<u8>, numbers: &[u32]) -> Result<(), AllocError>
+    requires { length numbers.now ≤ 64 }
+    ensures { OnOk result (text.new.items ≡ text.old.items ++ words_text (number_words numbers.now)) }
+{
+    let mut words = [0; MAX_PART * MAX_WORD];
+    let at = write_numbers(numbers, &mut words);
+    let (_, written) = words.split_at(at);
+    text.extend_from_slice(written)?;
+    Ok(())
+}
+
+/// Writes numbers, each after a space, so that they end where `words` does. The last one is written first, because
+/// its digits are, too. Returns where the first one starts.
+fn write_numbers(numbers: &[u32], words: &mut [u8]) -> usize
+    requires { 11 * length numbers.now ≤ length words.old }
+    ensures inside { result ≤ length words.new }
+    ensures written { drop result words.new ≡ words_text (number_words numbers.now) }
+{
+    let mut at = words.len();
+    let mut left = numbers.len();
+    'numbers: while left > 0 {
+        left -= 1;
+        at = write_digits(u64::from(numbers[left]), words, at) - 1;
+        words[at] = b' ';
+    }
+    at
 }
 
 /// Appends a line of a name and a number.
