@@ -45,6 +45,17 @@ class_of-same (r ∷ rs) j k e under =
       ]
     ]
 
+-- a section isn't of the class of another register
+pub class_of-apart : (rs : List ℕ) (i k : ℕ) → i < length rs → slice_index rs i ≢ k → class_of rs k ≢ i
+class_of-apart [] i k under apart e = absurd (omega arith)
+class_of-apart (r ∷ rs) zero k under apart e =
+    let z : suc (class_of rs k) ≡ 0 = rw (ne_eqb r k apart) at e in absurd (cc)
+class_of-apart (r ∷ rs) (suc i) k under apart e =
+    elim (eqb_tells r k) [
+      | inl same ↦ (let z : 0 ≡ suc i = rw same.0 at e in absurd (cc))
+      | inr other ↦ (let z : suc (class_of rs k) ≡ suc i = rw other.0 at e in class_of-apart rs i k (omega arith) apart (omega (arith, z)))
+    ]
+
 -- the class of a section that counts, and of one that doesn't
 pub class_of-among : (rs : List ℕ) (k : ℕ) → is_among rs k ≡ true → class_of rs k < length rs
 class_of-among [] k is = absurd (cc)

@@ -8,7 +8,7 @@ ghost use Rattle.pef_reloc.specs.Deliveries.{index_after};
 ghost use Rattle.pef_reloc.specs.declared.fixup.Base.TheVariants.{Section};
 
 use crate::claim::CheckedSuffix;
-use crate::classes::class_of;
+use crate::classes::{class_of, has_class};
 use crate::feasible::TestedFixup;
 use crate::fixups::WORD;
 use crate::runs::{PairRun, TestedState};
@@ -119,7 +119,7 @@ impl<'a> CheckedSuffix<'a> {
         requires class { class_of self.claim.registers.now section ≡ tested.c }
         ensures { result ≡ pair_test (labels_claimed self.entry.claim) tested.label section tested.c tested.d tested.fixup.offset (drop tested.at self.entry.claim.fixups.now) (Section other) }
     {
-        if class_of(self.claim.registers, other) == tested.d {
+        if has_class(self.claim.registers, other, tested.d) {
             let position = u64::from(tested.fixup.offset);
             let (first, second) = (Base::Section(section), Base::Section(other));
             let near = PairRun {

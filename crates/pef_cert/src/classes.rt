@@ -1,4 +1,4 @@
-ghost use Rattle.std.specs.Prelude.{◌≡◌};
+ghost use Rattle.std.specs.Prelude.{◌≡◌, ◌==◌};
 ghost use Rattle.pef_cert.specs.Extension.{change};
 ghost use Rattle.pef_cert.specs.Labels.{class_of};
 
@@ -15,6 +15,17 @@ pub fn class_of(registers: &[u32], section: u32) -> usize
         class += 1;
     }
     class
+}
+
+/// Returns whether a section has a class. If another section is the register with that class, this takes one test.
+#[inline(always)]
+pub fn has_class(registers: &[u32], section: u32, class: usize) -> bool
+    ensures { result ≡ (class_of registers.now section == class) }
+{
+    match registers.get(class) {
+        Some(register) if *register != section => false,
+        _ => class_of(registers, section) == class,
+    }
 }
 
 /// Returns 1 if a register's class must change, otherwise 0.

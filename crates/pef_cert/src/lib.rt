@@ -25,7 +25,7 @@ mod theorems;
 
 pub use certificate::Certificate;
 pub use checking::check;
-pub use classes::{change, class_of};
+pub use classes::{change, class_of, has_class};
 pub use extension::{REACH, SKIP_REACH, moved_value};
 pub use fixups::{WORD, adds_at, after_first, after_import, program_length};
 pub use registers::{are_rising, uses_section};

@@ -10,7 +10,7 @@ ghost use Rattle.pef_plan.specs.Runs.Tables.{Agrees};
 ghost use Rattle.pef_reloc.specs.declared.fixup.Base.TheVariants.{Section};
 
 use crate::runs::{OpenState, Run, RunEnds, SolvedSuffix, Sought};
-use pef_cert::class_of;
+use pef_cert::has_class;
 use pef_reloc::Base;
 
 /// The best instruction found so far at a fixup. Each type has its own way to find the best end of a run.
@@ -161,7 +161,7 @@ fn best_of_pairs<'a, B: Best<'a>>(
     ensures least { (l : Labels) (n : ℕ) → Agrees l known.entry here.entry.others.now → n ≤ B.bound result → PairsMet l here.entry sections.0 sections.1 n }
 {
     let (first, second) = sections;
-    if class_of(known.registers, second) != here.place.d {
+    if !has_class(known.registers, second, here.place.d) {
         return best;
     }
     let near = best.or_run(known, here, Run::Pairs { first, second });
