@@ -81,13 +81,7 @@ impl<'a> Exports<'a> {
         ensures table { table_of result ≡ record { power = power; count = count; bytes = table.entry.now; strings = strings.entry.now } }
         ensures found { IsSearchable (table_of result) → IsTrue result.regular }
     {
-        let unsearched = Exports {
-            power,
-            count,
-            table,
-            strings,
-            regular: false,
-        };
+        let unsearched = Exports::unsearched(power, count, table, strings);
         let regular = unsearched.is_regular();
         Exports {
             power,
@@ -95,6 +89,21 @@ impl<'a> Exports<'a> {
             table,
             strings,
             regular,
+        }
+    }
+
+    /// Returns the same view, but doesn't find out whether the table is regular: a search compares the names one after the other.
+    /// It is for those who read the exports by their numbers.
+    pub fn unsearched(power: u32, count: u32, table: &'a [u8], strings: &'a [u8]) -> Exports<'a>
+        requires { IsTrue (has_table power count table.now) }
+        ensures { table_of result ≡ record { power = power; count = count; bytes = table.entry.now; strings = strings.entry.now } }
+    {
+        Exports {
+            power,
+            count,
+            table,
+            strings,
+            regular: false,
         }
     }
 

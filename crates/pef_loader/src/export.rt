@@ -39,6 +39,17 @@ pub(crate) fn exports<'a>(tables: LoaderTables<'a>) -> Exports<'a>
     Exports::new(header.export_power, header.export_count, table, strings)
 }
 
+/// Returns the view of the exports for those who read them by their numbers. It takes the same time however many there are.
+pub(crate) fn unsearched_exports<'a>(tables: LoaderTables<'a>) -> Exports<'a>
+    requires { IsTrue (has_exports tables.cut.bytes.now tables.header) }
+    ensures { table_of result ≡ export_table tables.entry.cut.bytes.now tables.entry.header }
+{
+    let header = tables.header;
+    let table = bytes_from(tables.cut, header.export_hash_offset);
+    let strings = bytes_from(tables.cut, header.strings_offset);
+    Exports::unsearched(header.export_power, header.export_count, table, strings)
+}
+
 /// Reports the first rule that export `i` breaks.
 pub(crate) fn test_export(
     exports: Exports<'_>,

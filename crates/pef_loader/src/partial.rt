@@ -13,7 +13,7 @@ ghost use Rattle.pef_loader.specs.Loader.{entry_tests};
 ghost use Rattle.pef_loader.specs.Partial.{export_row, export_row_of, export_table_tests, exports_in, import_row, library_row, library_versions, partial_of, relocation_reserved, relocation_row, rows_in, table_tests, tests_of_export, tests_of_import, tests_of_library, tests_of_relocation};
 ghost use Rattle.pef_loader.specs.Places.{place_of};
 
-use crate::export::{exports, has_exports, tests_of_export};
+use crate::export::{has_exports, tests_of_export, unsearched_exports};
 use crate::fault::LoaderFault;
 use crate::header::{LoaderHeader, LoaderTables, library_place, read_header};
 use crate::import::{import_table, read_import};
@@ -340,6 +340,8 @@ impl<'a> PartialLoader<'a> {
 
     /// Returns whether there are exports, and the hash table isn't searched for their names: it doesn't lead to each of them, or
     /// their names are together longer than all strings.
+    ///
+    /// It reads the whole export table.
     pub fn is_irregular(&self) -> bool
         ensures irregular { IsTrue result → HasIrregular (partly_loaded self.now).bytes (partly_loaded self.now).header }
         ensures found { HasIrregular (partly_loaded self.now).bytes (partly_loaded self.now).header → IsTrue result }
@@ -426,7 +428,7 @@ fn exports_in<'a>(tables: LoaderTables<'a>) -> Option<Exports<'a>>
     if !has_exports(tables) {
         return None;
     }
-    Some(exports(tables))
+    Some(unsearched_exports(tables))
 }
 
 impl<'a> PartialExport<'a> {
