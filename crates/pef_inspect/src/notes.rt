@@ -1,8 +1,9 @@
 ghost use Rattle.std.specs.Prelude.{◌≡◌, ◌++◌, OnOk, Some};
 ghost use Rattle.std.specs.Option.{option_to_list};
+ghost use Rattle.pef_words.specs.Findings.{all_met};
 ghost use Rattle.pef_views.specs.PartialViews.{partly};
-ghost use Rattle.pef_loader.specs.PartialViews.{partly_loaded};
-ghost use Rattle.pef_inspect.specs.Oddities.{Adds, HasIrregularExports, IrregularContainer, behind_notes, entry_notes, header_notes, image_size, irregular_note, is_past, is_past_entry, is_past_value, is_unknown_kind, is_unknown_share, loader_notes, note_at, notes_in, notes_of, notes_within, section_notes, word_inside, word_note, word_outside};
+ghost use Rattle.pef_loader.specs.PartialViews.{export_seen, partly_loaded};
+ghost use Rattle.pef_inspect.specs.Oddities.{Adds, HasIrregularExports, IrregularContainer, behind_notes, entry_notes, export_notes, header_notes, image_size, irregular_note, is_past, is_past_entry, is_past_value, is_unknown_kind, is_unknown_share, loader_notes, note_at, notes_in, notes_of, notes_within, section_notes, word_inside, word_note, word_outside};
 ghost use Rattle.pef_inspect.specs.Runs.{run_seen};
 ghost use Rattle.pef_loader.specs.Partial.{partial_of};
 
@@ -17,7 +18,7 @@ use pef_format::layout::{
     RELOCATION_RESERVED_AT, SECTION_KIND_AT, SECTION_RESERVED_AT, SHARE_KIND_AT,
 };
 use pef_format::{ExportValue, Part, SectionKind, Share};
-use pef_loader::{PartialLoader, partial_place};
+use pef_loader::{PartialExport, PartialLoader, partial_place};
 use pef_reloc::{RelocFault, Sizes, verify};
 use pef_views::{PartialContainer, SectionHeader};
 
@@ -401,20 +402,31 @@ impl<'c, 'a> Rows for Exported<'c, 'a> {
 
     fn take_row<S: Findings>(&mut self, i: u32, sink: &mut S) -> Result<(), S::Error> {
         match self.loader.export(i as usize) {
-            Some(export) => {
-                let value = ExportValue::from_fields(export.section, export.value);
-                let note = note_at(
-                    self.container,
-                    Note::ExportOutside,
-                    Part::Export,
-                    i,
-                    EXPORT_VALUE_AT,
-                );
-                take_met(&[(is_past_value(self.container, value), note)], sink)
-            }
+            Some(export) => take_some(export_note(self.container, i, export), sink),
             None => Ok(()),
         }
     }
+}
+
+/// Returns the note on export `i`, if its value is past the end of its section. Its place is looked for only then.
+fn export_note(
+    container: &PartialContainer<'_>,
+    i: u32,
+    export: PartialExport<'_>,
+) -> Option<Finding>
+    ensures { option_to_list result ≡ all_met (export_notes (partly container.now) i (export_seen export.entry)) }
+{
+    let value = ExportValue::from_fields(export.section, export.value);
+    if !is_past_value(container, value) {
+        return None;
+    }
+    Some(note_at(
+        container,
+        Note::ExportOutside,
+        Part::Export,
+        i,
+        EXPORT_VALUE_AT,
+    ))
 }
 
 /// Returns whether a value is an offset past the end of its section.

@@ -88,8 +88,7 @@ impl<'a> PartialImports<'a> {
         ensures value { option_map cut_import_seen result ≡ cut_import_row most (partly_loaded self.old.loader) j }
         ensures same { self.new.loader ≡ self.old.loader }
     {
-        let loader = self.loader;
         let library = self.owners.owner(j);
-        loader.import_cut(library, j, most)
+        self.loader.import_cut(library, j, most)
     }
 }

@@ -475,9 +475,8 @@ impl<'a> PartialImports<'a> {
         ensures value { option_map import_seen result ≡ import_row (partly_loaded self.old.loader) j }
         ensures same { self.new.loader ≡ self.old.loader }
     {
-        let loader = self.loader;
         let library = self.owners.owner(j);
-        loader.import(library, j)
+        self.loader.import(library, j)
     }
 
     /// Returns the tests of import `j`, in order, or `None` if it isn't in the loader section.
@@ -485,8 +484,7 @@ impl<'a> PartialImports<'a> {
         ensures value { result ≡ tests_of_import (partly_loaded self.old.loader) j }
         ensures same { self.new.loader ≡ self.old.loader }
     {
-        let loader = self.loader;
         let owner = self.owners.owner(j as usize);
-        import_table(loader.tables, loader.names_end, owner, j)
+        import_table(self.loader.tables, self.loader.names_end, owner, j)
     }
 }

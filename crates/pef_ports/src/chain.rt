@@ -1,11 +1,11 @@
-ghost use Rattle.std.specs.Prelude.{ℕ, List, ◌++◌, decimal};
+ghost use Rattle.std.specs.Prelude.{ℕ, List, [], ◌∷◌, ◌++◌, decimal};
 ghost use Rattle.pef_ports.specs.Names.{name_text};
 ghost use Rattle.pef_ports.specs.Sent.{Sends};
-ghost use Rattle.pef_ports.specs.Text.{word_text};
+ghost use Rattle.pef_ports.specs.Text.{hex_text, word_text};
 
 use crate::name::print_name;
 use crate::page::{Page, send};
-use crate::pieces::{print_number, print_word};
+use crate::pieces::{print_byte, print_number, print_word};
 use crate::ports::{Sink, StreamFault};
 
 /// What is printed as a text.
@@ -70,6 +70,19 @@ impl Printed for Hex {
     #[inline(always)]
     fn print<W: Sink>(&self, out: &mut W, page: &mut Page) -> Result<(), StreamFault> {
         print_word(out, page, self.0)
+    }
+}
+
+/// A number of 8 bits in two hex digits.
+#[derive(Clone, Copy)]
+pub struct HexByte(pub u8);
+
+impl Printed for HexByte {
+    ghost text = { λ part. hex_text (part.0 ∷ []) };
+
+    #[inline(always)]
+    fn print<W: Sink>(&self, out: &mut W, page: &mut Page) -> Result<(), StreamFault> {
+        print_byte(out, page, self.0)
     }
 }
 

@@ -12,7 +12,7 @@ mod pieces;
 mod ports;
 pub mod system;
 
-pub use chain::{Decimal, Escaped, Hex, Joined, Printed, Verbatim};
+pub use chain::{Decimal, Escaped, Hex, HexByte, Joined, Printed, Verbatim};
 pub use dump::print_memory;
 pub use input::{InputFault, read_input};
 pub use line::{Line, push_hex};

@@ -1,4 +1,4 @@
-ghost use Rattle.std.specs.Prelude.{◌≡◌, ◌≤◌, ◌<◌, ◌+◌, ◌*◌, ◌/◌, ◌%◌, ◌++◌, length};
+ghost use Rattle.std.specs.Prelude.{◌≡◌, ◌≤◌, ◌<◌, ◌+◌, ◌*◌, ◌/◌, ◌%◌, ◌∷◌, ◌++◌, [], length};
 ghost use Rattle.arrayvec.specs.ArrayVec.{array_vec_len};
 ghost use Rattle.pef_ports.specs.Text.{hex_digit, hex_text, word_text};
 
@@ -86,6 +86,14 @@ pub(crate) fn word_digits(bytes: &[u8]) -> [u8; 8]
         high(d),
         low(d),
     ]
+}
+
+/// Returns the digits of a byte.
+#[inline(always)]
+pub(crate) fn byte_digits(byte: u8) -> [u8; 2]
+    ensures { result ≡ hex_text (byte ∷ []) }
+{
+    [high(byte), low(byte)]
 }
 
 /// Returns the first digit of a byte.

@@ -1,9 +1,9 @@
-ghost use Rattle.std.specs.Prelude.{◌≡◌, ◌≤◌, decimal, length};
+ghost use Rattle.std.specs.Prelude.{◌≡◌, ◌≤◌, ◌∷◌, [], decimal, length};
 ghost use Rattle.pef_ports.specs.Pieces.{piece_text, pieces_text};
 ghost use Rattle.pef_ports.specs.Sent.{Sends};
 ghost use Rattle.pef_ports.specs.Text.{digits_text, hex_text, offset_text, without_zeros, word_text};
 
-use crate::line::{Line, push_hex, word_digits};
+use crate::line::{Line, byte_digits, push_hex, word_digits};
 use crate::name::print_name;
 use crate::page::{Page, send};
 use crate::ports::{Sink, StreamFault};
@@ -52,7 +52,7 @@ fn print_piece<W: Sink>(out: &mut W, page: &mut Page, piece: Piece<'_>) -> Resul
         Piece::Number(n) => print_number(out, page, n),
         Piece::Word(n) => print_word(out, page, n),
         Piece::Halfword(n) => print_hex(out, page, &n.to_be_bytes()),
-        Piece::Byte(n) => print_hex(out, page, &[n]),
+        Piece::Byte(n) => print_byte(out, page, n),
         Piece::Offset(n) => print_offset(out, page, n),
     }
 }
@@ -72,6 +72,14 @@ pub(crate) fn print_word<W: Sink>(out: &mut W, page: &mut Page, n: u32) -> Resul
     ensures { Sends result (W.stream out.old) (W.stream out.new) page.old.items page.new.items (word_text n) }
 {
     send(out, page, &word_digits(&n.to_be_bytes()))
+}
+
+/// Prints a number of 8 bits in two digits.
+#[inline(always)]
+pub(crate) fn print_byte<W: Sink>(out: &mut W, page: &mut Page, n: u8) -> Result<(), StreamFault>
+    ensures { Sends result (W.stream out.old) (W.stream out.new) page.old.items page.new.items (hex_text (n ∷ [])) }
+{
+    send(out, page, &byte_digits(n))
 }
 
 /// Prints `0x` and the digits of a number.

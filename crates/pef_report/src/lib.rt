@@ -11,6 +11,7 @@ mod members;
 mod objects;
 mod optional;
 mod order;
+mod parts;
 mod programs;
 mod reading;
 mod rows;

@@ -3,15 +3,16 @@ ghost use Rattle.std.specs.Prelude.{◌≡◌, option_map};
 ghost use Rattle.pef_loader.specs.PartialViews.{cut_seen};
 ghost use Rattle.pef_ports.specs.Sent.{Sends};
 ghost use Rattle.pef_report.specs.Tokens.{token_text};
-ghost use Rattle.pef_report.specs.Lines.{name_or_mark, section_label, entry_line, export_line, header_line, import_line, library_line, loader_line, relocation_line, section_line};
+ghost use Rattle.pef_report.specs.Lines.{section_label, entry_line, export_line, header_line, import_line, library_line, loader_line, relocation_line, section_line};
 
 use crate::optional::{is_none_entry, magnitude, sign};
+use crate::parts::{Label, Offset, Version};
 use crate::rows::{
     EntryRow, ExportRow, HeaderRow, ImportRow, LibraryRow, LoaderRow, RelocationRow, SectionRow,
 };
 use crate::tokens::{Token, print_tokens};
 use pef_loader::CutName;
-use pef_ports::{Decimal, Hex, Joined, Page, Printed, Sink, StreamFault, Verbatim};
+use pef_ports::{Decimal, Hex, HexByte, Joined, Page, Printed, Sink, StreamFault, Verbatim};
 
 /// Prints the line of a container's header.
 #[tactic(auto, unfolding(crate::specs::Lines::header_line))]
@@ -149,30 +150,31 @@ pub fn print_library<W: Sink>(
 ) -> Result<(), StreamFault>
     ensures { Sends result (W.stream out.old) (W.stream out.new) page.old.items page.new.items (library_line row.entry.at (option_map cut_seen row.entry.name) row.entry.current row.entry.old_imp row.entry.options row.entry.count row.entry.first) }
 {
-    print_tokens(
-        out,
-        page,
-        &[
-            Token::At(row.at),
-            Token::Text(b" library "),
-            name_or_mark(row.name),
-            Token::Text(b" current "),
-            Token::Number(u64::from(row.current)),
-            Token::Text(b" oldimp "),
-            Token::Number(u64::from(row.old_imp)),
-            Token::Text(b" options "),
-            Token::Byte(row.options),
-            Token::Text(b" versions "),
-            Token::Version(row.current),
-            Token::Text(b" "),
-            Token::Version(row.old_imp),
-            Token::Text(b" imports "),
-            Token::Number(u64::from(row.count)),
-            Token::Text(b" from "),
-            Token::Number(u64::from(row.first)),
-            Token::Text(b"\n"),
-        ],
-    )
+    let start = Joined(Offset(row.at), Verbatim(b" library "));
+    let name = Joined(Joined(start, Label(row.name)), Verbatim(b" current "));
+    let current = Joined(
+        Joined(name, Decimal(u64::from(row.current))),
+        Verbatim(b" oldimp "),
+    );
+    let old_imp = Joined(
+        Joined(current, Decimal(u64::from(row.old_imp))),
+        Verbatim(b" options "),
+    );
+    let options = Joined(
+        Joined(old_imp, HexByte(row.options)),
+        Verbatim(b" versions "),
+    );
+    let version = Joined(Joined(options, Version(row.current)), Verbatim(b" "));
+    let oldest = Joined(
+        Joined(version, Version(row.old_imp)),
+        Verbatim(b" imports "),
+    );
+    let count = Joined(
+        Joined(oldest, Decimal(u64::from(row.count))),
+        Verbatim(b" from "),
+    );
+    let first = Joined(count, Decimal(u64::from(row.first)));
+    Joined(first, Verbatim(b"\n")).print(out, page)
 }
 
 /// Prints the line of an imported symbol.
@@ -185,13 +187,10 @@ pub fn print_import<W: Sink>(
     ensures { Sends result (W.stream out.old) (W.stream out.new) page.old.items page.new.items (import_line row.entry.at row.entry.number (option_map cut_seen row.entry.name) (option_map cut_seen row.entry.library_name) row.entry.class row.entry.weak) }
 {
     let class = u64::from(row.class);
-    let start = Joined(Token::At(row.at), Verbatim(b" import "));
+    let start = Joined(Offset(row.at), Verbatim(b" import "));
     let number = Joined(Joined(start, Decimal(row.number)), Verbatim(b" "));
-    let name = Joined(Joined(number, name_or_mark(row.name)), Verbatim(b" of "));
-    let owner = Joined(
-        Joined(name, name_or_mark(row.library_name)),
-        Verbatim(b" class "),
-    );
+    let name = Joined(Joined(number, Label(row.name)), Verbatim(b" of "));
+    let owner = Joined(Joined(name, Label(row.library_name)), Verbatim(b" class "));
     let strength = Verbatim(if row.weak { b" weak\n" } else { b" strong\n" });
     Joined(Joined(owner, Decimal(class)), strength).print(out, page)
 }
@@ -215,8 +214,8 @@ pub fn print_entry<W: Sink>(
         &[
             Token::At(row.at),
             Token::Text(label),
-            sign(row.section),
-            magnitude(row.section),
+            Token::Text(sign(row.section)),
+            Token::Number(magnitude(row.section)),
             Token::Text(b" "),
             Token::Word(row.offset),
             Token::Text(b"\n"),
@@ -259,20 +258,13 @@ pub fn print_export<W: Sink>(
     ensures { Sends result (W.stream out.old) (W.stream out.new) page.old.items page.new.items (export_line row.entry.at (option_map cut_seen row.entry.name) row.entry.class row.entry.section row.entry.value) }
 {
     let class = u64::from(row.class);
-    let start = Joined(Token::At(row.at), Verbatim(b" export "));
-    let name = Joined(Joined(start, name_or_mark(row.name)), Verbatim(b" class "));
+    let start = Joined(Offset(row.at), Verbatim(b" export "));
+    let name = Joined(Joined(start, Label(row.name)), Verbatim(b" class "));
     let kind = Joined(Joined(name, Decimal(class)), Verbatim(b" section "));
-    let number = Joined(Joined(kind, sign(row.section)), magnitude(row.section));
+    let number = Joined(
+        Joined(kind, Verbatim(sign(row.section))),
+        Decimal(magnitude(row.section)),
+    );
     let value = Joined(Joined(number, Verbatim(b" value ")), Hex(row.value));
     Joined(value, Verbatim(b"\n")).print(out, page)
-}
-
-/// Returns a name, or `?` for one that can't be read.
-fn name_or_mark<'a>(name: Option<CutName<'a>>) -> Token<'a>
-    ensures { token_text result ≡ name_or_mark (option_map cut_seen name.entry) }
-{
-    match name {
-        Some(name) => Token::Label(name.bytes),
-        None => Token::Text(b"?"),
-    }
 }

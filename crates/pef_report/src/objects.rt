@@ -6,9 +6,10 @@ ghost use Rattle.pef_report.specs.Tokens.{token_text};
 ghost use Rattle.pef_report.specs.Objects.{truth, entry_object, export_object, header_counts, header_object, header_versions, import_object, library_imports, library_object, library_versions, loader_object, section_object};
 
 use crate::optional::{is_none_entry, magnitude, number_or_null, sign};
+use crate::parts::Version;
 use crate::rows::{EntryRow, ExportRow, HeaderRow, ImportRow, LibraryRow, LoaderRow, SectionRow};
 use crate::tokens::{Token, print_tokens};
-use pef_ports::{Page, Sink, StreamFault};
+use pef_ports::{Decimal, Joined, Page, Printed, Sink, StreamFault, Verbatim};
 use pef_views::Header;
 
 /// Prints a container's header.
@@ -181,24 +182,25 @@ fn print_library_versions<W: Sink>(
 ) -> Result<(), StreamFault>
     ensures { Sends result (W.stream out.old) (W.stream out.new) page.old.items page.new.items (library_versions row.entry.at (option_map cut_seen row.entry.name) row.entry.current row.entry.old_imp) }
 {
-    print_tokens(
-        out,
-        page,
-        &[
-            Token::Text(b"{\"offset\":"),
-            Token::Number(row.at),
-            Token::Text(b","),
-            Token::RowName(b"name", row.name),
-            Token::Text(b",\"current\":"),
-            Token::Number(u64::from(row.current)),
-            Token::Text(b",\"current_text\":\""),
-            Token::Version(row.current),
-            Token::Text(b"\",\"oldimp\":"),
-            Token::Number(u64::from(row.old_imp)),
-            Token::Text(b",\"oldimp_text\":\""),
-            Token::Version(row.old_imp),
-        ],
-    )
+    let start = Joined(Verbatim(b"{\"offset\":"), Decimal(row.at));
+    let name = Joined(
+        Joined(start, Verbatim(b",")),
+        Token::RowName(b"name", row.name),
+    );
+    let key = Joined(name, Verbatim(b",\"current\":"));
+    let current = Joined(
+        Joined(key, Decimal(u64::from(row.current))),
+        Verbatim(b",\"current_text\":\""),
+    );
+    let key = Joined(
+        Joined(current, Version(row.current)),
+        Verbatim(b"\",\"oldimp\":"),
+    );
+    let old_imp = Joined(
+        Joined(key, Decimal(u64::from(row.old_imp))),
+        Verbatim(b",\"oldimp_text\":\""),
+    );
+    Joined(old_imp, Version(row.old_imp)).print(out, page)
 }
 
 /// Prints the options and the imports of a library.
@@ -210,19 +212,19 @@ fn print_library_imports<W: Sink>(
 ) -> Result<(), StreamFault>
     ensures { Sends result (W.stream out.old) (W.stream out.new) page.old.items page.new.items (library_imports row.entry.options row.entry.count row.entry.first) }
 {
-    print_tokens(
-        out,
-        page,
-        &[
-            Token::Text(b"\",\"options\":"),
-            Token::Number(u64::from(row.options)),
-            Token::Text(b",\"first\":"),
-            Token::Number(u64::from(row.first)),
-            Token::Text(b",\"count\":"),
-            Token::Number(u64::from(row.count)),
-            Token::Text(b"}"),
-        ],
-    )
+    let options = Joined(
+        Verbatim(b"\",\"options\":"),
+        Decimal(u64::from(row.options)),
+    );
+    let first = Joined(
+        Joined(options, Verbatim(b",\"first\":")),
+        Decimal(u64::from(row.first)),
+    );
+    let count = Joined(
+        Joined(first, Verbatim(b",\"count\":")),
+        Decimal(u64::from(row.count)),
+    );
+    Joined(count, Verbatim(b"}")).print(out, page)
 }
 
 /// Prints an imported symbol.
@@ -234,23 +236,21 @@ pub fn print_import_object<W: Sink>(
 ) -> Result<(), StreamFault>
     ensures { Sends result (W.stream out.old) (W.stream out.new) page.old.items page.new.items (import_object row.entry.at (option_map cut_seen row.entry.name) row.entry.library row.entry.class row.entry.weak) }
 {
-    print_tokens(
-        out,
-        page,
-        &[
-            Token::Text(b"{\"offset\":"),
-            Token::Number(row.at),
-            Token::Text(b","),
-            Token::RowName(b"name", row.name),
-            Token::Text(b",\"library\":"),
-            number_or_null(row.library),
-            Token::Text(b",\"class\":"),
-            Token::Number(u64::from(row.class)),
-            Token::Text(b",\"weak\":"),
-            truth(row.weak),
-            Token::Text(b"}"),
-        ],
-    )
+    let start = Joined(Verbatim(b"{\"offset\":"), Decimal(row.at));
+    let name = Joined(
+        Joined(start, Verbatim(b",")),
+        Token::RowName(b"name", row.name),
+    );
+    let library = Joined(
+        Joined(name, Verbatim(b",\"library\":")),
+        number_or_null(row.library),
+    );
+    let class = Joined(
+        Joined(library, Verbatim(b",\"class\":")),
+        Decimal(u64::from(row.class)),
+    );
+    let weak = Joined(Joined(class, Verbatim(b",\"weak\":")), truth(row.weak));
+    Joined(weak, Verbatim(b"}")).print(out, page)
 }
 
 /// Prints an entry point, or `null` if the section is -1.
@@ -274,8 +274,8 @@ pub fn print_entry_object<W: Sink>(
             Token::Text(b"{\"offset\":"),
             Token::Number(row.at),
             Token::Text(b",\"section\":"),
-            sign(row.section),
-            magnitude(row.section),
+            Token::Text(sign(row.section)),
+            Token::Number(magnitude(row.section)),
             Token::Text(b",\"value\":"),
             Token::Number(u64::from(row.offset)),
             Token::Text(b"}"),
@@ -292,29 +292,30 @@ pub fn print_export_object<W: Sink>(
 ) -> Result<(), StreamFault>
     ensures { Sends result (W.stream out.old) (W.stream out.new) page.old.items page.new.items (export_object row.entry.at (option_map cut_seen row.entry.name) row.entry.class row.entry.section row.entry.value) }
 {
-    print_tokens(
-        out,
-        page,
-        &[
-            Token::Text(b"{\"offset\":"),
-            Token::Number(row.at),
-            Token::Text(b","),
-            Token::RowName(b"name", row.name),
-            Token::Text(b",\"class\":"),
-            Token::Number(u64::from(row.class)),
-            Token::Text(b",\"section\":"),
-            sign(row.section),
-            magnitude(row.section),
-            Token::Text(b",\"value\":"),
-            Token::Number(u64::from(row.value)),
-            Token::Text(b"}"),
-        ],
-    )
+    let start = Joined(Verbatim(b"{\"offset\":"), Decimal(row.at));
+    let name = Joined(
+        Joined(start, Verbatim(b",")),
+        Token::RowName(b"name", row.name),
+    );
+    let class = Joined(
+        Joined(name, Verbatim(b",\"class\":")),
+        Decimal(u64::from(row.class)),
+    );
+    let sign = Joined(
+        Joined(class, Verbatim(b",\"section\":")),
+        Verbatim(sign(row.section)),
+    );
+    let section = Joined(sign, Decimal(magnitude(row.section)));
+    let value = Joined(
+        Joined(section, Verbatim(b",\"value\":")),
+        Decimal(u64::from(row.value)),
+    );
+    Joined(value, Verbatim(b"}")).print(out, page)
 }
 
 /// Returns a truth value.
-fn truth(holds: bool) -> Token<'static>
-    ensures { token_text result ≡ truth holds }
+fn truth(holds: bool) -> Verbatim<'static>
+    ensures { result.0.now ≡ truth holds }
 {
-    Token::Text(if holds { b"true" } else { b"false" })
+    Verbatim(if holds { b"true" } else { b"false" })
 }

@@ -37,17 +37,17 @@ pub fn number_or_null(n: Option<u64>) -> Token<'static>
 }
 
 /// Returns the sign of a section's number.
-pub fn sign(section: i32) -> Token<'static>
-    ensures { token_text result ≡ sign_text section }
+pub fn sign(section: i32) -> &'static [u8]
+    ensures { result.now ≡ sign_text section }
 {
-    Token::Text(if section < 0 { b"-" } else { b"" })
+    if section < 0 { b"-" } else { b"" }
 }
 
 /// Returns a section's number without its sign.
-pub fn magnitude(section: i32) -> Token<'static>
-    ensures { token_text result ≡ decimal (magnitude section) }
+pub fn magnitude(section: i32) -> u64
+    ensures { result ≡ magnitude section }
 {
-    Token::Number(u64::from(section.unsigned_abs()))
+    u64::from(section.unsigned_abs())
 }
 
 /// Returns whether an entry point isn't there.

@@ -1,6 +1,6 @@
-ghost use Rattle.std.specs.Prelude.{◌≡◌, ◌≤◌, length};
+ghost use Rattle.std.specs.Prelude.{◌≡◌, ◌≤◌, ◌/◌, ◌%◌, ◌^◌, ◌++◌, length};
 ghost use Rattle.pef_ports.specs.Sent.{Sends};
-ghost use Rattle.pef_ports.specs.Text.{hex_text};
+ghost use Rattle.pef_ports.specs.Text.{hex_text, word_text};
 ghost use Rattle.pef_loader.specs.PartialViews.{cut_seen};
 ghost use Rattle.pef_report.specs.Tokens.{at_text, cut_member, hex_bytes, hex_member, label_member, label_text, length_member, name_length, name_member, no_name, path_byte, path_text, tag_text, token_text, tokens_text};
 
@@ -104,12 +104,21 @@ fn print_token<W: Sink>(out: &mut W, page: &mut Page, token: Token<'_>) -> Resul
 
 /// Prints an offset in a file.
 #[tactic(auto, unfolding(crate::specs::Tokens::at_text))]
-fn print_at<W: Sink>(out: &mut W, page: &mut Page, n: u64) -> Result<(), StreamFault>
+#[inline(always)]
+pub(crate) fn print_at<W: Sink>(out: &mut W, page: &mut Page, n: u64) -> Result<(), StreamFault>
     ensures { Sends result (W.stream out.old) (W.stream out.new) page.old.items page.new.items (at_text n) }
 {
     if n < 0x1_0000_0000 {
         return Hex(n as u32).print(out, page);
     }
+    print_far(out, page, n)
+}
+
+/// Prints an offset past 4 gigabytes. No line pays for it if it isn't part of `print_at`.
+#[inline(never)]
+fn print_far<W: Sink>(out: &mut W, page: &mut Page, n: u64) -> Result<(), StreamFault>
+    ensures { Sends result (W.stream out.old) (W.stream out.new) page.old.items page.new.items (word_text (n / 2 ^ 32) ++ word_text (n % 2 ^ 32)) }
+{
     let high = Hex((n / 0x1_0000_0000) as u32);
     let low = Hex((n % 0x1_0000_0000) as u32);
     Joined(high, low).print(out, page)
@@ -135,7 +144,12 @@ fn print_octets<W: Sink>(out: &mut W, page: &mut Page, bytes: &[u8]) -> Result<(
 
 /// Prints the name of a row.
 #[tactic(auto, unfolding(crate::specs::Tokens::label_text))]
-fn print_label<W: Sink>(out: &mut W, page: &mut Page, name: &[u8]) -> Result<(), StreamFault>
+#[inline(always)]
+pub(crate) fn print_label<W: Sink>(
+    out: &mut W,
+    page: &mut Page,
+    name: &[u8],
+) -> Result<(), StreamFault>
     ensures { Sends result (W.stream out.old) (W.stream out.new) page.old.items page.new.items (label_text name.now) }
 {
     if name.len() <= MAX_NAME_BYTES {
@@ -235,11 +249,8 @@ fn print_member<W: Sink>(
 ) -> Result<(), StreamFault>
     ensures { Sends result (W.stream out.old) (W.stream out.new) page.old.items page.new.items (name_member key.now name.now) }
 {
-    print_pieces(
-        out,
-        page,
-        &[Piece::Text(b"\""), Piece::Text(key), Piece::Text(b"\":\"")],
-    )?;
+    let quoted = Joined(Verbatim(b"\""), Verbatim(key));
+    Joined(quoted, Verbatim(b"\":\"")).print(out, page)?;
     print_string(out, page, name)?;
     print_hex_member(out, page, key, name)?;
     send(out, page, b"\"")

@@ -3,4 +3,4 @@ use Rattle.pef_report.proofs.objects.print_library_imports.Goals as goal
 
 pub returns : goal.returns
 unfolding library_imports
-returns g c = rw (← c.from.ensures, ← c.from-2.ensures, ← c.from-3.ensures) c.print_tokens.ensures
+returns g c = rw (← c.from.ensures, ← c.from-2.ensures, ← c.from-3.ensures) c.print.ensures

@@ -1,0 +1,55 @@
+//! Parts of lines that come by the thousand. The compiler knows the type of each, where it has to look what kind a token is.
+use crate::tokens::{print_at, print_label};
+use crate::versions::print_version;
+use pef_loader::CutName;
+use pef_ports::{Page, Printed, Sink, StreamFault, send};
+
+/// An offset in a file.
+#[derive(Clone, Copy)]
+pub(crate) struct Offset(pub u64);
+
+impl Printed for Offset {
+    ghost use Rattle.pef_report.specs.Tokens.{at_text};
+
+    ghost text = { λ part. at_text part.0 };
+
+    #[inline(always)]
+    fn print<W: Sink>(&self, out: &mut W, page: &mut Page) -> Result<(), StreamFault> {
+        print_at(out, page, self.0)
+    }
+}
+
+/// The name of a row as far as it is printed, or `?` for one that can't be read.
+#[derive(Clone, Copy)]
+pub(crate) struct Label<'a>(pub Option<CutName<'a>>);
+
+impl<'a> Printed for Label<'a> {
+    ghost use Rattle.std.specs.Prelude.{option_map};
+    ghost use Rattle.pef_loader.specs.PartialViews.{cut_seen};
+    ghost use Rattle.pef_report.specs.Lines.{name_or_mark};
+
+    ghost text = { λ part. name_or_mark (option_map cut_seen part.0) };
+
+    #[inline(always)]
+    fn print<W: Sink>(&self, out: &mut W, page: &mut Page) -> Result<(), StreamFault> {
+        match self.0 {
+            Some(name) => print_label(out, page, name.bytes),
+            None => send(out, page, b"?"),
+        }
+    }
+}
+
+/// A version as people write it.
+#[derive(Clone, Copy)]
+pub(crate) struct Version(pub u32);
+
+impl Printed for Version {
+    ghost use Rattle.pef_report.specs.Versions.{version_text};
+
+    ghost text = { λ part. version_text part.0 };
+
+    #[inline(always)]
+    fn print<W: Sink>(&self, out: &mut W, page: &mut Page) -> Result<(), StreamFault> {
+        print_version(out, page, self.0)
+    }
+}
