@@ -11,6 +11,7 @@ ghost use Rattle.pef_report.specs.Findings.{file_offset};
 ghost use Rattle.pef_report.specs.RowViews.{line_of, object_of, program_seen};
 ghost use Rattle.pef_report.specs.Readable.{export_row_line, export_row_object, header_row_line, header_row_object, import_line_in, import_object_in, import_offset, import_row_line, import_row_object, init_row_line, init_row_object, library_name, library_row_line, library_row_object, line_at, loader_count, loader_in, loader_row_line, loader_row_object, main_row_line, main_row_object, object_at, program_in, program_of, readable_at, relocation_row_line, relocation_row_object, row_count, section_row_line, section_row_object, sections_in, term_row_line, term_row_object};
 ghost use Rattle.pef_report.specs.Tokens.{row_name};
+ghost use Rattle.pef_report.specs.declared.reading.Row.TheVariants as row;
 
 use crate::finding::offset_in_file;
 use crate::rows::{
@@ -158,13 +159,13 @@ impl<'a> Reading<'a> {
             Part::Header => self.header_row(),
             Part::Section => self.section_row(i),
             Part::LoaderHeader => self.loader_row(),
-            Part::Library => self.library_row(i),
-            Part::Import => self.import_row(i),
+            Part::Library => Some(Row::Library(self.library_row(i)?)),
+            Part::Import => Some(Row::Import(self.import_row(i)?)),
             Part::Main => self.main_row(),
             Part::Init => self.init_row(),
             Part::Term => self.term_row(),
             Part::Relocation => self.relocation_row(i),
-            Part::Export => self.export_row(i),
+            Part::Export => Some(Row::Export(self.export_row(i)?)),
             Part::PackedData | Part::Program | Part::Line => None,
         }
     }
@@ -240,14 +241,15 @@ impl<'a> Reading<'a> {
         }))
     }
 
-    fn library_row(&self, i: u32) -> Option<Row<'a>>
-        ensures line { option_map line_of result ≡ library_row_line (readable self.now) i }
-        ensures object { option_map object_of result ≡ library_row_object (readable self.now) i }
+    /// Returns library `i`.
+    pub(crate) fn library_row(&self, i: u32) -> Option<LibraryRow<'a>>
+        ensures line { option_map (λ r. line_of (row.Library r)) result ≡ library_row_line (readable self.now) i }
+        ensures object { option_map (λ r. object_of (row.Library r)) result ≡ library_row_object (readable self.now) i }
     {
         let container = self.container.as_ref()?;
         let reading = self.loader.as_ref()?;
         let library = reading.loader.library_cut(i as usize, MAX_NAME_LENGTH)?;
-        Some(Row::Library(LibraryRow {
+        Some(LibraryRow {
             at: self.loader_at(container, reading, Part::Library, i),
             name: library.name,
             current: library.current,
@@ -255,12 +257,13 @@ impl<'a> Reading<'a> {
             options: library.options,
             count: library.count,
             first: library.first,
-        }))
+        })
     }
 
-    fn import_row(&mut self, j: u32) -> Option<Row<'a>>
-        ensures line { option_map line_of result ≡ import_row_line (readable self.old) j }
-        ensures object { option_map object_of result ≡ import_row_object (readable self.old) j }
+    /// Returns import `j`.
+    pub(crate) fn import_row(&mut self, j: u32) -> Option<ImportRow<'a>>
+        ensures line { option_map (λ r. line_of (row.Import r)) result ≡ import_row_line (readable self.old) j }
+        ensures object { option_map (λ r. object_of (row.Import r)) result ≡ import_row_object (readable self.old) j }
         ensures same { readable self.new ≡ readable self.old }
     {
         let base = self.base;
@@ -360,20 +363,21 @@ impl<'a> Reading<'a> {
         }
     }
 
-    fn export_row(&self, i: u32) -> Option<Row<'a>>
-        ensures line { option_map line_of result ≡ export_row_line (readable self.now) i }
-        ensures object { option_map object_of result ≡ export_row_object (readable self.now) i }
+    /// Returns export `i`.
+    pub(crate) fn export_row(&self, i: u32) -> Option<ExportRow<'a>>
+        ensures line { option_map (λ r. line_of (row.Export r)) result ≡ export_row_line (readable self.now) i }
+        ensures object { option_map (λ r. object_of (row.Export r)) result ≡ export_row_object (readable self.now) i }
     {
         let container = self.container.as_ref()?;
         let reading = self.loader.as_ref()?;
         let export = reading.loader.export(i as usize)?;
-        Some(Row::Export(ExportRow {
+        Some(ExportRow {
             at: self.loader_at(container, reading, Part::Export, i),
             name: export_name(export.name),
             class: export.class,
             section: export.section,
             value: export.value,
-        }))
+        })
     }
 }
 
@@ -394,14 +398,14 @@ impl<'a> LoaderReading<'a> {
     }
 
     /// Returns import `j` of a container that begins at the offset `base` of its file.
-    fn import_row(&mut self, base: u64, j: u32) -> Option<Row<'a>>
-        ensures line { option_map line_of result ≡ import_line_in (partly_loaded self.old.loader) (import_offset base (partly self.old.loader.container) j) j }
-        ensures object { option_map object_of result ≡ import_object_in (partly_loaded self.old.loader) (import_offset base (partly self.old.loader.container) j) j }
+    fn import_row(&mut self, base: u64, j: u32) -> Option<ImportRow<'a>>
+        ensures line { option_map (λ r. line_of (row.Import r)) result ≡ import_line_in (partly_loaded self.old.loader) (import_offset base (partly self.old.loader.container) j) j }
+        ensures object { option_map (λ r. object_of (row.Import r)) result ≡ import_object_in (partly_loaded self.old.loader) (import_offset base (partly self.old.loader.container) j) j }
         ensures same { self.new.loader ≡ self.old.loader }
     {
         let import = self.imports.import_cut(j as usize, MAX_NAME_LENGTH)?;
         let place = self.loader.place(Part::Import, j, 0);
-        Some(Row::Import(ImportRow {
+        Some(ImportRow {
             at: file_offset(base, place.offset),
             number: j as u64,
             name: import.name,
@@ -409,7 +413,7 @@ impl<'a> LoaderReading<'a> {
             weak: import.weak,
             library: library_number(import.library),
             library_name: self.library_name(import.library),
-        }))
+        })
     }
 
     /// Returns the name of an import's library, and keeps it for the next import.

@@ -6,7 +6,7 @@ ghost use Rattle.pef_reloc.specs.Instrs.{instr_fits};
 ghost use Rattle.pef_report.specs.Inspection.{findings_text, instr_row, merged_text, program_rows, row_at, rows_among, rows_below, rows_of};
 ghost use Rattle.pef_report.specs.Order.{before, rank};
 ghost use Rattle.pef_report.specs.Programs.{instr_line, steps_in};
-ghost use Rattle.pef_report.specs.Readable.{line_at, program_of, row_count};
+ghost use Rattle.pef_report.specs.Readable.{export_row_line, import_row_line, library_row_line, line_at, program_of, row_count};
 ghost use Rattle.pef_report.specs.RowViews.{line_of, program_seen};
 ghost use Rattle.pef_report.specs.Views.{readable};
 
@@ -200,6 +200,7 @@ impl<'f, 'a> Walk<'f, 'a> {
 }
 
 /// Prints the line of row `i` of a kind, or nothing if it can't be read.
+#[tactic(auto, unfolding(crate::specs::Readable::line_at))]
 fn print_row_at<W: Sink>(
     out: &mut W,
     page: &mut Page,
@@ -210,8 +211,69 @@ fn print_row_at<W: Sink>(
     ensures sends { Sends result (W.stream out.old) (W.stream out.new) page.old.items page.new.items (unwrap_or (line_at (readable reading.old) part i) []) }
     ensures same { readable reading.new ≡ readable reading.old }
 {
-    match reading.row(part, i) {
-        Some(row) => print_row(out, page, row),
+    match part {
+        Part::Library => print_library_at(out, page, reading, i),
+        Part::Import => print_import_at(out, page, reading, i),
+        Part::Export => print_export_at(out, page, reading, i),
+        Part::Header
+        | Part::Section
+        | Part::LoaderHeader
+        | Part::Main
+        | Part::Init
+        | Part::Term
+        | Part::Relocation
+        | Part::PackedData
+        | Part::Program
+        | Part::Line => match reading.row(part, i) {
+            Some(row) => print_row(out, page, row),
+            None => Ok(()),
+        },
+    }
+}
+
+/// Prints the line of library `i`, or nothing if it can't be read. A container can have thousands of libraries, imports and exports,
+/// so that each is read as what it is, and not as one of all kinds of rows.
+fn print_library_at<W: Sink>(
+    out: &mut W,
+    page: &mut Page,
+    reading: &Reading<'_>,
+    i: u32,
+) -> Result<(), StreamFault>
+    ensures { Sends result (W.stream out.old) (W.stream out.new) page.old.items page.new.items (unwrap_or (library_row_line (readable reading.now) i) []) }
+{
+    match reading.library_row(i) {
+        Some(row) => print_library(out, page, row),
+        None => Ok(()),
+    }
+}
+
+/// Prints the line of import `j`, or nothing if it can't be read.
+fn print_import_at<W: Sink>(
+    out: &mut W,
+    page: &mut Page,
+    reading: &mut Reading<'_>,
+    j: u32,
+) -> Result<(), StreamFault>
+    ensures sends { Sends result (W.stream out.old) (W.stream out.new) page.old.items page.new.items (unwrap_or (import_row_line (readable reading.old) j) []) }
+    ensures same { readable reading.new ≡ readable reading.old }
+{
+    match reading.import_row(j) {
+        Some(row) => print_import(out, page, row),
+        None => Ok(()),
+    }
+}
+
+/// Prints the line of export `i`, or nothing if it can't be read.
+fn print_export_at<W: Sink>(
+    out: &mut W,
+    page: &mut Page,
+    reading: &Reading<'_>,
+    i: u32,
+) -> Result<(), StreamFault>
+    ensures { Sends result (W.stream out.old) (W.stream out.new) page.old.items page.new.items (unwrap_or (export_row_line (readable reading.now) i) []) }
+{
+    match reading.export_row(i) {
+        Some(row) => print_export(out, page, row),
         None => Ok(()),
     }
 }
