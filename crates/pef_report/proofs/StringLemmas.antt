@@ -1,7 +1,8 @@
 -- How the inside of a string is put together.
-use Rattle.std.proofs.Common.{◌≡◌, ◌&&◌, ◌==◌, ℕ, ◌+◌, ◌<◌, true, false, not, List, [], ◌∷◌, ◌++◌, length, get_or, take, drop, nat_le, refl, sym, ap, ◌∙◌, append_assoc, arith}
+use Rattle.std.proofs.Common.{◌≡◌, ◌&&◌, ◌==◌, ℕ, ◌+◌, ◌<◌, Bool, true, false, not, List, [], ◌∷◌, ◌++◌, length, get_or, take, drop, nat_le, refl, sym, ap, ◌∙◌, append_assoc, arith}
 use Rattle.std.proofs.lemmas.List.{at_drop_more, take_more}
 use Rattle.std.proofs.lemmas.Bool.{and_parts, not-true}
+use Rattle.pef_report.specs.Kept.Plain.{are_plain}
 use Rattle.pef_report.specs.Strings.{byte_string, is_plain, string_text}
 
 -- a byte that needs no escape
@@ -28,3 +29,15 @@ plain_more name i under plain so_far =
 pub no_text : (name : List ℕ) → length name ≡ 0 → string_text name ≡ []
 no_text [] none = refl
 no_text (b ∷ name) none = absurd (omega arith)
+
+-- a name of bytes that need no escape
+pub plain_name : (name : List ℕ) → are_plain name ≡ true → string_text name ≡ name
+plain_name [] plain = refl
+plain_name (b ∷ name) plain =
+    let parts = and_parts (is_plain b) (are_plain name) plain in
+    ap (λ (t : List ℕ). t ++ string_text name) (plain_text b parts.0) ∙ ap (λ (t : List ℕ). b ∷ t) (plain_name name parts.1)
+
+-- nothing more
+pub and-true : (x : Bool) → (x && true) ≡ x
+and-true true = refl
+and-true false = refl

@@ -2,6 +2,7 @@ pub mod Dates
 pub mod Findings
 pub mod Frames
 pub mod Inspection
+pub mod Kept
 pub mod Lines
 pub mod Members
 pub mod Objects

@@ -4,7 +4,7 @@ ghost use Rattle.std.specs.Option.{unwrap_or};
 ghost use Rattle.pef_ports.specs.Sent.{Sends};
 ghost use Rattle.pef_report.specs.Inspection.{element, elements, members_text, object_count, row_members};
 ghost use Rattle.pef_report.specs.Members.{member_seen};
-ghost use Rattle.pef_report.specs.Readable.{object_at};
+ghost use Rattle.pef_report.specs.Readable.{export_row_object, import_row_object, library_row_object, object_at};
 ghost use Rattle.pef_report.specs.RowViews.{object_of};
 ghost use Rattle.pef_report.specs.Views.{readable};
 
@@ -128,6 +128,7 @@ fn print_element<W: Sink>(
 }
 
 /// Prints the object of row `i` of a kind, or `null` if it can't be read.
+#[tactic(auto, unfolding(crate::specs::Readable::object_at))]
 fn print_object_at<W: Sink>(
     out: &mut W,
     page: &mut Page,
@@ -138,8 +139,69 @@ fn print_object_at<W: Sink>(
     ensures sends { Sends result (W.stream out.old) (W.stream out.new) page.old.items page.new.items (unwrap_or (object_at (readable reading.old) part i) (codes "null")) }
     ensures same { readable reading.new ≡ readable reading.old }
 {
-    match reading.row(part, i) {
-        Some(row) => print_row_object(out, page, row),
+    match part {
+        Part::Library => print_library_at(out, page, reading, i),
+        Part::Import => print_import_at(out, page, reading, i),
+        Part::Export => print_export_at(out, page, reading, i),
+        Part::Header
+        | Part::Section
+        | Part::LoaderHeader
+        | Part::Main
+        | Part::Init
+        | Part::Term
+        | Part::Relocation
+        | Part::PackedData
+        | Part::Program
+        | Part::Line => match reading.row(part, i) {
+            Some(row) => print_row_object(out, page, row),
+            None => send(out, page, b"null"),
+        },
+    }
+}
+
+/// Prints the object of library `i`, or `null` if it can't be read. As for lines, libraries, imports and exports are read as what
+/// they are.
+fn print_library_at<W: Sink>(
+    out: &mut W,
+    page: &mut Page,
+    reading: &Reading<'_>,
+    i: u32,
+) -> Result<(), StreamFault>
+    ensures { Sends result (W.stream out.old) (W.stream out.new) page.old.items page.new.items (unwrap_or (library_row_object (readable reading.now) i) (codes "null")) }
+{
+    match reading.library_row(i) {
+        Some(row) => print_library_object(out, page, row),
+        None => send(out, page, b"null"),
+    }
+}
+
+/// Prints the object of import `j`, or `null` if it can't be read.
+fn print_import_at<W: Sink>(
+    out: &mut W,
+    page: &mut Page,
+    reading: &mut Reading<'_>,
+    j: u32,
+) -> Result<(), StreamFault>
+    ensures sends { Sends result (W.stream out.old) (W.stream out.new) page.old.items page.new.items (unwrap_or (import_row_object (readable reading.old) j) (codes "null")) }
+    ensures same { readable reading.new ≡ readable reading.old }
+{
+    match reading.import_row(j) {
+        Some(row) => print_import_object(out, page, row),
+        None => send(out, page, b"null"),
+    }
+}
+
+/// Prints the object of export `i`, or `null` if it can't be read.
+fn print_export_at<W: Sink>(
+    out: &mut W,
+    page: &mut Page,
+    reading: &Reading<'_>,
+    i: u32,
+) -> Result<(), StreamFault>
+    ensures { Sends result (W.stream out.old) (W.stream out.new) page.old.items page.new.items (unwrap_or (export_row_object (readable reading.now) i) (codes "null")) }
+{
+    match reading.export_row(i) {
+        Some(row) => print_export_object(out, page, row),
         None => send(out, page, b"null"),
     }
 }

@@ -6,7 +6,7 @@ ghost use Rattle.pef_report.specs.Tokens.{token_text};
 ghost use Rattle.pef_report.specs.Objects.{truth, entry_object, export_object, header_counts, header_object, header_versions, import_object, library_imports, library_object, library_versions, loader_object, section_object};
 
 use crate::optional::{is_none_entry, magnitude, number_or_null, sign};
-use crate::parts::Version;
+use crate::parts::{NameMember, Version};
 use crate::rows::{EntryRow, ExportRow, HeaderRow, ImportRow, LibraryRow, LoaderRow, SectionRow};
 use crate::tokens::{Token, print_tokens};
 use pef_ports::{Decimal, Joined, Page, Printed, Sink, StreamFault, Verbatim};
@@ -183,10 +183,7 @@ fn print_library_versions<W: Sink>(
     ensures { Sends result (W.stream out.old) (W.stream out.new) page.old.items page.new.items (library_versions row.entry.at (option_map cut_seen row.entry.name) row.entry.current row.entry.old_imp) }
 {
     let start = Joined(Verbatim(b"{\"offset\":"), Decimal(row.at));
-    let name = Joined(
-        Joined(start, Verbatim(b",")),
-        Token::RowName(b"name", row.name),
-    );
+    let name = Joined(Joined(start, Verbatim(b",")), NameMember(row.name));
     let key = Joined(name, Verbatim(b",\"current\":"));
     let current = Joined(
         Joined(key, Decimal(u64::from(row.current))),
@@ -237,10 +234,7 @@ pub fn print_import_object<W: Sink>(
     ensures { Sends result (W.stream out.old) (W.stream out.new) page.old.items page.new.items (import_object row.entry.at (option_map cut_seen row.entry.name) row.entry.library row.entry.class row.entry.weak) }
 {
     let start = Joined(Verbatim(b"{\"offset\":"), Decimal(row.at));
-    let name = Joined(
-        Joined(start, Verbatim(b",")),
-        Token::RowName(b"name", row.name),
-    );
+    let name = Joined(Joined(start, Verbatim(b",")), NameMember(row.name));
     let library = Joined(
         Joined(name, Verbatim(b",\"library\":")),
         number_or_null(row.library),
@@ -293,10 +287,7 @@ pub fn print_export_object<W: Sink>(
     ensures { Sends result (W.stream out.old) (W.stream out.new) page.old.items page.new.items (export_object row.entry.at (option_map cut_seen row.entry.name) row.entry.class row.entry.section row.entry.value) }
 {
     let start = Joined(Verbatim(b"{\"offset\":"), Decimal(row.at));
-    let name = Joined(
-        Joined(start, Verbatim(b",")),
-        Token::RowName(b"name", row.name),
-    );
+    let name = Joined(Joined(start, Verbatim(b",")), NameMember(row.name));
     let class = Joined(
         Joined(name, Verbatim(b",\"class\":")),
         Decimal(u64::from(row.class)),

@@ -1,5 +1,5 @@
 //! Parts of lines that come by the thousand. The compiler knows the type of each, where it has to look what kind a token is.
-use crate::tokens::{print_at, print_label};
+use crate::tokens::{print_at, print_label, print_label_member, print_no_name};
 use crate::versions::print_version;
 use pef_loader::CutName;
 use pef_ports::{Page, Printed, Sink, StreamFault, send};
@@ -35,6 +35,26 @@ impl<'a> Printed for Label<'a> {
         match self.0 {
             Some(name) => print_label(out, page, name.bytes),
             None => send(out, page, b"?"),
+        }
+    }
+}
+
+/// The name of a row as a member of a JSON object, as far as it is printed, or `null` for one that can't be read.
+#[derive(Clone, Copy)]
+pub(crate) struct NameMember<'a>(pub Option<CutName<'a>>);
+
+impl<'a> Printed for NameMember<'a> {
+    ghost use Rattle.std.specs.Prelude.{codes, option_map};
+    ghost use Rattle.pef_loader.specs.PartialViews.{cut_seen};
+    ghost use Rattle.pef_report.specs.Tokens.{row_member};
+
+    ghost text = { λ part. row_member (codes "name") (option_map cut_seen part.0) };
+
+    #[inline(always)]
+    fn print<W: Sink>(&self, out: &mut W, page: &mut Page) -> Result<(), StreamFault> {
+        match self.0 {
+            Some(name) => print_label_member(out, page, b"name", name),
+            None => print_no_name(out, page, b"name"),
         }
     }
 }

@@ -1,5 +1,6 @@
 ghost use Rattle.std.specs.Prelude.{◌≡◌, ◌<◌, ◌≤◌, ◌++◌, drop, length, take};
 ghost use Rattle.pef_ports.specs.Sent.{Sends};
+ghost use Rattle.pef_report.specs.Kept.Plain.{are_plain};
 ghost use Rattle.pef_report.specs.Strings.{byte_string, character_of, is_ascii, is_plain, string_text};
 
 use pef_ports::{Page, Piece, Sink, StreamFault, print_pieces, send};
@@ -19,8 +20,30 @@ const MAC_ROMAN: [u16; 128] = [
     0x00AF, 0x02D8, 0x02D9, 0x02DA, 0x00B8, 0x02DD, 0x02DB, 0x02C7,
 ];
 
-/// Prints the inside of a JSON string: the text of a name in Mac Roman. Characters that need no escape are sent together.
+/// Prints the inside of a JSON string: the text of a name in Mac Roman.
 pub fn print_string<W: Sink>(out: &mut W, page: &mut Page, name: &[u8]) -> Result<(), StreamFault>
+    ensures { Sends result (W.stream out.old) (W.stream out.new) page.old.items page.new.items (string_text name.now) }
+{
+    if is_plain_string(name) {
+        return send(out, page, name);
+    }
+    print_escaped(out, page, name)
+}
+
+/// Returns whether no byte of a name needs an escape. All are tested, so that the compiler tests many at once.
+fn is_plain_string(name: &[u8]) -> bool
+    ensures { result ≡ are_plain name.now }
+{
+    let mut plain = true;
+    for b in name {
+        plain &= is_plain(*b);
+    }
+    plain
+}
+
+/// Prints the inside of a JSON string. Characters that need no escape are sent together.
+#[inline(never)]
+fn print_escaped<W: Sink>(out: &mut W, page: &mut Page, name: &[u8]) -> Result<(), StreamFault>
     ensures { Sends result (W.stream out.old) (W.stream out.new) page.old.items page.new.items (string_text name.now) }
 {
     let mut rest = name;
@@ -86,14 +109,13 @@ fn character_of(b: u8) -> u16
     }
 }
 
-/// Returns whether all bytes of a name are ASCII.
+/// Returns whether all bytes of a name are ASCII. All are tested, as for [`is_plain_string`].
 pub fn is_ascii(name: &[u8]) -> bool
     ensures { result ≡ is_ascii name.now }
 {
+    let mut ascii = true;
     for b in name {
-        if *b >= 128 {
-            return false;
-        }
+        ascii &= *b < 128;
     }
-    true
+    ascii
 }

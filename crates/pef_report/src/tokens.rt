@@ -160,7 +160,11 @@ pub(crate) fn print_label<W: Sink>(
 }
 
 /// Prints a member of a JSON object that has no name.
-fn print_no_name<W: Sink>(out: &mut W, page: &mut Page, key: &[u8]) -> Result<(), StreamFault>
+pub(crate) fn print_no_name<W: Sink>(
+    out: &mut W,
+    page: &mut Page,
+    key: &[u8],
+) -> Result<(), StreamFault>
     ensures { Sends result (W.stream out.old) (W.stream out.new) page.old.items page.new.items (no_name key.now) }
 {
     print_pieces(
@@ -176,7 +180,8 @@ fn print_no_name<W: Sink>(out: &mut W, page: &mut Page, key: &[u8]) -> Result<()
 
 /// Prints the name of a row as a member of a JSON object.
 #[tactic(auto, unfolding(crate::specs::Tokens::label_member))]
-fn print_label_member<W: Sink>(
+#[inline(always)]
+pub(crate) fn print_label_member<W: Sink>(
     out: &mut W,
     page: &mut Page,
     key: &[u8],
