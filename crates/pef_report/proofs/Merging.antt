@@ -1,5 +1,5 @@
 -- Rows and findings that are printed in turn.
-use Rattle.std.proofs.Common.{◌≡◌, ◌∙◌, ℕ, suc, ◌+◌, ◌-◌, ◌<◌, ◌≤◌, Bool, true, false, cond, List, [], ◌∷◌, ◌++◌, None, map, refl, sym, ap, arith, append_assoc}
+use Rattle.std.proofs.Common.{◌≡◌, ◌∙◌, ℕ, suc, ◌+◌, ◌-◌, ◌<◌, ◌≤◌, Bool, true, false, cond, List, [], ◌∷◌, ◌++◌, None, length, map, refl, sym, ap, arith, append_assoc}
 use Rattle.std.proofs.lemmas.List.{append-nil, take-append-drop}
 use Rattle.pef_format.specs.declared.place.Part.{Part}
 use Rattle.pef_format.specs.declared.place.Part.TheVariants.{Header}
@@ -88,3 +88,12 @@ each_once base (row ∷ rows) fs =
     ∙ (ap (λ t. t ++ findings_text base rest) (append-nil front)
     ∙ (sym (findings_text-append base (before row.rank fs) rest)
     ∙ ap (findings_text base) (take-append-drop (count_before row.rank fs) fs))))
+
+-- where no finding is left, none is before a row or after it
+pub none_before : (base rank : ℕ) (fs : List Finding) → length fs ≡ 0 → findings_text base (before rank fs) ≡ []
+none_before base rank [] none = refl
+none_before base rank (f ∷ fs) none = absurd (omega arith)
+
+pub none_after : (rank : ℕ) (fs : List Finding) → length fs ≡ 0 → after rank fs ≡ fs
+none_after rank [] none = refl
+none_after rank (f ∷ fs) none = absurd (omega arith)

@@ -2,7 +2,6 @@
 ghost use Rattle.std.specs.Prelude.{◌≡◌, option_map};
 ghost use Rattle.pef_loader.specs.PartialViews.{cut_seen};
 ghost use Rattle.pef_ports.specs.Sent.{Sends};
-ghost use Rattle.pef_report.specs.Tokens.{token_text};
 ghost use Rattle.pef_report.specs.Objects.{truth, entry_object, export_object, header_counts, header_object, header_versions, import_object, library_imports, library_object, library_versions, loader_object, section_object};
 
 use crate::optional::{is_none_entry, magnitude, number_or_null, sign};

@@ -109,6 +109,9 @@ impl<'f, 'a> Walk<'f, 'a> {
         ensures sends { Sends result (W.stream out.old) (W.stream out.new) page.old.items page.new.items (findings_text self.old.base (before rank self.old.left.now)) }
         ensures passes { OnOk result (PassesBefore self.old self.new rank) }
     {
+        if self.left.is_empty() {
+            return Ok(());
+        }
         let (before, after) = split_before(self.left, rank);
         print_findings(out, page, self.base, before)?;
         self.left = after;
