@@ -1,4 +1,5 @@
-//! Parts of lines that come by the thousand. The compiler knows the type of each, where it has to look what kind a token is.
+//! Parts of the lines and objects that come by the thousand. The compiler knows what each part is. What a token is has to be
+//! looked at whenever it is printed.
 use crate::tokens::{print_at, print_label, print_label_member, print_no_name};
 use crate::versions::print_version;
 use pef_loader::CutName;
