@@ -16,10 +16,12 @@ use Rattle.pef_plan.specs.declared.runs.state.OpenState.{OpenState}
 use Rattle.pef_plan.specs.declared.runs.ends.RunEnds.{RunEnds}
 use Rattle.pef_plan.specs.Kept.Rows.{Adds, AddsInBoth, AddsInC, DirectIs, DirectRow, EachState, state_of}
 use Rattle.pef_plan.specs.Runs.Ends.{EndsAt}
-use Rattle.pef_plan.specs.Runs.Places.{AtOf, HereOf, Led}
+use Rattle.pef_plan.specs.Runs.Places.{AtOf, Counts, HereOf, Led}
 use Rattle.pef_plan.specs.Runs.Tables.{Agrees, number_in, place_of}
-use Rattle.pef_plan.proofs.LowFacts.{import_by, low-is, section_led}
-use Rattle.pef_plan.proofs.RowLemmas.{With}
+use Rattle.pef_plan.specs.Windows.Windows.{BestOf, WindowOf}
+use Rattle.pef_plan.proofs.LowFacts.{import_by, low-is, section_led, skip_is}
+use Rattle.pef_plan.proofs.RowLemmas.{SkipIs, With}
+use Rattle.pef_plan.proofs.RunsProofs.EndBest.{skips_best}
 use Rattle.pef_plan.proofs.RunTests.{import_met, section_met}
 use Rattle.pef_plan.proofs.RunsProofs.PlaceLemmas.{place_under, same_place}
 
@@ -173,3 +175,27 @@ lowered-set r A B D D' row place c d x is inside under more only done new lowere
             | inr old ↦ inr (λ t. old.0 (only c' d' under_d t apart), subst (λ (v : ℕ). A c' d' v) (sym there) old.1)
           ])
     ]
+
+-- the least skip with register C in a class, from the best number of the window of skips
+pub skip-best : (k : SolvedSuffix) (a : FixupState) (section c value : ℕ) (e : RunEnds) → AtOf k a → a.first.base ≡ Section section → c < length k.registers.now + 1 → EndsAt k a.others.now (a.first ∷ a.others.now) e
+    → ((width limit : ℕ) (rows : List (List ℕ)) → WindowOf width limit rows e.words.skips → BestOf (1 + number_in (length k.registers.now + 1) e.near.items c (class_of k.registers.now section)) rows c value)
+    → SkipIs k a section c value
+skip-best k a section c value e at base under ends bests =
+    let r = length k.registers.now + 1 in
+    let class = class_of k.registers.now section in
+    let counts = subst (λ b. Counts k.registers.now b) base at.counts.0 in
+    let inside : class < r = omega (arith, counts) in
+    let h : OpenState = state_of a c class in
+    let here = here-of k a c class at under inside in
+    let first = 1 + number_in r e.near.items c class in
+    let after : (l : Labels) → Agrees l k a.others.now → first ≡ 1 + extension l a.others.now (a.first.offset + 4) c class = λ l agrees. (
+    let regs = agrees.same.registers_are in
+    let count = ap length regs in
+    ap (λ n. 1 + n) (ap (λ rs. number_in (length rs + 1) e.near.items c class) (sym regs) ∙ ends.near l agrees c class (omega (arith, count, under)) (omega (arith, count, inside)))) in
+    let best = skips_best k h 0 section first value e.words.skips here refl (((refl, counts), omega arith), omega arith) base (refl, counts) ends.words.skips bests in
+    let low = ends.near_small c class under inside in
+    let better = best.better in
+    record {
+      is = λ l agrees. skip_is k h section first value l here base (refl, counts) refl after best.one best.ends agrees;
+      small = omega (arith, low, better);
+    }

@@ -15,9 +15,7 @@ use Rattle.pef_plan.specs.declared.runs.suffix.SolvedSuffix.{SolvedSuffix}
 use Rattle.pef_plan.specs.declared.runs.state.OpenState.{OpenState}
 use Rattle.pef_plan.specs.declared.runs.run.Run.TheVariants.{Skip}
 use Rattle.pef_plan.specs.declared.runs.state.FixupState.{FixupState}
-use Rattle.pef_plan.specs.declared.runs.ends.RunEnds.{RunEnds}
 use Rattle.pef_plan.specs.Runs.Runs.{EndOf, Ends, Holds}
-use Rattle.pef_plan.specs.Runs.Ends.{EndsAt}
 use Rattle.pef_plan.specs.Runs.Leads.{LeadsWithin}
 use Rattle.pef_plan.specs.Runs.Places.{AtOf, HereOf, InPlace, Led}
 use Rattle.pef_plan.specs.Kept.Rows.{DirectIs}
@@ -109,8 +107,3 @@ low-is k a c d h value at w led least small = record {
       }));
   small = (let e = ap length w.others in omega (arith, small, e));
 }
-
--- the windows at the state of a row, with the registers in two classes
-pub ends-with : (k : SolvedSuffix) (a : FixupState) (c d : ℕ) (h : OpenState) (e : RunEnds) → With a c d h → EndsAt k a.others.now (a.first ∷ a.others.now) e → EndsAt k h.others.now (h.first ∷ h.others.now) e
-ends-with k a c d h e w ends =
-    subst (λ (fs : List Fixup). EndsAt k fs (h.first ∷ fs) e) (sym w.others) (subst (λ (f : Fixup). EndsAt k a.others.now (f ∷ a.others.now) e) (sym w.first) ends)

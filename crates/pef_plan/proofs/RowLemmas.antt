@@ -1,6 +1,5 @@
 -- A row of labels: the choice at each pair of classes, and the properties of the whole row.
-use Rattle.std.proofs.Common.{◌≡◌, ℕ, ◌+◌, ◌*◌, ◌<◌, ◌≤◌, List, length, slice_index, Some, ap, sym, subst, arith}
-use Rattle.pef_reloc.specs.declared.fixup.Fixup.{Fixup}
+use Rattle.std.proofs.Common.{◌≡◌, ℕ, ◌+◌, ◌*◌, ◌<◌, ◌≤◌, List, length, slice_index, Some, subst}
 use Rattle.pef_cert.specs.Labels.{Labels, class_of}
 use Rattle.pef_cert.specs.Extension.{skips_at}
 use Rattle.pef_reloc.specs.declared.fixup.Base.{Base}
@@ -25,17 +24,6 @@ pub record With (a : FixupState) (c d : ℕ) (h : OpenState) : Type 0 where
 pub record SkipIs (k : SolvedSuffix) (a : FixupState) (section c value : ℕ) : Type 0 where
   pub is : (l : Labels) → Agrees l k a.others.now → skips_at l a.first a.others.now c (class_of k.registers.now section) ≡ Some value
   pub small : value ≤ 4 * length a.others.now + 4
-
-pub skip-with : (k : SolvedSuffix) (a : FixupState) (section c : ℕ) (h : OpenState) (value : ℕ) → With a c (class_of k.registers.now section) h → ((l : Labels) → Agrees l k h.others.now → skips_at l h.first h.others.now h.place.c h.place.d ≡ Some value) → value ≤ 4 * length h.others.now + 4 → SkipIs k a section c value
-skip-with k a section c h value w is small = record {
-  is = λ l agrees.
-      subst (λ (f : Fixup). skips_at l f a.others.now c (class_of k.registers.now section) ≡ Some value) w.first
-      (subst (λ (fs : List Fixup). skips_at l h.first fs c (class_of k.registers.now section) ≡ Some value) w.others
-      (subst (λ (e : ℕ). skips_at l h.first h.others.now e (class_of k.registers.now section) ≡ Some value) w.c_is
-      (subst (λ (e : ℕ). skips_at l h.first h.others.now h.place.c e ≡ Some value) w.d_is
-      (is l (subst (λ (fs : List Fixup). Agrees l k fs) (sym w.others) agrees)))));
-  small = (let e = ap length w.others in omega (arith, small, e));
-}
 
 section_same : (j k : ℕ) (b : Base) → b ≡ Section j → b ≡ Section k → j ≡ k
 section_same j k b one two = cc

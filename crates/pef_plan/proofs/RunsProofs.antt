@@ -2,7 +2,6 @@ pub mod EndBest
 pub mod EndLemmas
 pub mod EndsKept
 pub mod KnownLemmas
-pub mod LineLemmas
 pub mod PlaceLemmas
 pub mod PlaceOfRow
 pub mod RunFacts

@@ -194,6 +194,7 @@ fn lower_by_imports(
 }
 
 /// Returns the state at a fixup with the registers in these classes.
+#[inline(always)]
 pub(crate) fn at_classes<'a>(at: FixupState<'a>, c: usize, d: usize) -> OpenState<'a>
     ensures is { result ≡ state_of at.entry c d }
     ensures first { result.first ≡ at.entry.first }

@@ -67,6 +67,7 @@ impl<'a> Best<'a> for LowValue<'_> {
 
     ghost leads = { λ k h x. EndsAt k h.others.now (h.first ∷ h.others.now) x.ends.now × Led k h x.value };
 
+    #[inline(always)]
     fn or_run(self, known: SolvedSuffix<'a>, here: OpenState<'a>, run: Run) -> Self {
         let value = self.ends.low_of_run(known, here, run, self.value);
         LowValue { value, ..self }

@@ -9,7 +9,6 @@ ghost use Rattle.pef_plan.specs.Runs.Tables.{Agrees};
 ghost use Rattle.pef_reloc.specs.declared.fixup.Base.TheVariants.{Section};
 
 use crate::direct::place_after;
-use crate::rows::at_classes;
 use crate::runs::{Choice, FixupState, OpenState, Run, RunEnds, SolvedSuffix, Sought, Step};
 use pef_cert::{WORD, class_of};
 use pef_reloc::{Base, Instr};
@@ -48,24 +47,7 @@ fn fill_section(
     ensures len { length skips.new ≡ length skips.old }
     ensures are { SkipsOf known.entry at.entry skips.new }
 {
-    let class = class_of(known.registers, section);
-    'classes: for c in 0..skips.len() {
-        skips[c] = low_skip(known, at_classes(at, c, class), ends, section) as u32;
-    }
-}
-
-/// Returns the least value of a skip that adds at the fixup. Register D holds the fixup's section.
-fn low_skip(known: SolvedSuffix<'_>, here: OpenState<'_>, ends: &RunEnds, section: u32) -> u64
-    requires here { HereOf known here }
-    requires base { here.first.base ≡ Section section }
-    requires holds { Holds known.registers.now section here.place.d }
-    requires from { here.first.offset ≡ here.place.position }
-    requires ends { EndsAt known here.others.now (here.first ∷ here.others.now) ends.now }
-    ensures is { (l : Labels) → Agrees l known.entry here.entry.others.now → skips_at l here.entry.first here.entry.others.now here.entry.place.c here.entry.place.d ≡ Some result }
-    ensures small { result ≤ 4 * length here.entry.others.now + 4 }
-{
-    let one = 1 + ends.behind(known, here);
-    ends.low_of_run(known, here, Run::Skip { words: 0, section }, one)
+    ends.fill_skips(known, class_of(known.registers, section), skips);
 }
 
 /// Returns the best skip that passes `words` words and then adds at the fixup. The fixup has a section.

@@ -82,7 +82,7 @@ words_d_best k h section first value w here at of base held bests =
     (λ l agrees. subst (λ (b : Base). WordsOfDAt 512 l h.first.offset (h.first ∷ h.others.now) held.rows b) base (held.kept l agrees) h.place.c h.place.d (under_c l k h here agrees) (held_class l k h section h.place.d agrees of.0))
     (bests (length k.registers.now + 1) 512 held.rows held.is)
 
-skips_best : (k : SolvedSuffix) (h : OpenState) (words section first value : ℕ) (w : Windowed) → HereOf k h → h.place.position ≡ h.first.offset → RunOf k.registers.now (Skip words section) h.place h.place.position → h.first.base ≡ Section section → Holds k.registers.now section h.place.d → Holding (λ l. Agrees l k h.others.now) (length k.registers.now + 1) 63 (λ l rows. WordsOfDKept 63 l (h.first ∷ h.others.now) rows) w → Bests w h.place.c first value → RunBest k h (Skip words section) first value
+pub skips_best : (k : SolvedSuffix) (h : OpenState) (words section first value : ℕ) (w : Windowed) → HereOf k h → h.place.position ≡ h.first.offset → RunOf k.registers.now (Skip words section) h.place h.place.position → h.first.base ≡ Section section → Holds k.registers.now section h.place.d → Holding (λ l. Agrees l k h.others.now) (length k.registers.now + 1) 63 (λ l rows. WordsOfDKept 63 l (h.first ∷ h.others.now) rows) w → Bests w h.place.c first value → RunBest k h (Skip words section) first value
 skips_best k h words section first value w here at of base holds held bests =
     run_best k h (Skip words section) (WordsOfD section) 0 first value h.place.c held.rows here at of (as_skip words section h.first.offset h.place.import_index) refl
     (λ l agrees. subst (λ (b : Base). WordsOfDAt 63 l h.first.offset (h.first ∷ h.others.now) held.rows b) base (held.kept l agrees) h.place.c h.place.d (under_c l k h here agrees) (held_class l k h section h.place.d agrees holds))

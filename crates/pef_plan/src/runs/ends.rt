@@ -4,9 +4,9 @@ ghost use Rattle.pef_cert.specs.Labels.{Labels};
 ghost use Rattle.pef_plan.specs.Runs.Places.{AtOf, HereOf, Led};
 ghost use Rattle.pef_plan.specs.Runs.Runs.{EndOf, Ends, RunBegins, RunOf, stride};
 ghost use Rattle.pef_plan.specs.Runs.Ends.{Begins, ColumnAt, EndsAt, EndsOf, FarAt, GoesOnAfter, GoesOnMaybe, NearKept, NearSmall, PairAfter, WordEnds, far_pairs_run, pairs_run, place_in, sections_of, window_of};
-ghost use Rattle.pef_plan.specs.Runs.Tables.{Agrees, place_of};
+ghost use Rattle.pef_plan.specs.Runs.Tables.{Agrees, number_in, place_of};
 ghost use Rattle.pef_plan.specs.declared.runs.run.Run.TheVariants.{Pairs, SpacedPairs};
-ghost use Rattle.pef_plan.specs.Windows.Windows.{WindowOf, rows_moved};
+ghost use Rattle.pef_plan.specs.Windows.Windows.{BestOf, WindowOf, rows_moved};
 ghost use Rattle.pef_reloc.specs.declared.fixup.Base.TheVariants.{Section};
 ghost use Rattle.pef_reloc.specs.Limits.{most_sections};
 
@@ -109,16 +109,6 @@ impl RunEnds {
         })
     }
 
-    /// Returns the extension right after the fixup, in halfwords.
-    pub fn behind(&self, known: SolvedSuffix<'_>, here: OpenState<'_>) -> u64
-        requires here { HereOf known here }
-        requires ends { EndsAt known here.others.now (here.first ∷ here.others.now) self.now }
-        ensures is { (l : Labels) → Agrees l known.entry here.entry.others.now → result ≡ extension l here.entry.others.now (here.entry.first.offset + 4) here.entry.place.c here.entry.place.d }
-        ensures small { result ≤ 4 * length here.entry.others.now + 2 }
-    {
-        u64::from(self.near[known.place(here.place.c, here.place.d)])
-    }
-
     /// Fills in a cost plus the extension right after the fixup, for each pair of classes.
     pub fn fill_alone(&self, cost: u32, row: &mut [u32])
         requires row { length row.old ≡ length self.now.near.items }
@@ -130,6 +120,25 @@ impl RunEnds {
         'places: for place in 0..row.len() {
             row[place] = cost + near[place];
         }
+    }
+
+    /// Fills in the least values of a skip that adds at the fixup, by the class of register C. Register D is in the
+    /// class of the fixup's section.
+    pub fn fill_skips(&self, known: SolvedSuffix<'_>, class: usize, skips: &mut [u32])
+        requires few { length known.registers.now ≤ most_sections }
+        requires class { class < length known.registers.now + 1 }
+        requires near { length self.now.near.items ≡ (length known.registers.now + 1) * (length known.registers.now + 1) }
+        requires small { (c : ℕ) → c < length known.registers.now + 1 → 1 + number_in (length known.registers.now + 1) self.now.near.items c class < 2 ^ 32 }
+        requires width { self.now.words.skips.width ≡ length known.registers.now + 1 }
+        requires len { length skips.old ≡ length known.registers.now + 1 }
+        ensures len { length skips.new ≡ length skips.old }
+        ensures best { (c : ℕ) → c < length known.entry.registers.now + 1 → (width limit : ℕ) (rows : List (List ℕ)) → WindowOf width limit rows self.now.words.skips → BestOf (1 + number_in (length known.entry.registers.now + 1) self.now.near.items c class) rows c (slice_index skips.new c) }
+    {
+        let near = self.near.as_slice();
+        'classes: for c in 0..skips.len() {
+            skips[c] = 1 + near[known.place(c, class)];
+        }
+        self.words.skips.lower(skips);
     }
 
     /// Moves the windows to the previous fixup, whose tables are not filled yet.
@@ -230,6 +239,7 @@ impl RunEnds {
     }
 
     /// Returns the lesser of a value and the least value of a run that begins at the fixup, in halfwords.
+    #[inline(always)]
     pub fn low_of_run(
         &self,
         known: SolvedSuffix<'_>,
@@ -252,6 +262,7 @@ impl RunEnds {
     }
 
     /// Returns the window of a run.
+    #[inline(always)]
     fn window(&self, run: Run) -> &Window
         ensures { result.now ≡ window_of self.now run }
     {
@@ -268,6 +279,7 @@ impl RunEnds {
 }
 
 /// Returns the place of a pair of classes in the rows of a run's window.
+#[inline(always)]
 fn place_in(run: Run, known: SolvedSuffix<'_>, c: usize, d: usize) -> usize
     requires few { length known.registers.now ≤ most_sections }
     requires c { c < length known.registers.now + 1 }
@@ -328,6 +340,7 @@ impl AlternatingWindows {
     }
 
     /// Returns the window of the fixup.
+    #[inline(always)]
     fn here(&self) -> &Window
         ensures { result.now ≡ self.now.here }
     {

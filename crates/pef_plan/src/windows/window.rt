@@ -1,4 +1,4 @@
-ghost use Rattle.std.specs.Prelude.{◌≡◌, ◌+◌, ◌-◌, ◌*◌, ◌<◌, ◌≤◌, ◌∷◌, ℕ, [], List, OnOk, length, slice_index, take};
+ghost use Rattle.std.specs.Prelude.{◌≡◌, ◌+◌, ◌-◌, ◌*◌, ◌<◌, ◌≤◌, ◌∷◌, ℕ, [], List, OnOk, length, min, slice_index, take};
 ghost use Rattle.pef_plan.specs.Windows.Windows.{BestOf, LesserOf, LowToNext, RowAdded, WindowOf, rows_brought};
 
 use crate::windows::looks::Looks;
@@ -185,7 +185,34 @@ impl Window {
         self.newer += 1;
     }
 
+    /// Lowers each number of a line to 1 plus the least number at its place.
+    pub fn lower(&self, line: &mut [u32])
+        requires { length line.old ≡ self.now.width }
+        ensures len { length line.new ≡ length line.old }
+        ensures best { (width limit : ℕ) (rows : List (List ℕ)) (place : ℕ) → WindowOf width limit rows self.now → place < length line.old → BestOf (slice_index line.old place) rows place (slice_index line.new place) }
+    {
+        self.lower_older(line);
+        if self.newer == 0 {
+            return;
+        }
+        lower_line(line, &self.low);
+    }
+
+    /// Does the same with the older rows alone.
+    fn lower_older(&self, line: &mut [u32])
+        requires { length line.old ≡ self.now.width }
+        ensures len { length line.new ≡ length line.old }
+        ensures best { (width limit : ℕ) (rows : List (List ℕ)) (place : ℕ) → (window : WindowOf width limit rows self.now) → place < length line.old → BestOf (slice_index line.old place) window.older place (slice_index line.new place) }
+    {
+        if self.older == 0 {
+            return;
+        }
+        let (_, oldest) = self.values.split_at((self.limit - self.older) * self.width);
+        lower_line(line, oldest);
+    }
+
     /// Returns the least of a number and, for each row, 1 plus its number at a place.
+    #[inline(always)]
     pub fn best(&self, first: u64, place: usize) -> u64
         requires { place < self.now.width }
         ensures { (width limit : ℕ) (rows : List (List ℕ)) → WindowOf width limit rows self.now → BestOf first rows place result }
@@ -199,6 +226,7 @@ impl Window {
     }
 
     /// Returns the least of a number and, for each older row, 1 plus its number at a place.
+    #[inline(always)]
     fn older_best(&self, first: u64, place: usize) -> u64
         requires { place < self.now.width }
         ensures { (width limit : ℕ) (rows : List (List ℕ)) → (window : WindowOf width limit rows self.now) → BestOf first window.older place result }
@@ -208,6 +236,17 @@ impl Window {
         }
         let oldest = (self.limit - self.older) * self.width;
         first.min(1 + u64::from(self.values[oldest + place]))
+    }
+}
+
+/// Lowers each number of a line to 1 plus the number at its place in another one.
+fn lower_line(line: &mut [u32], others: &[u32])
+    requires { length line.old ≤ length others.now }
+    ensures len { length line.new ≡ length line.old }
+    ensures lower { (i : ℕ) → i < length line.old → slice_index line.new i ≡ min (slice_index line.old i) (1 + slice_index others.now i) }
+{
+    'places: for place in 0..line.len() {
+        line[place] = line[place].min(others[place].saturating_add(1));
     }
 }
 

@@ -1,32 +1,33 @@
-use Rattle.std.proofs.Common.{◌∙◌, arith}
-use Rattle.std.proofs.lemmas.List.{length-set}
-use Rattle.pef_cert.specs.Labels.{class_of}
-use Rattle.pef_plan.proofs.RunsProofs.LineLemmas.{line-set}
-use Rattle.pef_plan.proofs.LowFacts.{ends-with}
-use Rattle.pef_plan.proofs.RowLemmas.{SkipIs, With, skip-with, skips-of}
+use Rattle.std.proofs.Common.{◌+◌, ◌<◌, ℕ, List, length, arith, slice_index, subst}
+use Rattle.pef_plan.specs.Runs.Places.{Counts}
+use Rattle.pef_plan.specs.Runs.Tables.{number_in}
+use Rattle.pef_plan.specs.Windows.Windows.{BestOf, WindowOf}
+use Rattle.pef_plan.proofs.DirectLemmas.{skip-best}
+use Rattle.pef_plan.proofs.RowLemmas.{skips-of}
 use Rattle.pef_plan.proofs.skips.fill_section.Goals as goal
 
-pub classes-preserved : goal.classes-preserved
-classes-preserved c =
+pub fill_skips-requires : goal.fill_skips-requires
+fill_skips-requires c =
     let a = c.args in
-    let i = c.classes.c in
-    let len = c.classes.invariant.len in
-    let under = c.classes-test.true in
-    let e = c.at_classes.ensures in
-    let w : With a.at i (class_of a.known.registers.now a.section) c.at_classes.result = record { first = e.first; others = e.others; left = e.left; position = e.position; import_index = e.import_index; c_is = e.c; d_is = e.d ∙ c.class_of-class.ensures } in
+    let r = c.requires in
+    let few = r.at.shaped.few in
+    let most = r.at.shaped.count in
+    let counts = subst (λ b. Counts a.known.registers.now b) r.base r.at.counts.0 in
+    let is = c.class_of.ensures in
+    let class : c.class_of.result < length a.known.registers.now + 1 = omega (arith, counts, is) in
     record {
-      len = length-set c.classes.skips i c.low_skip.result ∙ len;
-      are = line-set (λ x v. SkipIs a.known a.at a.section x v) c.classes.skips i c.low_skip.result (omega (arith, len, under)) c.classes.invariant.are
-          (skip-with a.known a.at a.section i c.at_classes.result c.low_skip.result w c.low_skip.ensures.is c.low_skip.ensures.small);
+      few = few;
+      class = class;
+      near = r.ends.near_len;
+      small = λ x under. (let low = r.ends.near_small x c.class_of.result under class in omega (arith, low, most));
+      width = r.ends.words.skips.is.width_is;
+      len = r.skips;
     }
 
 pub returns-clause-are : goal.returns-clause-are
-returns-clause-are c = skips-of c.args.known c.args.at c.args.section c.classes.skips c.requires.base
-    (λ x under. c.classes.invariant.are x (let past = c.classes-test.false in let len = c.requires.skips in omega (arith, under, len, past)))
-
-pub low_skip-requires-clause-ends : goal.low_skip-requires-clause-ends
-low_skip-requires-clause-ends c =
+returns-clause-are c =
     let a = c.args in
-    let e = c.at_classes.ensures in
-    let w : With a.at c.classes.c (class_of a.known.registers.now a.section) c.at_classes.result = record { first = e.first; others = e.others; left = e.left; position = e.position; import_index = e.import_index; c_is = e.c; d_is = e.d ∙ c.class_of-class.ensures } in
-    ends-with a.known a.at c.classes.c (class_of a.known.registers.now a.section) c.at_classes.result a.ends.now w c.requires.ends
+    let line = c.fill_skips.new.skips in
+    skips-of a.known a.at a.section line c.requires.base
+    (λ x under. skip-best a.known a.at a.section x (slice_index line x) a.ends.now c.requires.at c.requires.base under c.requires.ends
+    (subst (λ n. (width limit : ℕ) (rows : List (List ℕ)) → WindowOf width limit rows a.ends.now.words.skips → BestOf (1 + number_in (length a.known.registers.now + 1) a.ends.now.near.items x n) rows x (slice_index line x)) c.class_of.ensures (c.fill_skips.ensures.best x under)))
