@@ -399,6 +399,7 @@ note 107 WordOutsideImage reloc 0 halfword 2 at 00000190 word 00000010
 00000194 A000 001C SetPosition 28
 00000180 reloc section 1 halfwords 6 first 0
 0000018C 4000 BySectC 1
+note 114 WordRelocatedTwice reloc 1 halfword 0 at 0000018C word 00000000
 0000018E 4A02 ImportRun 3
 00000190 6601 SmBySection 1
 note 107 WordOutsideImage reloc 1 halfword 2 at 00000190 word 00000010
