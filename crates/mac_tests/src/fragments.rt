@@ -180,7 +180,8 @@ fn not_in_two_files(rt: HostRuntime) {
         member: 1,
         offset: 104,
     });
-    assert!(rt; error_of_pair(&data[..257], &fork, b"Calc") == Some(outside));
+    let shorter = data.get(..257).expect(&rt, "257 bytes");
+    assert!(rt; error_of_pair(shorter, &fork, b"Calc") == Some(outside));
 }
 
 /// The number of a container, and where it begins.
