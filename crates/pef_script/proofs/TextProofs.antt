@@ -4,9 +4,11 @@ pub mod KindLemmas
 pub mod Leads
 pub mod LineLemmas
 pub mod ListLemmas
+pub mod Marking
 pub mod Offsets
 pub mod PlaceLemmas
 pub mod Placing
 pub mod Rising
+pub mod Sorting
 pub mod TableLemmas
 pub mod WordLemmas

@@ -10,6 +10,7 @@ mod fault;
 mod form;
 mod kinds;
 mod limits;
+mod marks;
 mod near;
 mod numbers;
 mod oddity;

@@ -1,14 +1,12 @@
 -- Fixups in a list that rises, until one comes before another.
-use Rattle.std.proofs.Common.{◌≡◌, ℕ, suc, ◌+◌, ◌<◌, ◌≤◌, false, List, [], ◌∷◌, ◌++◌, length, refl, ap, ◌∙◌, inl, inr, arith}
+use Rattle.std.proofs.Common.{◌≡◌, ℕ, suc, ◌+◌, ◌≤◌, false, List, [], ◌∷◌, ◌++◌, refl, ap, ◌∙◌, inl, inr, arith}
 use Rattle.std.specs.List.{AllByRecursion, fold}
 use Rattle.std.proofs.lemmas.Bool.Decides.{leb_tells, nat_tests}
 use Rattle.std.proofs.lemmas.List.Sums.{fold-append}
 use Rattle.pef_words.proofs.Laws.Lists.{all-append, all-weaker}
-use Rattle.pef_reloc.specs.declared.fixup.Base.{Base}
 use Rattle.pef_reloc.specs.declared.fixup.Fixup.{Fixup}
 use Rattle.pef_script.specs.Text.Contents.{meets, overlaps, placed}
-use Rattle.pef_script.specs.Text.Kept.Sections.{AreApart, IsRising, fixups_in, fixups_kept}
-use Rattle.pef_script.proofs.TextProofs.Placing.{length-placed}
+use Rattle.pef_script.specs.Text.Kept.Sections.{AreApart, IsRising}
 
 -- fixups that end by here
 abbrev pub EndBy : ℕ → List Fixup → Type 0
@@ -31,7 +29,7 @@ placed_last (f ∷ fixups) end new inside past =
       | inr after ↦ rw after.0 (ap (λ fs. f ∷ fs) (placed_last fixups end new inside.1 past))
     ]
 
-apart-more : (before fixups : List Fixup) (new : Fixup) → AreApart before fixups → overlaps (fold placed before fixups) new.offset 1 ≡ false → AreApart before (fixups ++ new ∷ [])
+pub apart-more : (before fixups : List Fixup) (new : Fixup) → AreApart before fixups → overlaps (fold placed before fixups) new.offset 1 ≡ false → AreApart before (fixups ++ new ∷ [])
 apart-more before [] new apart free = (free, tt)
 apart-more before (f ∷ fixups) new apart free = (apart.0, apart-more (placed before f) fixups new apart.1 free)
 
@@ -49,18 +47,3 @@ rising-more fixups end after new rising past is =
       apart = apart-more [] fixups new rising.apart (rw rising.ordered free);
       ordered = fold-append placed [] fixups (new ∷ []) ∙ (ap (λ fs. placed fs new) rising.ordered ∙ placed_last fixups end new rising.inside past);
     }
-
--- the list has all fixups while there are no bases
-pub kept_rising : (rising : List Fixup) (entries : List (ℕ × Base)) → length entries ≡ 0 → fixups_kept rising entries ≡ rising
-kept_rising rising [] none = refl
-kept_rising rising (e ∷ entries) none = absurd (omega (arith, none))
-
--- and the bases have them if there are any
-pub kept_placed : (rising : List Fixup) (entries : List (ℕ × Base)) → 0 < length entries → fixups_kept rising entries ≡ fixups_in entries
-kept_placed rising [] some = absurd (omega (arith, some))
-kept_placed rising (e ∷ entries) some = refl
-
--- as after one was placed
-pub kept_new : (rising fixups : List Fixup) (entries : List (ℕ × Base)) (new : Fixup) → fixups_in entries ≡ placed fixups new → fixups_kept rising entries ≡ placed fixups new
-kept_new rising fixups [] new is = absurd (let none = ap length is in omega (arith, none, length-placed fixups new))
-kept_new rising fixups (e ∷ entries) new is = is

@@ -1,12 +1,13 @@
-ghost use Rattle.std.specs.Prelude.{◌≡◌, ◌+◌, ◌*◌, ◌^◌, ◌<◌, ◌≤◌, [], false, length, map, slice_get, IfOk, IfSome, OnOk};
+ghost use Rattle.std.specs.Prelude.{◌≡◌, ◌+◌, ◌*◌, ◌^◌, ◌<◌, ◌≤◌, [], ◌∷◌, ◌++◌, false, length, map, slice_get, IfOk, IfSome, OnErr, OnOk};
 ghost use Rattle.std.specs.List.{fold};
 ghost use Rattle.std.specs.Option.{option_map_or};
 ghost use Rattle.std.specs.Str.{bytes_eq};
 ghost use Rattle.pef_script.specs.Views.{header_in};
 ghost use Rattle.pef_script.specs.Text.Contents.{overlaps, placed, with_fixups, with_image};
-ghost use Rattle.pef_script.specs.Text.Kept.Sections.{AreApart, fixups_in};
+ghost use Rattle.pef_script.specs.Text.Kept.Sections.{AreApart, HaveMarks, fixups_in};
 ghost use Rattle.pef_script.specs.Text.SoFar.{number_of_name};
 
+use crate::text::marks::Marks;
 use crate::{Section, SectionHeader};
 use pef_lines::Pairs;
 use pef_reloc::{Base, Fixup, WORD};
@@ -43,7 +44,7 @@ impl<'a> SectionSoFar<'a> {
         SectionSoFar {
             header,
             image: Vec::new(alloc),
-            fixups: FixupsSoFar::new(alloc),
+            fixups: FixupsSoFar::new(alloc, header.total),
         }
     }
 
@@ -78,39 +79,53 @@ impl<'a> SectionSoFar<'a> {
     }
 }
 
+/// The greatest total of a section that has marks, which take a quarter of it.
+const MAX_MARKED: u32 = 0x0040_0000;
+
 /// The fixups of a section while lines are read. They may come in any order, but nearly always their offsets
-/// rise. Then a list is enough.
+/// rise.
 #[derive(Drop)]
 pub struct FixupsSoFar {
-    /// The fixups, as long as each begins after those before it.
-    rising: Vec<Fixup>,
-    /// The end of the last of these.
-    end: u64,
-    /// The bases of all fixups by their offsets, from the first fixup on that begins before another.
-    bases: BTreeMap<u32, Base>,
+    /// How many bytes the section has.
+    total: u32,
+    /// The fixups in the order of their lines, unless a map has them.
+    fixups: Vec<Fixup>,
+    order: Order,
+}
+
+/// How the fixups of a section come, with what finds the overlaps.
+#[derive(Drop)]
+pub enum Order {
+    /// Each begins after those before it. This is the end of the last one.
+    Rising(u64),
+    /// They come in any order.
+    Marked(Marks),
+    /// They come in any order, and the section is so large that marks would take too much memory. These are
+    /// their bases by their offsets.
+    Mapped(BTreeMap<u32, Base>),
 }
 
 impl Model for FixupsSoFar {
     ghost use Rattle.std.specs.Prelude.{List};
     ghost use Rattle.pef_reloc.specs.declared.fixup.Fixup.{Fixup};
-    ghost use Rattle.pef_script.specs.Text.Kept.Sections.{IsRising, fixups_kept};
+    ghost use Rattle.pef_script.specs.Text.Kept.Sections.{IsKept, fixups_kept};
 
     ghost Value = { List Fixup };
 
-    ghost view = { λ s. fixups_kept s.rising.items s.bases.entries };
+    ghost view = { λ s. fixups_kept s.fixups.items s.order };
 
-    ghost invariant = { λ s. IsRising s.rising.items s.end };
+    ghost invariant = { λ s. IsKept s.fixups.items s.order };
 }
 
 impl FixupsSoFar {
-    /// Returns no fixups.
-    pub fn new(alloc: Global) -> FixupsSoFar
+    /// Returns no fixups, of a section with this many bytes.
+    pub fn new(alloc: Global, total: u32) -> FixupsSoFar
         ensures { result ≡ [] }
     {
         FixupsSoFar {
-            rising: Vec::new(alloc),
-            end: 0,
-            bases: BTreeMap::new(alloc),
+            total,
+            fixups: Vec::new(alloc),
+            order: Order::Rising(0),
         }
     }
 
@@ -119,10 +134,9 @@ impl FixupsSoFar {
         ensures is { result ≡ length self.now }
         ensures small { result < 2 ^ 63 }
     {
-        if self.bases.is_empty() {
-            self.rising.len()
-        } else {
-            self.bases.len()
+        match &self.order {
+            Order::Rising(_) | Order::Marked(_) => self.fixups.len(),
+            Order::Mapped(bases) => bases.len(),
         }
     }
 
@@ -131,11 +145,14 @@ impl FixupsSoFar {
         requires { offset + 4 * count < 2 ^ 32 }
         ensures { result ≡ overlaps self.now offset count }
     {
-        if !self.bases.is_empty() {
-            return overlaps_placed(&self.bases, offset, count);
+        match &self.order {
+            // This search happens at most once: its fixup is refused, or it ends the rising order.
+            Order::Rising(end) => {
+                u64::from(offset) < *end && overlaps_any(&self.fixups, offset, count)
+            }
+            Order::Marked(marks) => marks.overlaps(offset, count),
+            Order::Mapped(bases) => overlaps_placed(bases, offset, count),
         }
-        // This search happens at most once: its fixup is refused, or it moves all fixups into the map.
-        u64::from(offset) < self.end && overlaps_any(&self.rising, offset, count)
     }
 
     /// Adds fixups that don't overlap others.
@@ -156,31 +173,99 @@ impl FixupsSoFar {
         requires { overlaps self.old fixup.offset 1 ≡ false }
         ensures { OnOk result (self.new ≡ placed self.old fixup) }
     {
-        if !self.bases.is_empty() {
-            self.bases.insert(fixup.offset, fixup.base)?;
-            return Ok(());
+        match &mut self.order {
+            Order::Rising(end) if u64::from(fixup.offset) >= *end => {
+                self.fixups.push(fixup)?;
+                *end = u64::from(fixup.offset) + u64::from(WORD);
+                Ok(())
+            }
+            _ => self.add_in_any_order(fixup),
         }
-        if u64::from(fixup.offset) >= self.end {
-            self.rising.push(fixup)?;
-            self.end = u64::from(fixup.offset) + u64::from(WORD);
-            return Ok(());
+    }
+
+    /// Adds a fixup that may begin before others.
+    #[inline(never)]
+    fn add_in_any_order(&mut self, fixup: Fixup) -> Result<(), AllocError>
+        requires { overlaps self.old fixup.offset 1 ≡ false }
+        ensures { OnOk result (self.new ≡ placed self.old fixup) }
+    {
+        match &mut self.order {
+            Order::Marked(marks) => add_marked(&mut self.fixups, marks, fixup),
+            Order::Mapped(bases) => {
+                bases.insert(fixup.offset, fixup.base)?;
+                Ok(())
+            }
+            Order::Rising(_) => {
+                if self.total <= MAX_MARKED {
+                    self.order = Order::Marked(marked(&mut self.fixups, fixup)?);
+                } else {
+                    self.order = Order::Mapped(mapped(&self.fixups, fixup)?);
+                    self.fixups.clear();
+                }
+                Ok(())
+            }
         }
-        insert_all(&mut self.bases, &self.rising)?;
-        self.rising.clear();
-        self.bases.insert(fixup.offset, fixup.base)?;
-        Ok(())
     }
 
     /// Returns the fixups in address order.
     fn into_list(self, alloc: Global) -> Result<Vec<Fixup>, AllocError>
         ensures { IfOk result (λ fixups. fixups.items ≡ self) }
     {
-        if self.bases.is_empty() {
-            Ok(self.rising)
-        } else {
-            listed(alloc, self.bases)
+        let FixupsSoFar { fixups, order, .. } = self;
+        match order {
+            Order::Rising(_) => Ok(fixups),
+            Order::Marked(_) => Ok(sorted(fixups)),
+            Order::Mapped(bases) => listed(alloc, bases),
         }
     }
+}
+
+/// Adds a fixup that doesn't overlap another, with its mark.
+fn add_marked(fixups: &mut Vec<Fixup>, marks: &mut Marks, fixup: Fixup) -> Result<(), AllocError>
+    requires marked { HaveMarks fixups.old.items marks.old.leads.items }
+    requires free { overlaps fixups.old.items fixup.offset 1 ≡ false }
+    ensures kept { HaveMarks fixups.new.items marks.new.leads.items }
+    ensures added { OnOk result (fixups.new.items ≡ fixups.old.items ++ fixup ∷ []) }
+    ensures same { OnErr result (fixups.new.items ≡ fixups.old.items) }
+{
+    marks.make_room(fixup.offset)?;
+    fixups.push(fixup)?;
+    marks.put(fixup.offset);
+    Ok(())
+}
+
+/// Adds a fixup that doesn't overlap another to some that have no marks, and returns the marks of all.
+fn marked(fixups: &mut Vec<Fixup>, fixup: Fixup) -> Result<Marks, AllocError>
+    requires apart { AreApart [] fixups.old.items }
+    requires free { overlaps fixups.old.items fixup.offset 1 ≡ false }
+    ensures kept { IfOk result (λ marks. HaveMarks fixups.new.items marks.leads.items) }
+    ensures added { OnOk result (fixups.new.items ≡ fixups.old.items ++ fixup ∷ []) }
+    ensures same { OnErr result (fixups.new.items ≡ fixups.old.items) }
+{
+    let mut marks = Marks::of(*fixups.allocator(), fixups)?;
+    add_marked(fixups, &mut marks, fixup)?;
+    Ok(marks)
+}
+
+/// Returns the bases of fixups by their offsets, with one more fixup that doesn't overlap another.
+fn mapped(fixups: &Vec<Fixup>, fixup: Fixup) -> Result<BTreeMap<u32, Base>, AllocError>
+    requires apart { AreApart [] fixups.now.items }
+    requires free { overlaps (fold placed [] fixups.now.items) fixup.offset 1 ≡ false }
+    ensures { IfOk result (λ bases. fixups_in bases.entries ≡ placed (fold placed [] fixups.now.items) fixup) }
+{
+    let mut bases = BTreeMap::new(*fixups.allocator());
+    insert_all(&mut bases, fixups)?;
+    bases.insert(fixup.offset, fixup.base)?;
+    Ok(bases)
+}
+
+/// Returns fixups that don't overlap others, in address order.
+fn sorted(mut fixups: Vec<Fixup>) -> Vec<Fixup>
+    requires { AreApart [] fixups.items }
+    ensures { result.items ≡ fold placed [] fixups.items }
+{
+    fixups.sort_unstable_by_key(|fixup| fixup.offset);
+    fixups
 }
 
 /// Returns whether the word of one of some fixups overlaps one of `count` words from an offset.
