@@ -109,6 +109,247 @@ const ANY_ORDER: &[(&str, &[&str], u32)] = &[
         ],
         0,
     ),
+    // Once they are in any order: bytes 5 to 8 and 12 to 15 are taken.
+    (
+        "24",
+        &[
+            "fix d 12 section d",
+            "fix d 5 section d",
+            "fix d 0 section d",
+        ],
+        0,
+    ),
+    (
+        "24",
+        &[
+            "fix d 12 section d",
+            "fix d 5 section d",
+            "fix d 1 section d",
+        ],
+        0,
+    ),
+    (
+        "24",
+        &[
+            "fix d 12 section d",
+            "fix d 5 section d",
+            "fix d 2 section d",
+        ],
+        46,
+    ),
+    (
+        "24",
+        &[
+            "fix d 12 section d",
+            "fix d 5 section d",
+            "fix d 4 section d",
+        ],
+        46,
+    ),
+    (
+        "24",
+        &[
+            "fix d 12 section d",
+            "fix d 5 section d",
+            "fix d 8 section d",
+        ],
+        46,
+    ),
+    (
+        "24",
+        &[
+            "fix d 12 section d",
+            "fix d 5 section d",
+            "fix d 9 section d",
+        ],
+        46,
+    ),
+    (
+        "24",
+        &[
+            "fix d 12 section d",
+            "fix d 5 section d",
+            "fix d 15 section d",
+        ],
+        46,
+    ),
+    (
+        "24",
+        &[
+            "fix d 12 section d",
+            "fix d 5 section d",
+            "fix d 16 section d",
+        ],
+        0,
+    ),
+    (
+        "24",
+        &["fix d 12 section d", "fix d 5 section d", "tvector d 0 d d"],
+        46,
+    ),
+    (
+        "24",
+        &["fix d 12 section d", "fix d 5 section d", "tvector d 9 d d"],
+        46,
+    ),
+    (
+        "24",
+        &[
+            "fix d 12 section d",
+            "fix d 5 section d",
+            "tvector d 16 d d",
+        ],
+        0,
+    ),
+    // Bytes 1 to 4 and 20 to 23 are taken.
+    (
+        "28",
+        &["fix d 20 section d", "fix d 1 section d", "tvector d 4 d d"],
+        46,
+    ),
+    (
+        "28",
+        &["fix d 20 section d", "fix d 1 section d", "tvector d 5 d d"],
+        0,
+    ),
+    (
+        "28",
+        &[
+            "fix d 20 section d",
+            "fix d 1 section d",
+            "tvector d 12 d d",
+        ],
+        0,
+    ),
+    (
+        "28",
+        &[
+            "fix d 20 section d",
+            "fix d 1 section d",
+            "tvector d 13 d d",
+        ],
+        46,
+    ),
+    (
+        "28",
+        &[
+            "fix d 20 section d",
+            "fix d 1 section d",
+            "tvector d 17 d d",
+        ],
+        46,
+    ),
+    // A transition vector takes bytes 9 to 16.
+    (
+        "28",
+        &["fix d 24 section d", "tvector d 9 d d", "fix d 5 section d"],
+        0,
+    ),
+    (
+        "28",
+        &["fix d 24 section d", "tvector d 9 d d", "fix d 6 section d"],
+        46,
+    ),
+    (
+        "28",
+        &[
+            "fix d 24 section d",
+            "tvector d 9 d d",
+            "fix d 13 section d",
+        ],
+        46,
+    ),
+    (
+        "28",
+        &[
+            "fix d 24 section d",
+            "tvector d 9 d d",
+            "fix d 16 section d",
+        ],
+        46,
+    ),
+    (
+        "28",
+        &[
+            "fix d 24 section d",
+            "tvector d 9 d d",
+            "fix d 17 section d",
+        ],
+        0,
+    ),
+    // The greatest section with marks, and the least without: bytes 4194292 to 4194295 are taken, and the last four.
+    (
+        "4194304",
+        &[
+            "fix d 4194300 section d",
+            "fix d 4194292 section d",
+            "fix d 4194288 section d",
+        ],
+        0,
+    ),
+    (
+        "4194304",
+        &[
+            "fix d 4194300 section d",
+            "fix d 4194292 section d",
+            "fix d 4194295 section d",
+        ],
+        46,
+    ),
+    (
+        "4194304",
+        &[
+            "fix d 4194300 section d",
+            "fix d 4194292 section d",
+            "fix d 4194296 section d",
+        ],
+        0,
+    ),
+    (
+        "4194304",
+        &[
+            "fix d 4194300 section d",
+            "fix d 4194292 section d",
+            "fix d 4194297 section d",
+        ],
+        46,
+    ),
+    (
+        "4194305",
+        &[
+            "fix d 4194301 section d",
+            "fix d 4194292 section d",
+            "fix d 4194289 section d",
+        ],
+        46,
+    ),
+    (
+        "4194305",
+        &[
+            "fix d 4194301 section d",
+            "fix d 4194292 section d",
+            "fix d 4194297 section d",
+        ],
+        0,
+    ),
+    (
+        "4194305",
+        &[
+            "fix d 4194301 section d",
+            "fix d 4194292 section d",
+            "fix d 4194298 section d",
+        ],
+        46,
+    ),
+    (
+        "4194305",
+        &[
+            "fix d 4194301 section d",
+            "fix d 4194292 section d",
+            "tvector d 4194293 d d",
+        ],
+        46,
+    ),
 ];
 
 /// Texts, and the number and the line of their refusal.
@@ -221,6 +462,52 @@ fn read_any_order(rt: HostRuntime) {
         let found = refusal_of_lines(&rt, rt.alloc(), total, lines);
         let last = lines.last().copied().unwrap_or("");
         assert!(rt; found == wanted, "{total} {last}");
+    }
+}
+
+/// How many bytes a section has, and how many words each fixup is after the one before it, round the end: its
+/// 53 words rise, fall, or are mixed.
+const ORDERS: &[(u32, u32)] = &[
+    (264, 1),
+    (264, 52),
+    (264, 20),
+    (4_194_305, 52),
+    (4_194_305, 20),
+];
+
+/// Returns a section with 53 fixups in such an order. Their words are five bytes apart.
+fn in_steps(rt: &impl Abort, alloc: Global, total: u32, step: u32) -> String {
+    let mut text = format!(in alloc;
+        "section d data process 4 {total}\nsection e data process 4 0"
+    ).expect(rt, "memory");
+    let mut number = 0u32;
+    for _ in 0..53 {
+        let base = if number % 2 == 0 { "d" } else { "e" };
+        write!(text, "\nfix d {} section {base}", number.wrapping_mul(5)).expect(rt, "memory");
+        number = number.wrapping_add(step) % 53;
+    }
+    text
+}
+
+/// Returns whether these are the 53 fixups in address order, with their bases.
+fn are_in_order(fixups: &[Fixup]) -> bool {
+    fixups.len() == 53
+        && fixups.iter().enumerate().all(|(i, fixup)| {
+            fixup.offset as usize == i.wrapping_mul(5)
+                && fixup.base == Base::Section((i % 2) as u32)
+        })
+}
+
+#[test]
+fn list_in_address_order(rt: HostRuntime) {
+    for row in ORDERS {
+        let (total, step) = *row;
+        let text = in_steps(&rt, rt.alloc(), total, step);
+        let script = Script::read(rt.alloc(), text.as_bytes()).expect(&rt, "a script");
+        assert!(rt;
+            are_in_order(script.fixups(0).unwrap_or(&[])),
+            "{total} by {step}"
+        );
     }
 }
 
