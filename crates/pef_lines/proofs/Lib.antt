@@ -3,6 +3,8 @@ mod CursorLemmas
 mod Cuts
 mod Digits
 mod FirstNumber
+mod HeadLemmas
+mod Loads
 mod LineLemmas
 mod PairLemmas
 mod WordLemmas

@@ -1,5 +1,6 @@
 -- The parts of a text, from its cuts.
-use Rattle.std.proofs.Common.{◌≡◌, ℕ, ◌+◌, ◌≤◌, ◌==◌, Bool, true, false, cond, List, [], ◌∷◌, ◌++◌, Option, None, Some, length, option_map, refl, ap, arith}
+use Rattle.std.proofs.Common.{◌≡◌, ℕ, ◌+◌, ◌≤◌, ◌==◌, Bool, true, false, cond, List, [], ◌∷◌, ◌++◌, Option, None, Some, length, option_map, take, refl, ap, arith}
+use Rattle.std.proofs.Math.Seq.{take-append_seam}
 use Rattle.std.proofs.lemmas.Bool.{eqb-true}
 use Rattle.pef_lines.specs.Lines.{cut_at, lines_of, longer_first, parts_of}
 
@@ -64,6 +65,10 @@ cut_at-parts byte (b ∷ bytes) before behind cut = by (b == byte) refl (cut_at 
         let l : b ∷ p.0 ≡ before = ap front cut in
         let r : p.1 ≡ behind = ap back cut in
         rw (← l, ← r) (ap (λ (t : List ℕ). b ∷ t) (others p.0 p.1 refl))
+
+-- a text begins with what is before a byte
+pub cut_at-front : (byte : ℕ) (text before behind : List ℕ) → cut_at byte text ≡ Some (before, behind) → take (length before) text ≡ before
+cut_at-front byte text before behind cut = rw (cut_at-parts byte text before behind cut) (take-append_seam before (byte ∷ behind))
 
 -- what is after the first line is shorter than the text
 pub cut_at-shorter : (byte : ℕ) (text line behind : List ℕ) → cut_at byte text ≡ Some (line, behind) → length behind + 1 ≤ length text

@@ -2,7 +2,8 @@ ghost use Rattle.std.specs.Prelude.{◌≡◌, option_map};
 ghost use Rattle.pef_lines.specs.Cursor.{behind, first_number, first_of, none_left, words_of};
 ghost use Rattle.pef_lines.specs.Views.{words_left};
 
-use crate::numbers::first_number;
+use crate::head::{Head, LOAD};
+use crate::numbers::{decimal_number, first_number};
 use crate::words::cut_near;
 
 /// The words that are left of a line: the parts between its spaces.
@@ -31,6 +32,7 @@ impl<'a> Words<'a> {
     }
 
     /// Takes the next word.
+    #[inline(always)]
     pub fn next_word(&mut self) -> Option<&'a [u8]>
         ensures { option_map (λ word. (word.now, words_left self.new)) result ≡ first_of (words_left self.old) }
     {
@@ -60,6 +62,31 @@ impl<'a> Words<'a> {
         };
         let (number, rest) = first_number(line)?;
         self.rest = rest;
+        Some(number)
+    }
+
+    /// Returns the same as [`Words::next_number`], in fewer steps if the number differs from the last one that was read
+    /// with this head in its last digit alone.
+    #[inline(always)]
+    pub fn next_near(&mut self, head: &mut Head<'a>) -> Option<u32>
+        ensures { option_map (λ number. (number, words_left self.new)) result ≡ first_number (words_left self.old) }
+    {
+        let Some(line) = self.rest else {
+            return None;
+        };
+        if line.len() < LOAD {
+            return self.next_number();
+        }
+        if let Some((number, rest)) = head.first_number(line) {
+            self.rest = Some(rest);
+            return Some(number);
+        }
+        let Some((word, rest)) = cut_near(b' ', line) else {
+            return self.next_number();
+        };
+        let number = decimal_number(word)?;
+        *head = head.after(line, word, number);
+        self.rest = Some(rest);
         Some(number)
     }
 

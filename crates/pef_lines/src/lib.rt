@@ -7,11 +7,13 @@
 #![tactic(auto)]
 
 mod cursor;
+mod head;
 mod numbers;
 mod pairs;
 mod words;
 
 pub use cursor::Words;
+pub use head::Head;
 pub use numbers::{decimal_number, hex_number};
 pub use pairs::Pairs;
 pub use words::{LINE_FEED, cut_at, last_word, next_word};
