@@ -258,6 +258,78 @@ fn ranges(rt: HostRuntime) {
     }
 }
 
+/// The words of a row, and its labels, or `None` if it is refused. A word that has the digits of the one before, but for
+/// its last digit, is read in a way of its own.
+const NEAR: &[(&str, Option<[u32; 4]>)] = &[
+    (
+        "24407 24400 24409 24400",
+        Some([24407, 24400, 24409, 24400]),
+    ),
+    ("10 11 19 10", Some([10, 11, 19, 10])),
+    // a carry
+    ("399 400 399 401", Some([399, 400, 399, 401])),
+    (
+        "24409 24410 24399 24400",
+        Some([24409, 24410, 24399, 24400]),
+    ),
+    // shorter and longer numbers
+    ("24400 2440 24401 24402", Some([24400, 2440, 24401, 24402])),
+    ("2440 24401 24402 2440", Some([2440, 24401, 24402, 2440])),
+    ("2440 244011 2441 2442", Some([2440, 244_011, 2441, 2442])),
+    ("7 8 0 9", Some([7, 8, 0, 9])),
+    ("100 0 101 0", Some([100, 0, 101, 0])),
+    (
+        "1234567 1234568 12345670 12345671",
+        Some([1_234_567, 1_234_568, 12_345_670, 12_345_671]),
+    ),
+    // no digit after the same digits
+    ("2440 244 2441 244", Some([2440, 244, 2441, 244])),
+    ("2440 244/ 2441 2442", None),
+    ("2440 244: 2441 2442", None),
+    ("2440 244x 2441 2442", None),
+    // leading zeros
+    ("24 024 25 26", None),
+    ("240 0240 241 242", None),
+    ("0 00 1 2", None),
+    ("0 01 1 2", None),
+    // other bytes after the number
+    ("2440 2441\t2442 2443", None),
+    ("2440 2441,2442 2443 2444", None),
+    ("2440 2441  2442 2443", None),
+    ("2440 2441 2442 2443 ", None),
+    ("2440 2441! 2442 2443", None),
+    // 32 bits
+    (
+        "4294967290 4294967295 4294967294 4294967290",
+        Some([4_294_967_290, 4_294_967_295, 4_294_967_294, 4_294_967_290]),
+    ),
+    ("4294967295 4294967296 1 1", None),
+    ("4294967295 4294967299 1 1", None),
+    ("4294967295 42949672950 1 1", None),
+];
+
+/// Returns the labels of a text's first row, or `None` if the text is refused.
+fn first_row(rt: &impl Abort, alloc: Global, text: &str) -> Option<[u32; 4]> {
+    let certificates = Certificate::read(alloc, text.as_bytes()).ok()?;
+    let labels = labels(alloc, certificates.first()?).expect(rt, "memory");
+    match labels.as_slice() {
+        [a, b, c, d, ..] => Some([*a, *b, *c, *d]),
+        _ => None,
+    }
+}
+
+#[test]
+fn near_numbers(rt: HostRuntime) {
+    for row in NEAR {
+        let (words, wanted) = *row;
+        let text = format!(in rt.alloc(); "{BEFORE_RANGES}at 0 3 {words}\nend\n").expect(
+            &rt, "memory",
+        );
+        let read = first_row(&rt, rt.alloc(), text.as_str());
+        assert!(rt; read == wanted, "{words}");
+    }
+}
+
 /// Lines after `pefcert 2`, of which the last is refused, and the number of that line.
 const LIMITS: &[(&str, usize)] = &[
     ("section 0\nfixups 65537\n", 3),

@@ -8,7 +8,7 @@ ghost use Rattle.pef_cert.specs.Text.Words.{numbers_in};
 use crate::are_rising;
 use crate::text::CertFault;
 use crate::text::lines::Line;
-use pef_lines::{Words, decimal_number};
+use pef_lines::{Head, Words, decimal_number};
 use std::alloc::Global;
 
 /// The most sections that count as values of a register.
@@ -19,8 +19,9 @@ fn append_numbers(line: Line<'_>, words: Words<'_>, numbers: &mut Vec<u32>) -> R
     ensures { Says (result_map (λ _. numbers.new.items) result) line.entry.number (option_map (λ more. numbers.old.items ++ more) (numbers_in (words_left words.entry))) }
 {
     let mut words = words;
+    let mut head = Head::new();
     'words: while !words.is_empty() {
-        let Some(number) = words.next_number() else {
+        let Some(number) = words.next_near(&mut head) else {
             return Err(line.fault());
         };
         numbers.push(number)?;
