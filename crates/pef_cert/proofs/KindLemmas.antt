@@ -17,10 +17,11 @@ use Rattle.pef_cert.specs.Extension.{extension}
 use Rattle.pef_cert.specs.Kept.Claims.{Sees, UnderTest, labels_claimed, row_at, state_of}
 use Rattle.pef_cert.specs.Kept.Sets.{RowWithin}
 use Rattle.pef_cert.specs.Rows.{rows_from}
-use Rattle.pef_cert.specs.Kept.Tests.{AllSingles, AllTests, ImportRuns, SectionRuns, label_of, single_test}
+use Rattle.pef_cert.specs.Kept.Tests.{AllSingles, AllTests, ImportRuns, SectionRuns, adds_first, label_of, single_test}
 use Rattle.pef_cert.specs.LabelTests.{base_test, import_cost, numbered_test, row_test, second_test}
 use Rattle.pef_cert.proofs.ClaimLemmas.{get_under, knows-sees, label_there, place_under, value-here}
 use Rattle.pef_cert.proofs.ClassLemmas.{class_of-below}
+use Rattle.pef_cert.proofs.StepLemmas.{row_alone}
 use Rattle.pef_cert.proofs.TestLemmas.{ImportTests, SectionTests, import_tests, import_tests-met, section_tests, section_tests-met}
 
 -- the values right after the fixup
@@ -133,6 +134,10 @@ row-here claim u c d w p b t x here is at test =
     ∙ (ap (λ n. row_test l n w b c d 512 p (drop u.at fixups)) (label_there l fixups u.at u.fixup c d here)
     ∙ (ap (λ q. row_test l (label_of l u.fixup (drop (u.at + 1) fixups) c d) w b c d 512 q (drop u.at fixups)) at
     ∙ ap (λ fs. row_test l (label_of l u.fixup (drop (u.at + 1) fixups) c d) w b c d 512 u.fixup.offset fs) (drop-here fixups u.at u.fixup here))))
+
+-- a run that doesn't go on after the fixup, whose addition alone was tested
+pub row-lone : (l : Labels) (f : Fixup) (rest : List Fixup) (k c d : ℕ) → single_test l 1 f rest c d ≡ true → adds_first (f.offset + 4) (Section k) rest ≡ false → true ≡ row_test l (label_of l f rest c d) 4 (Section k) c d 512 f.offset (f ∷ rest)
+row-lone l f rest k c d single stops = sym (row_alone l (label_of l f rest c d) 4 (Section k) c d 512 f.offset (f ∷ rest) single stops)
 
 pub second-here : (claim : Claim) (u : TestedFixup) (c d k : ℕ) (t : TestedState) (x : Bool) → slice_get claim.fixups.now u.at ≡ Some u.fixup → t ≡ state_of claim u c d → x ≡ second_test (labels_claimed claim) t.label k t.c t.d t.fixup (drop (t.at + 1) claim.fixups.now) → x ≡ second_test (labels_claimed claim) (label_of (labels_claimed claim) u.fixup (drop (u.at + 1) claim.fixups.now) c d) k c d u.fixup (drop (u.at + 1) claim.fixups.now)
 second-here claim u c d k t x here is test =

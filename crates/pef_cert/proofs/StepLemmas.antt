@@ -23,6 +23,10 @@ run_fails b here more e f = rw (e, f) refl
 run_steps : (b here more : Bool) → b ≡ true → here ≡ true → run_on b here more ≡ more
 run_steps b here more e f = rw (e, f) refl
 
+run_alone : (b here more : Bool) → here ≡ true → more ≡ true → run_on b here more ≡ true
+run_alone true here more e f = rw (e, f) refl
+run_alone false here more e f = refl
+
 -- a fixup exists, if it adds something
 pub adds_inside : (fixups : List Fixup) (at p : ℕ) (b : Base) → adds_first p b (drop at fixups) ≡ true → at < length fixups
 adds_inside [] zero p b e = absurd (cc)
@@ -65,6 +69,13 @@ unfolding row_test
 row_stops l label w b c d zero p fs e = refl
 row_stops l label w b c d (suc n) p [] e = refl
 row_stops l label w b c d (suc n) p (f ∷ rest) e = run_stops (is_added p b f) (one_from l label rest (p + w) c d) (row_test l label w b c d n (p + w) rest) e
+
+-- a run that doesn't go on after one word
+pub row_alone : (l : Labels) (label w : ℕ) (b : Base) (c d n p : ℕ) (fs : List Fixup) → one_from l label (drop 1 fs) (p + w) c d ≡ true → adds_first (p + w) b (drop 1 fs) ≡ false → row_test l label w b c d n p fs ≡ true
+unfolding row_test
+row_alone l label w b c d zero p fs e f = refl
+row_alone l label w b c d (suc n) p [] e f = refl
+row_alone l label w b c d (suc n) p (g ∷ rest) e f = run_alone (is_added p b g) (one_from l label rest (p + w) c d) (row_test l label w b c d n (p + w) rest) e (row_stops l label w b c d n (p + w) rest f)
 
 row_fails : (l : Labels) (label w : ℕ) (b : Base) (c d n p : ℕ) (fs : List Fixup) → adds_first p b fs ≡ true → one_from l label (drop 1 fs) (p + w) c d ≡ false → row_test l label w b c d (suc n) p fs ≡ false
 unfolding row_test

@@ -1,6 +1,6 @@
-ghost use Rattle.std.specs.Prelude.{◌≡◌, ◌+◌, ◌<◌, drop, length, take};
+ghost use Rattle.std.specs.Prelude.{◌≡◌, ◌+◌, ◌<◌, drop, false, length, take};
 ghost use Rattle.pef_cert.specs.Kept.Claims.{GoesOn, Tests, UnderTest, labels_claimed};
-ghost use Rattle.pef_cert.specs.Kept.Tests.{AllTests, SectionRuns, runs_of_c, runs_of_d};
+ghost use Rattle.pef_cert.specs.Kept.Tests.{AllSingles, AllTests, SectionRuns, adds_first, runs_of_c, runs_of_d};
 ghost use Rattle.pef_cert.specs.Labels.{class_of};
 ghost use Rattle.pef_cert.specs.LabelTests.{pair_test, second_test};
 ghost use Rattle.pef_cert.specs.Fixups.Answers.{Says};
@@ -44,6 +44,19 @@ impl<'a> CheckedSuffix<'a> {
 
     /// Tests the labels of all states in which a register holds the section against runs of the section.
     fn section_runs_hold(self, under: TestedFixup, section: u32) -> bool
+        requires under { UnderTest self under }
+        requires alone { AllSingles (labels_claimed self.claim) 1 under.fixup (drop (under.at + 1) self.claim.fixups.now) }
+        ensures { Says result (SectionRuns (labels_claimed self.entry.claim) section under.fixup (drop (under.at + 1) self.entry.claim.fixups.now)) }
+    {
+        let next = u64::from(under.fixup.offset) + WORD;
+        if self.claim.adds(under.at + 1, next, Base::Section(section)) {
+            return self.long_runs_hold(under, section);
+        }
+        self.short_runs_hold(under, section)
+    }
+
+    /// Returns the same wherever the runs end.
+    fn long_runs_hold(self, under: TestedFixup, section: u32) -> bool
         requires { UnderTest self under }
         ensures { Says result (SectionRuns (labels_claimed self.entry.claim) section under.fixup (drop (under.at + 1) self.entry.claim.fixups.now)) }
     {
@@ -53,6 +66,26 @@ impl<'a> CheckedSuffix<'a> {
                 return false;
             }
             if !self.d_runs_hold(under, section, other, class) {
+                return false;
+            }
+        }
+        true
+    }
+
+    /// Returns the same if the next word doesn't add the section. The run of one word was tested as an addition alone.
+    fn short_runs_hold(self, under: TestedFixup, section: u32) -> bool
+        requires under { UnderTest self under }
+        requires alone { AllSingles (labels_claimed self.claim) 1 under.fixup (drop (under.at + 1) self.claim.fixups.now) }
+        requires stops { adds_first (under.fixup.offset + 4) (Section section) (drop (under.at + 1) self.claim.fixups.now) ≡ false }
+        ensures { Says result (SectionRuns (labels_claimed self.entry.claim) section under.fixup (drop (under.at + 1) self.entry.claim.fixups.now)) }
+    {
+        let class = class_of(self.claim.registers, section);
+        let classes = self.claim.classes();
+        for other in 0..classes {
+            if !self.c_pairs_hold(under, section, class, other) {
+                return false;
+            }
+            if !self.d_spaced_hold(under, section, other, class) {
                 return false;
             }
         }
@@ -86,6 +119,32 @@ impl<'a> CheckedSuffix<'a> {
         if !self.row_holds(tested, position, WORD, Base::Section(section)) {
             return false;
         }
+        self.row_holds(tested, position, 2 * WORD, Base::Section(section))
+    }
+
+    /// Tests a label in a state in which register C holds the section, and the next word doesn't add it.
+    fn c_pairs_hold(self, under: TestedFixup, section: u32, c: usize, d: usize) -> bool
+        requires under { UnderTest self under }
+        requires alone { AllSingles (labels_claimed self.claim) 1 under.fixup (drop (under.at + 1) self.claim.fixups.now) }
+        requires stops { adds_first (under.fixup.offset + 4) (Section section) (drop (under.at + 1) self.claim.fixups.now) ≡ false }
+        requires c { c ≡ class_of self.claim.registers.now section }
+        requires d { d < length self.claim.registers.now + 1 }
+        ensures { result ≡ runs_of_c (labels_claimed self.entry.claim) section under.fixup (drop (under.at + 1) self.entry.claim.fixups.now) c d }
+    {
+        self.second_holds(self.state(under, c, d), section)
+    }
+
+    /// Tests a label in a state in which register D holds the section, and the next word doesn't add it.
+    fn d_spaced_hold(self, under: TestedFixup, section: u32, c: usize, d: usize) -> bool
+        requires under { UnderTest self under }
+        requires alone { AllSingles (labels_claimed self.claim) 1 under.fixup (drop (under.at + 1) self.claim.fixups.now) }
+        requires stops { adds_first (under.fixup.offset + 4) (Section section) (drop (under.at + 1) self.claim.fixups.now) ≡ false }
+        requires c { c < length self.claim.registers.now + 1 }
+        requires d { d ≡ class_of self.claim.registers.now section }
+        ensures { result ≡ runs_of_d (labels_claimed self.entry.claim) section under.fixup (drop (under.at + 1) self.entry.claim.fixups.now) c d }
+    {
+        let tested = self.state(under, c, d);
+        let position = u64::from(under.fixup.offset);
         self.row_holds(tested, position, 2 * WORD, Base::Section(section))
     }
 

@@ -2,7 +2,7 @@ use Rattle.std.proofs.Common.{◌≡◌, ◌+◌, ◌<◌, ℕ, true, drop}
 use Rattle.pef_cert.specs.Kept.Claims.{labels_claimed}
 use Rattle.pef_cert.specs.Kept.Tests.{runs_of_c, runs_of_d}
 use Rattle.pef_cert.specs.Labels.{class_of}
-use Rattle.pef_cert.proofs.claim.CheckedSuffix.section_runs_hold.Given as goal
+use Rattle.pef_cert.proofs.claim.CheckedSuffix.long_runs_hold.Given as goal
 
 abbrev pub invariant-loop-other : goal.invariant-loop-other
 invariant-loop-other l = (x : ℕ) → x < l.other
