@@ -9,7 +9,7 @@ use byteorder::{BigEndian, ByteOrder};
 const MAX_DIGITS: usize = 6;
 
 /// How many bytes one load reads.
-pub const LOAD: usize = 8;
+pub(crate) const LOAD: usize = 8;
 
 /// A digit 0 and a space.
 const ZERO_AND_SPACE: u64 = 0x3020;
@@ -47,7 +47,7 @@ impl<'a> Head<'a> {
     /// Returns the head of the first word of a line, which spells a number, or this head if the word is too short or too
     /// long.
     #[inline(always)]
-    pub fn after(self, line: &'a [u8], word: &'a [u8], number: u32) -> Head<'a>
+    pub(crate) fn after(self, line: &'a [u8], word: &'a [u8], number: u32) -> Head<'a>
         requires long { 8 ≤ length line.now }
         requires begins { take (length word.now) line.now ≡ word.now }
         requires spells { decimal_number word.now ≡ Some number }
@@ -70,7 +70,7 @@ impl<'a> Head<'a> {
     /// Returns the number that the first word of a line spells, and what follows the space after it, if the word is this
     /// head and one more digit.
     #[inline(always)]
-    pub fn first_number<'l>(&self, line: &'l [u8]) -> Option<(u32, &'l [u8])>
+    pub(crate) fn first_number<'l>(&self, line: &'l [u8]) -> Option<(u32, &'l [u8])>
         requires { 8 ≤ length line.now }
         ensures { IfSome result (λ p. first_number (words_of line.entry.now) ≡ Some (p.0, words_of p.1.now)) }
     {
