@@ -5,6 +5,7 @@ mod FillLemmas
 mod Leading
 mod ImportLemmas
 mod LineLemmas
+mod LoweredLines
 mod ClimbedTests
 mod ClosedLabels
 mod CrossLemmas

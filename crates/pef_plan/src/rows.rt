@@ -1,4 +1,4 @@
-ghost use Rattle.std.specs.Prelude.{◌≡◌, ◌≢◌, ◌+◌, ◌*◌, ◌<◌, ◌≤◌, ◌⊎◌, ◌∷◌, ℕ, length, min, slice_index};
+ghost use Rattle.std.specs.Prelude.{◌≡◌, ◌≢◌, ◌+◌, ◌*◌, ◌^◌, ◌<◌, ◌≤◌, ◌⊎◌, ◌∷◌, ℕ, length, min, slice_index};
 ghost use Rattle.pef_cert.specs.Labels.{class_of};
 ghost use Rattle.pef_cert.specs.LabelTests.{import_cost};
 ghost use Rattle.pef_reloc.specs.declared.fixup.Base.TheVariants.{Import, Section};
@@ -6,12 +6,12 @@ ghost use Rattle.pef_plan.specs.Runs.Ends.{EndsAt};
 ghost use Rattle.pef_plan.specs.Runs.Places.{AtOf};
 ghost use Rattle.pef_plan.specs.Runs.Tables.{number_in, place_of};
 ghost use Rattle.pef_plan.specs.Kept.Near.{StepsBeside, StepsFrom, StepsOf};
-ghost use Rattle.pef_plan.specs.Kept.Rows.{Adds, AddsInBoth, AddsInC, ClosedOf, DirectRow, EachState, LeastOf, LowersIn, RowOf, SmallLine, TopsOf, state_of};
+ghost use Rattle.pef_plan.specs.Kept.Rows.{Adds, AddsInBoth, AddsInC, ClosedOf, DirectRow, EachState, LeastOf, LineLed, LowersIn, PairsInLine, RowOf, SmallLine, TopsOf, state_of};
 ghost use Rattle.pef_reloc.specs.Limits.{most_sections};
 
 use crate::direct::SMALL_IMPORTS;
-use crate::runs::{FixupState, OpenState, PlanState, Run, RunEnds, SolvedSuffix};
-use crate::section_runs::{Classed, LowValue, best_in_c, best_in_d};
+use crate::runs::{FixupState, OpenState, PlanState, Run, RunEnds, SolvedSuffix, line_of};
+use crate::section_runs::{Classed, LowValue, best_of_pairs};
 use pef_cert::class_of;
 use pef_reloc::Base;
 
@@ -19,6 +19,7 @@ use pef_reloc::Base;
 const MAX_CLASSES: usize = 17;
 
 /// Fills in the labels at a fixup from the tables of the fixups after it.
+#[inline(always)]
 pub(crate) fn fill_labels(
     known: SolvedSuffix<'_>,
     at: FixupState<'_>,
@@ -44,6 +45,7 @@ pub(crate) fn fill_labels(
 /// Fills in the labels at a fixup that has a section. A run can begin only if a register holds the section: in one
 /// line and one column of the row. If no run is better than one addition, the values of one addition are already
 /// the labels, because a change of registers changes the extension by at most 1.
+#[inline(always)]
 fn fill_section(
     known: SolvedSuffix<'_>,
     at: FixupState<'_>,
@@ -70,6 +72,7 @@ fn fill_section(
 
 /// Lowers the numbers in the line with the section in register C to the values of runs. Returns by how much
 /// in total.
+#[inline(always)]
 fn lower_in_c(
     known: SolvedSuffix<'_>,
     at: FixupState<'_>,
@@ -87,20 +90,88 @@ fn lower_in_c(
     ensures each { EachState known.entry at.entry (λ h value. AddsInC known.entry h of.section value) row.new }
     ensures lowers { LowersIn (length known.entry.registers.now + 1) (λ c d. c ≡ of.class) row.old row.new result }
 {
+    let mut room = [0; MAX_CLASSES];
+    let line = &mut room[..known.classes()];
+    copy_line(row, known.classes(), of.class, line);
+    ends.lower_in_c(line);
+    lower_by_pairs(known, at, ends, of, line);
+    put_line(known, of.class, line, row)
+}
+
+/// Copies the numbers of a row with register C in a class, by the class of D.
+#[inline(always)]
+fn copy_line(row: &[u32], classes: usize, class: usize, line: &mut [u32])
+    requires class { class < classes }
+    requires row { length row.now ≡ classes * classes }
+    requires line { length line.old ≡ classes }
+    ensures len { length line.new ≡ classes }
+    ensures are { (d : ℕ) → d < classes → slice_index line.new d ≡ number_in classes row.now class d }
+{
+    let numbers = line_of(row, classes, class);
+    'classes: for d in 0..line.len() {
+        line[d] = numbers[d];
+    }
+}
+
+/// Lowers the number of a line with the section in register C and the next fixup's section in register D to the values
+/// of runs of pairs.
+fn lower_by_pairs(
+    known: SolvedSuffix<'_>,
+    at: FixupState<'_>,
+    ends: &RunEnds,
+    of: Classed,
+    line: &mut [u32],
+)
+    requires at { AtOf known at }
+    requires base { at.first.base ≡ Section of.section }
+    requires class { class_of known.registers.now of.section ≡ of.class }
+    requires ends { EndsAt known at.others.now (at.first ∷ at.others.now) ends.now }
+    requires line { length line.old ≡ length known.registers.now + 1 }
+    requires led { LineLed known at of.class line.old }
+    ensures len { length line.new ≡ length line.old }
+    ensures lower { (d : ℕ) → d < length line.old → slice_index line.new d ≤ slice_index line.old d }
+    ensures led { LineLed known.entry at.entry of.class line.new }
+    ensures pairs { PairsInLine known.entry at.entry of.section of.class line.new }
+{
+    let Some((next, _)) = at.others.split_first() else {
+        return;
+    };
+    let Base::Section(second) = next.base else {
+        return;
+    };
+    let d = class_of(known.registers, second);
+    let here = at_classes(at, of.class, d);
+    let value = u64::from(line[d]);
+    let best = best_of_pairs(known, here, (of.section, second), LowValue { value, ends });
+    line[d] = best.value as u32;
+}
+
+/// Writes a line of numbers to the row with register C in a class. They are no greater than those that were there. Returns
+/// by how much they are less in total.
+#[inline(always)]
+fn put_line(known: SolvedSuffix<'_>, class: usize, line: &[u32], row: &mut [u32]) -> u64
+    requires few { length known.registers.now ≤ most_sections }
+    requires class { class < length known.registers.now + 1 }
+    requires line { length line.now ≡ length known.registers.now + 1 }
+    requires row { length row.old ≡ (length known.registers.now + 1) * (length known.registers.now + 1) }
+    requires small { (d : ℕ) → d < length known.registers.now + 1 → number_in (length known.registers.now + 1) row.old class d < 2 ^ 32 }
+    requires less { (d : ℕ) → d < length known.registers.now + 1 → slice_index line.now d ≤ number_in (length known.registers.now + 1) row.old class d }
+    ensures len { length row.new ≡ length row.old }
+    ensures are { (d : ℕ) → d < length known.entry.registers.now + 1 → number_in (length known.entry.registers.now + 1) row.new class d ≡ slice_index line.now d }
+    ensures lowers { LowersIn (length known.entry.registers.now + 1) (λ c d. c ≡ class) row.old row.new result }
+{
     let mut saved = 0;
-    'classes: for d in 0..known.classes() {
-        let place = known.place(of.class, d);
-        let here = at_classes(at, of.class, d);
-        let value = u64::from(row[place]);
-        let low = best_in_c(known, here, of, LowValue { value, ends }).value;
-        row[place] = low as u32;
-        saved += value - low;
+    'classes: for d in 0..line.len() {
+        let place = known.place(class, d);
+        saved += u64::from(row[place] - line[d]);
+        row[place] = line[d];
     }
     saved
 }
 
 /// Lowers the numbers in the column with the section in register D to the values of runs. Returns by how much
 /// in total.
+#[inline(always)]
 fn lower_in_d(
     known: SolvedSuffix<'_>,
     at: FixupState<'_>,
@@ -118,14 +189,32 @@ fn lower_in_d(
     ensures each { EachState known.entry at.entry (λ h value. AddsInBoth known.entry h of.section value) row.new }
     ensures lowers { LowersIn (length known.entry.registers.now + 1) (λ c d. d ≡ of.class) row.old row.new result }
 {
+    let mut room = [0; MAX_CLASSES];
+    let column = &mut room[..known.classes()];
+    known.copy_column(row, of.class, column);
+    ends.lower_in_d(column);
+    put_column(known, of.class, column, row)
+}
+
+/// Writes a column of numbers to the row with register D in a class. They are no greater than those that were there. Returns
+/// by how much they are less in total.
+#[inline(always)]
+fn put_column(known: SolvedSuffix<'_>, class: usize, column: &[u32], row: &mut [u32]) -> u64
+    requires few { length known.registers.now ≤ most_sections }
+    requires class { class < length known.registers.now + 1 }
+    requires column { length column.now ≡ length known.registers.now + 1 }
+    requires row { length row.old ≡ (length known.registers.now + 1) * (length known.registers.now + 1) }
+    requires small { (c : ℕ) → c < length known.registers.now + 1 → number_in (length known.registers.now + 1) row.old c class < 2 ^ 32 }
+    requires less { (c : ℕ) → c < length known.registers.now + 1 → slice_index column.now c ≤ number_in (length known.registers.now + 1) row.old c class }
+    ensures len { length row.new ≡ length row.old }
+    ensures are { (c : ℕ) → c < length known.entry.registers.now + 1 → number_in (length known.entry.registers.now + 1) row.new c class ≡ slice_index column.now c }
+    ensures lowers { LowersIn (length known.entry.registers.now + 1) (λ c d. d ≡ class) row.old row.new result }
+{
     let mut saved = 0;
-    'classes: for c in 0..known.classes() {
-        let place = known.place(c, of.class);
-        let here = at_classes(at, c, of.class);
-        let value = u64::from(row[place]);
-        let low = best_in_d(known, here, of, LowValue { value, ends }).value;
-        row[place] = low as u32;
-        saved += value - low;
+    'classes: for c in 0..column.len() {
+        let place = known.place(c, class);
+        saved += u64::from(row[place] - column[c]);
+        row[place] = column[c];
     }
     saved
 }
@@ -220,33 +309,8 @@ pub(crate) fn at_classes<'a>(at: FixupState<'a>, c: usize, d: usize) -> OpenStat
 
 /// Replaces each direct value by the least over all classes, with 1 added for each register that changes. Runs
 /// lowered the values only in the line and the column of a class.
-///
-/// The loops are unrolled for up to 9 classes, which are those of 8 sections.
-fn close_cross(row: &mut [u32], classes: usize, class: usize)
-    requires few { classes ≤ most_sections + 1 }
-    requires class { class < classes }
-    requires row { length row.old ≡ classes * classes }
-    requires small { SmallLine (length row.old) row.old }
-    requires steps { StepsBeside classes class row.old }
-    ensures len { length row.new ≡ length row.old }
-    ensures closed { ClosedOf classes row.old row.new }
-{
-    match classes {
-        2 => close_around(row, 2, class),
-        3 => close_around(row, 3, class),
-        4 => close_around(row, 4, class),
-        5 => close_around(row, 5, class),
-        6 => close_around(row, 6, class),
-        7 => close_around(row, 7, class),
-        8 => close_around(row, 8, class),
-        9 => close_around(row, 9, class),
-        _ => close_around(row, classes, class),
-    }
-}
-
-/// Closes a row around a class, as [`close_cross`] does. It is inlined with a known number of classes.
 #[inline(always)]
-fn close_around(row: &mut [u32], classes: usize, class: usize)
+fn close_cross(row: &mut [u32], classes: usize, class: usize)
     requires few { classes ≤ most_sections + 1 }
     requires class { class < classes }
     requires row { length row.old ≡ classes * classes }

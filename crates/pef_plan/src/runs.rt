@@ -11,6 +11,7 @@ mod state;
 mod suffix;
 
 pub use ends::RunEnds;
+pub(crate) use ends::line_of;
 pub use near::PlacedRow;
 pub use run::Run;
 pub use state::{Choice, FixupState, NearRows, OpenState, PlanState, Sought, Step};

@@ -143,7 +143,7 @@ pub(crate) fn best_in_d<'a, B: Best<'a>>(
 
 /// Returns the better of an instruction and the runs of pairs of a section in register C and one in D.
 #[tactic(auto, using(crate::proofs::RunTests::pairs_met))]
-fn best_of_pairs<'a, B: Best<'a>>(
+pub(crate) fn best_of_pairs<'a, B: Best<'a>>(
     known: SolvedSuffix<'a>,
     here: OpenState<'a>,
     sections: (u32, u32),

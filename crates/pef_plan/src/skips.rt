@@ -14,6 +14,7 @@ use pef_cert::{WORD, class_of};
 use pef_reloc::{Base, Instr};
 
 /// Fills in the least skips at a fixup, by the class of register C.
+#[inline(always)]
 pub(crate) fn fill_skips(
     known: SolvedSuffix<'_>,
     at: FixupState<'_>,
@@ -33,6 +34,7 @@ pub(crate) fn fill_skips(
 }
 
 /// Fills the least skips of a fixup that has a section.
+#[inline(always)]
 fn fill_section(
     known: SolvedSuffix<'_>,
     at: FixupState<'_>,

@@ -1,4 +1,4 @@
-ghost use Rattle.std.specs.Prelude.{◌≡◌, ◌+◌, ◌<◌, ◌∷◌, IfOk, drop, length, take, true};
+ghost use Rattle.std.specs.Prelude.{◌≡◌, ◌+◌, ◌<◌, ◌⊎◌, ◌∷◌, IfOk, drop, length, take, true};
 ghost use Rattle.pef_cert.specs.Valid.{RegistersOf};
 ghost use Rattle.pef_plan.specs.Kept.Tables.{IndicesOf, TablesOf};
 ghost use Rattle.pef_reloc.specs.Deliveries.{index_after, index_past};
@@ -22,6 +22,8 @@ pub(crate) struct Tables {
 }
 
 /// Returns the tables of all fixups. They are filled from the last fixup to the first.
+///
+/// The loops over classes are unrolled for up to 8 registers.
 pub(crate) fn fill(
     alloc: Global,
     fixups: &[Fixup],
@@ -32,6 +34,32 @@ pub(crate) fn fill(
     requires registers { RegistersOf fixups.now registers.now }
     ensures { IfOk result (λ t. TablesOf registers.now t.labels t.skips 0 fixups.now) }
 {
+    match registers.len() {
+        1 => fill_counted::<1>(alloc, fixups, registers, looks),
+        2 => fill_counted::<2>(alloc, fixups, registers, looks),
+        3 => fill_counted::<3>(alloc, fixups, registers, looks),
+        4 => fill_counted::<4>(alloc, fixups, registers, looks),
+        5 => fill_counted::<5>(alloc, fixups, registers, looks),
+        6 => fill_counted::<6>(alloc, fixups, registers, looks),
+        7 => fill_counted::<7>(alloc, fixups, registers, looks),
+        8 => fill_counted::<8>(alloc, fixups, registers, looks),
+        _ => fill_counted::<0>(alloc, fixups, registers, looks),
+    }
+}
+
+/// Returns the tables, as [`fill`] does. There are `N` registers, or any number of them if `N` is 0.
+fn fill_counted<const N: usize>(
+    alloc: Global,
+    fixups: &[Fixup],
+    registers: &[u32],
+    looks: Looks<'_>,
+) -> Result<Tables, AllocError>
+    requires fit { fixups_fit fixups.now ≡ true }
+    requires registers { RegistersOf fixups.now registers.now }
+    requires count { (N ≡ 0) ⊎ (length registers.now ≡ N) }
+    ensures { IfOk result (λ t. TablesOf registers.now t.labels t.skips 0 fixups.now) }
+{
+    let registers = counted::<N>(registers);
     let classes = registers.len() + 1;
     let indices = import_indices(alloc, fixups)?;
     let mut labels = LabelRows::new(alloc, classes * classes);
@@ -58,6 +86,21 @@ pub(crate) fn fill(
         skips.push(&line)?;
     }
     Ok(Tables { labels, skips })
+}
+
+/// Returns the same registers. The compiler knows then that there are `N`, unless `N` is 0.
+#[inline(always)]
+fn counted<const N: usize>(registers: &[u32]) -> &[u32]
+    requires { (N ≡ 0) ⊎ (length registers.now ≡ N) }
+    ensures { result.now ≡ registers.now }
+{
+    if N == 0 {
+        return registers;
+    }
+    match registers.first_chunk::<N>() {
+        Some(all) => all,
+        None => unreachable!(),
+    }
 }
 
 /// Returns the state at the fixup with index `at`. The next import has the index `import_index`.

@@ -13,7 +13,7 @@ use Rattle.pef_plan.specs.Runs.Runs.{EndAmong, EndOf, Ends, EndsFrom, Holds, Nex
 use Rattle.pef_plan.specs.Runs.Ends.{EndRows, EndsAt, FarPairsAt, FarPairsKept, Holding, ImportsAt, ImportsKept, PairsAt, PairsKept, SpacedAt, SpacedKept, WordsOfCAt, WordsOfCKept, WordsOfDAt, WordsOfDKept, place_in, window_of}
 use Rattle.pef_plan.specs.Runs.Places.{HereOf, Led}
 use Rattle.pef_plan.specs.Runs.Tables.{Agrees, place_of}
-use Rattle.pef_plan.specs.Windows.Windows.{BestOf, IsOne, WindowOf, Windowed}
+use Rattle.pef_plan.specs.Windows.Windows.{BestOf, Bests, IsOne, Windowed}
 use Rattle.pef_plan.proofs.RunsProofs.EndLemmas.{as_c, as_d, as_far, as_pairs, as_skip, as_spaced, best-led, best_end, best_ends, end_as, ends_as}
 use Rattle.pef_plan.proofs.WindowsProofs.WindowLemmas.{each-lower}
 use Rattle.pef_plan.proofs.RunsProofs.PlaceLemmas.{place_under}
@@ -48,10 +48,6 @@ run_best k h r kept m first value i all here at of same wide rows best = record 
         (end_as l kept r (limit r) (h.first ∷ h.others.now) h.first.offset m h.place.import_index h.place.c h.place.d value same wide
         (best_end l kept value (limit r) (h.first ∷ h.others.now) h.first.offset m h.place.c h.place.d i all (rows l agrees) one)))
 
--- a window's best value at a place of its rows is the best of a run
-abbrev pub Bests : Windowed → ℕ → ℕ → ℕ → Type 0
-Bests w i first value = (width limit : ℕ) (rows : List (List ℕ)) → WindowOf width limit rows w → BestOf first rows i value
-
 under_c : (l : Labels) (k : SolvedSuffix) (h : OpenState) → HereOf k h → Agrees l k h.others.now → h.place.c < classes l
 under_c l k h here agrees = let e = ap length agrees.same.registers_are in let u = here.c in omega (arith, e, u)
 
@@ -70,13 +66,13 @@ import_rows k h import rows l here base agrees kept =
     subst (λ (n : ℕ). EndRows l Imports 512 (h.first ∷ h.others.now) h.first.offset import h.place.c h.place.d (place_of n h.place.c h.place.d) rows) (same_classes l k h agrees)
     (subst (λ (b : Base). ImportsAt l h.first.offset (h.first ∷ h.others.now) rows b) base kept h.place.c h.place.d (under_c l k h here agrees) (under_d l k h here agrees))
 
-words_c_best : (k : SolvedSuffix) (h : OpenState) (section first value : ℕ) (w : Windowed) → HereOf k h → h.place.position ≡ h.first.offset → RunOf k.registers.now (WordsOfC section) h.place h.place.position → h.first.base ≡ Section section → Holding (λ l. Agrees l k h.others.now) (length k.registers.now + 1) 512 (λ l rows. WordsOfCKept l (h.first ∷ h.others.now) rows) w → Bests w h.place.d first value → RunBest k h (WordsOfC section) first value
+pub words_c_best : (k : SolvedSuffix) (h : OpenState) (section first value : ℕ) (w : Windowed) → HereOf k h → h.place.position ≡ h.first.offset → RunOf k.registers.now (WordsOfC section) h.place h.place.position → h.first.base ≡ Section section → Holding (λ l. Agrees l k h.others.now) (length k.registers.now + 1) 512 (λ l rows. WordsOfCKept l (h.first ∷ h.others.now) rows) w → Bests w h.place.d first value → RunBest k h (WordsOfC section) first value
 words_c_best k h section first value w here at of base held bests =
     run_best k h (WordsOfC section) (WordsOfD section) 0 first value h.place.d held.rows here at of (as_c section h.first.offset h.place.import_index) refl
     (λ l agrees. subst (λ (b : Base). WordsOfCAt l h.first.offset (h.first ∷ h.others.now) held.rows b) base (held.kept l agrees) h.place.c h.place.d (held_class l k h section h.place.c agrees of.0) (under_d l k h here agrees))
     (bests (length k.registers.now + 1) 512 held.rows held.is)
 
-words_d_best : (k : SolvedSuffix) (h : OpenState) (section first value : ℕ) (w : Windowed) → HereOf k h → h.place.position ≡ h.first.offset → RunOf k.registers.now (WordsOfD section) h.place h.place.position → h.first.base ≡ Section section → Holding (λ l. Agrees l k h.others.now) (length k.registers.now + 1) 512 (λ l rows. WordsOfDKept 512 l (h.first ∷ h.others.now) rows) w → Bests w h.place.c first value → RunBest k h (WordsOfD section) first value
+pub words_d_best : (k : SolvedSuffix) (h : OpenState) (section first value : ℕ) (w : Windowed) → HereOf k h → h.place.position ≡ h.first.offset → RunOf k.registers.now (WordsOfD section) h.place h.place.position → h.first.base ≡ Section section → Holding (λ l. Agrees l k h.others.now) (length k.registers.now + 1) 512 (λ l rows. WordsOfDKept 512 l (h.first ∷ h.others.now) rows) w → Bests w h.place.c first value → RunBest k h (WordsOfD section) first value
 words_d_best k h section first value w here at of base held bests =
     run_best k h (WordsOfD section) (WordsOfD section) 0 first value h.place.c held.rows here at of (as_d section h.first.offset h.place.import_index) refl
     (λ l agrees. subst (λ (b : Base). WordsOfDAt 512 l h.first.offset (h.first ∷ h.others.now) held.rows b) base (held.kept l agrees) h.place.c h.place.d (under_c l k h here agrees) (held_class l k h section h.place.d agrees of.0))
@@ -88,7 +84,7 @@ skips_best k h words section first value w here at of base holds held bests =
     (λ l agrees. subst (λ (b : Base). WordsOfDAt 63 l h.first.offset (h.first ∷ h.others.now) held.rows b) base (held.kept l agrees) h.place.c h.place.d (under_c l k h here agrees) (held_class l k h section h.place.d agrees holds))
     (bests (length k.registers.now + 1) 63 held.rows held.is)
 
-spaced_best : (k : SolvedSuffix) (h : OpenState) (section first value : ℕ) (w : Windowed) → HereOf k h → h.place.position ≡ h.first.offset → RunOf k.registers.now (Spaced section) h.place h.place.position → h.first.base ≡ Section section → Holds k.registers.now section h.place.d → Holding (λ l. Agrees l k h.others.now) (length k.registers.now + 1) 512 (λ l rows. SpacedKept l (h.first ∷ h.others.now) rows) w → Bests w h.place.c first value → RunBest k h (Spaced section) first value
+pub spaced_best : (k : SolvedSuffix) (h : OpenState) (section first value : ℕ) (w : Windowed) → HereOf k h → h.place.position ≡ h.first.offset → RunOf k.registers.now (Spaced section) h.place h.place.position → h.first.base ≡ Section section → Holds k.registers.now section h.place.d → Holding (λ l. Agrees l k h.others.now) (length k.registers.now + 1) 512 (λ l rows. SpacedKept l (h.first ∷ h.others.now) rows) w → Bests w h.place.c first value → RunBest k h (Spaced section) first value
 spaced_best k h section first value w here at of base holds held bests =
     run_best k h (Spaced section) (Spaced section) 0 first value h.place.c held.rows here at of (as_spaced section h.first.offset h.place.import_index) refl
     (λ l agrees. subst (λ (b : Base). SpacedAt l h.first.offset (h.first ∷ h.others.now) held.rows b) base (held.kept l agrees) h.place.c h.place.d (under_c l k h here agrees) (held_class l k h section h.place.d agrees holds))

@@ -5,7 +5,7 @@ use Rattle.pef_cert.specs.Labels.{Labels, class_of}
 use Rattle.pef_cert.specs.Extension.{extension, skips_at}
 use Rattle.pef_cert.specs.Feasible.{AtFixup}
 use Rattle.pef_reloc.specs.declared.fixup.Base.TheVariants.{Section}
-use Rattle.pef_cert.specs.LabelTests.{base_test}
+use Rattle.pef_cert.specs.LabelTests.{base_test, second_test}
 use Rattle.pef_plan.specs.declared.runs.suffix.SolvedSuffix.{SolvedSuffix}
 use Rattle.pef_plan.specs.declared.runs.state.FixupState.{FixupState}
 use Rattle.pef_plan.specs.declared.runs.state.OpenState.{OpenState}
@@ -52,6 +52,14 @@ pub record AddsInC (k : SolvedSuffix) (h : OpenState) (section value : ℕ) : Ty
 pub record AddsInBoth (k : SolvedSuffix) (h : OpenState) (section value : ℕ) : Type 0 where
   pub first : AddsInC k h section value
   pub in_d : (l : Labels) (n : ℕ) → Agrees l k h.others.now → n ≤ value → (class_of l.registers section == h.place.d) ≡ true → MetInD l h section n
+
+-- from the states with register C in a class, an instruction leads on within the numbers of a line, by the class of D
+abbrev pub LineLed : SolvedSuffix → FixupState → ℕ → List ℕ → Type 0
+LineLed k a class line = (d : ℕ) → d < length k.registers.now + 1 → Led k (state_of a class d) (slice_index line d)
+
+-- the numbers are at most those of the runs of pairs that begin with a section in that class
+abbrev pub PairsInLine : SolvedSuffix → FixupState → ℕ → ℕ → List ℕ → Type 0
+PairsInLine k a section class line = (d : ℕ) → d < length k.registers.now + 1 → (l : Labels) (n : ℕ) → Agrees l k a.others.now → n ≤ slice_index line d → second_test l n section class d a.first a.others.now ≡ true
 
 -- numbers of a row were lowered in some places only, by so much in total
 pub record LowersIn (count : ℕ) (In : ℕ → ℕ → Type 0) (old new : List ℕ) (saved : ℕ) : Type 0 where

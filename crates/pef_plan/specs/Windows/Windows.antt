@@ -73,6 +73,16 @@ pub record BestOf (first : ℕ) (rows : List (List ℕ)) (i value : ℕ) : Type 
   pub each : AtMostEach 1 value rows i
   pub one : (value ≡ first) ⊎ IsOne 1 value rows i
 
+-- a value is the least of a first one and, for each row of a window, 1 plus the row's number at a place
+abbrev pub Bests : Windowed → ℕ → ℕ → ℕ → Type 0
+Bests w i first value = (width limit : ℕ) (rows : List (List ℕ)) → WindowOf width limit rows w → BestOf first rows i value
+
+-- the same for the rows of two windows
+pub record BestsOfTwo (w v : Windowed) (i first value : ℕ) : Type 0 where
+  pub between : ℕ
+  pub one : Bests w i first between
+  pub other : Bests v i between value
+
 -- the rows of a window that was moved to a place. There one begins, and is followed by the first of the others
 -- if the run goes on
 abbrev pub rows_brought : Bool → ℕ → List (List ℕ) → List ℕ → List (List ℕ)

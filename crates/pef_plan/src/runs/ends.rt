@@ -6,7 +6,7 @@ ghost use Rattle.pef_plan.specs.Runs.Runs.{EndOf, Ends, RunBegins, RunOf, stride
 ghost use Rattle.pef_plan.specs.Runs.Ends.{Begins, ColumnAt, EndsAt, EndsOf, FarAt, GoesOnAfter, GoesOnMaybe, NearKept, NearSmall, PairAfter, WordEnds, far_pairs_run, pairs_run, place_in, sections_of, window_of};
 ghost use Rattle.pef_plan.specs.Runs.Tables.{Agrees, number_in, place_of};
 ghost use Rattle.pef_plan.specs.declared.runs.run.Run.TheVariants.{Pairs, SpacedPairs};
-ghost use Rattle.pef_plan.specs.Windows.Windows.{BestOf, WindowOf, rows_moved};
+ghost use Rattle.pef_plan.specs.Windows.Windows.{BestOf, Bests, BestsOfTwo, WindowOf, rows_moved};
 ghost use Rattle.pef_reloc.specs.declared.fixup.Base.TheVariants.{Section};
 ghost use Rattle.pef_reloc.specs.Limits.{most_sections};
 
@@ -110,6 +110,7 @@ impl RunEnds {
     }
 
     /// Fills in a cost plus the extension right after the fixup, for each pair of classes.
+    #[inline(always)]
     pub fn fill_alone(&self, cost: u32, row: &mut [u32])
         requires row { length row.old ≡ length self.now.near.items }
         requires small { (i : ℕ) → i < length row.old → cost + slice_index self.now.near.items i < 2 ^ 32 }
@@ -124,6 +125,7 @@ impl RunEnds {
 
     /// Fills in the least values of a skip that adds at the fixup, by the class of register C. Register D is in the
     /// class of the fixup's section.
+    #[inline(always)]
     pub fn fill_skips(&self, known: SolvedSuffix<'_>, class: usize, skips: &mut [u32])
         requires few { length known.registers.now ≤ most_sections }
         requires class { class < length known.registers.now + 1 }
@@ -141,11 +143,36 @@ impl RunEnds {
         self.words.skips.lower(skips);
     }
 
+    /// Lowers the numbers of a line, by the class of register D, to the values of runs of words of the section that register C
+    /// holds.
+    #[inline(always)]
+    pub fn lower_in_c(&self, line: &mut [u32])
+        requires width { self.now.words.in_c.width ≡ length line.old }
+        ensures len { length line.new ≡ length line.old }
+        ensures best { (d : ℕ) → d < length line.old → Bests self.now.words.in_c d (slice_index line.old d) (slice_index line.new d) }
+    {
+        self.words.in_c.lower(line);
+    }
+
+    /// Lowers the numbers of a column, by the class of register C, to the values of runs of words, and of words a word apart, of
+    /// the section that register D holds.
+    #[inline(always)]
+    pub fn lower_in_d(&self, column: &mut [u32])
+        requires in_d { self.now.words.in_d.width ≡ length column.old }
+        requires spaced { self.now.words.spaced.width ≡ length column.old }
+        ensures len { length column.new ≡ length column.old }
+        ensures best { (c : ℕ) → c < length column.old → BestsOfTwo self.now.words.in_d self.now.words.spaced c (slice_index column.old c) (slice_index column.new c) }
+    {
+        self.words.in_d.lower(column);
+        self.words.spaced.lower(column);
+    }
+
     /// Moves the windows to the previous fixup, whose tables are not filled yet.
     ///
     /// # Errors
     ///
     /// `AllocError`, if an allocation failed. The windows then belong to no fixup.
+    #[inline(always)]
     pub fn pass(&mut self, known: SolvedSuffix<'_>, at: FixupState<'_>) -> Result<(), AllocError>
         requires at { AtOf known at }
         requires ends { EndsAt known at.others.now at.others.now self.old }
@@ -156,6 +183,7 @@ impl RunEnds {
         self.far_pairs
             .pass(pair.far_on, pair.far_after, known.looks)?;
         known.fill_after(at, &mut self.near);
+        known.looks.add(self.near.len() as u64);
         match at.first.base {
             Base::Section(section) => {
                 self.pass_section(known, at, section)?;
@@ -163,6 +191,7 @@ impl RunEnds {
             }
             Base::Import(import) => {
                 let imports = goes_on(Run::Imports, at, u64::from(import) + 1);
+                known.looks.add(self.near.len() as u64);
                 self.imports.bring(imports, &self.near, known.looks)?;
                 Ok(())
             }
@@ -170,6 +199,7 @@ impl RunEnds {
     }
 
     /// Moves the windows of runs that begin only at a fixup with a section.
+    #[inline(always)]
     fn pass_section(
         &mut self,
         known: SolvedSuffix<'_>,
@@ -194,21 +224,28 @@ impl RunEnds {
         ensures ends { OnOk result (WordEnds (λ l. Agrees l known.entry at.entry.others.now) (length known.entry.registers.now + 1) (at.entry.first ∷ at.entry.others.now) self.new.words) }
     {
         let looks = known.looks;
+        let classes = known.classes();
+        // At the extensions further on, and at the rows of four windows.
+        looks.add(5 * classes as u64);
         let class = class_of(known.registers, section);
         known.copy_column(&self.near, class, &mut self.column);
-        fill_far(known, at, section, &self.column, &mut self.far);
+        let column = all_of(&self.column, classes);
+        fill_far(known, at, section, column, &mut self.far);
         let words = goes_on(Run::WordsOfD(section), at, 0);
         self.words
             .in_c
-            .bring(words, line_of(&self.near, known.classes(), class), looks)?;
-        self.words.in_d.bring(words, &self.column, looks)?;
-        self.words.skips.bring(words, &self.column, looks)?;
+            .bring(words, line_of(&self.near, classes, class), looks)?;
+        self.words.in_d.bring(words, column, looks)?;
+        self.words.skips.bring(words, column, looks)?;
         let spaced = goes_on(Run::Spaced(section), at, 0);
-        self.words.spaced.bring(spaced, &self.far, looks)?;
+        self.words
+            .spaced
+            .bring(spaced, all_of(&self.far, classes), looks)?;
         Ok(())
     }
 
     /// Returns the pair of a fixup and the next one.
+    #[inline(always)]
     fn pair_at(&self, known: SolvedSuffix<'_>, at: FixupState<'_>) -> FirstPair
         requires at { AtOf known at }
         requires ends { EndsAt known at.others.now at.others.now self.now }
@@ -364,7 +401,10 @@ fn bring_if_any(
     ensures { OnOk result ((width limit : ℕ) (rows : List (List ℕ)) → WindowOf width limit rows window.old → WindowOf width limit (rows_moved goes_on limit rows (number ∷ [])) window.new) }
 {
     match goes_on {
-        Some(goes_on) => window.bring(goes_on, &[number], looks),
+        Some(goes_on) => {
+            looks.add(1);
+            window.bring(goes_on, &[number], looks)
+        }
         None => {
             window.clear();
             Ok(())
@@ -383,6 +423,7 @@ fn goes_on(run: Run, at: FixupState<'_>, import: u64) -> bool
 
 /// Fills in the extension one word further on with the fixup's section in register D, by the class of C. The
 /// column has the extension right after the fixup.
+#[inline(always)]
 fn fill_far(
     known: SolvedSuffix<'_>,
     at: FixupState<'_>,
@@ -401,7 +442,6 @@ fn fill_far(
 {
     if begin_at(at.others, u64::from(at.first.offset) + WORD) {
         // The position is past the next fixup, so moving back to it costs two halfwords.
-        known.looks.add(far.len() as u64);
         fill_past(column, far);
     } else {
         known.fill_beyond(at, section, far);
@@ -409,19 +449,30 @@ fn fill_far(
 }
 
 /// Fills in the extensions past the next fixup, from those at the fixup.
+#[inline(always)]
 fn fill_past(column: &[u32], past: &mut [u32])
     requires len { length column.now ≡ length past.old }
     requires small { (c : ℕ) → c < length column.now → 2 + slice_index column.now c < 2 ^ 32 }
     ensures len { length past.new ≡ length past.old }
     ensures are { (c : ℕ) → c < length past.old → slice_index past.new c ≡ 2 + slice_index column.now c }
 {
-    'classes: for c in 0..past.len() {
+    'classes: for c in 0..column.len() {
         past[c] = 2 + column[c];
     }
 }
 
+/// Returns the same numbers. The compiler knows then how many there are.
+#[inline(always)]
+fn all_of(numbers: &[u32], count: usize) -> &[u32]
+    requires { length numbers.now ≡ count }
+    ensures { result.now ≡ numbers.now }
+{
+    &numbers[..count]
+}
+
 /// Returns the numbers of a row with register C in a class, by the class of D.
-fn line_of(row: &[u32], classes: usize, class: usize) -> &[u32]
+#[inline(always)]
+pub(crate) fn line_of(row: &[u32], classes: usize, class: usize) -> &[u32]
     requires class { class < classes }
     requires row { length row.now ≡ classes * classes }
     ensures len { length result.now ≡ classes }

@@ -41,6 +41,7 @@ pub struct LabelledSuffix<'a> {
 
 impl<'a> SolvedSuffix<'a> {
     /// Returns the number of classes of sections, one more than the number of `registers`.
+    #[inline(always)]
     pub fn classes(self) -> usize
         requires { length self.registers.now ≤ most_sections }
         ensures { result ≡ length self.entry.registers.now + 1 }
@@ -137,6 +138,7 @@ impl<'a> SolvedSuffix<'a> {
     }
 
     /// Fills in the extension right after a fixup, for each pair of classes.
+    #[inline(always)]
     pub fn fill_after(self, at: FixupState<'a>, near: &mut [u32])
         requires at { AtOf self at }
         requires len { length near.old ≡ (length self.registers.now + 1) * (length self.registers.now + 1) }
@@ -147,7 +149,6 @@ impl<'a> SolvedSuffix<'a> {
         let position = u64::from(at.first.offset) + WORD;
         let row = self.row(at.others.len());
         if begin_at(at.others, position) {
-            self.looks.add(row.len() as u64);
             near.copy_from_slice(row);
         } else {
             self.fill_values(
@@ -162,6 +163,7 @@ impl<'a> SolvedSuffix<'a> {
     }
 
     /// Fills in the extension at a position that has none of these fixups, for each pair of classes.
+    #[inline(always)]
     fn fill_values(self, at: LabelledSuffix<'a>, values: &mut [u32])
         requires row { IsRow self (length at.rest.now) at.row.now }
         requires shaped { Shaped self (length at.rest.now) }
@@ -170,7 +172,6 @@ impl<'a> SolvedSuffix<'a> {
         ensures len { length values.new ≡ length values.old }
         ensures are { (c d : ℕ) → c < length self.entry.registers.now + 1 → d < length self.entry.registers.now + 1 → ValueIs self.entry at.entry.rest.now at.entry.position c d (number_in (length self.entry.registers.now + 1) values.new c d) }
     {
-        self.looks.add(values.len() as u64);
         match self.ahead(at) {
             Some(ahead) => fill_ahead(ahead, self.classes(), values),
             None => values.fill(0),
@@ -178,6 +179,7 @@ impl<'a> SolvedSuffix<'a> {
     }
 
     /// Fills in the extension one word further on with the fixup's section in register D, by the class of C.
+    #[inline(always)]
     pub fn fill_beyond(self, at: FixupState<'a>, section: u32, far: &mut [u32])
         requires at { AtOf self at }
         requires base { at.first.base ≡ Section section }
@@ -189,7 +191,6 @@ impl<'a> SolvedSuffix<'a> {
         let row = self.row(at.others.len());
         let class = class_of(self.registers, section);
         if begin_at(at.others, position) {
-            self.looks.add(far.len() as u64);
             self.copy_column(row, class, far);
         } else {
             self.fill_column(
@@ -206,6 +207,7 @@ impl<'a> SolvedSuffix<'a> {
 
     /// Fills in the extension at a position that has none of these fixups. Register D is in a class, and the
     /// numbers are by the class of C.
+    #[inline(always)]
     fn fill_column(self, at: LabelledSuffix<'a>, class: usize, values: &mut [u32])
         requires row { IsRow self (length at.rest.now) at.row.now }
         requires shaped { Shaped self (length at.rest.now) }
@@ -215,7 +217,6 @@ impl<'a> SolvedSuffix<'a> {
         ensures len { length values.new ≡ length values.old }
         ensures are { (c : ℕ) → c < length self.entry.registers.now + 1 → (l : Labels) → Agrees l self.entry at.entry.rest.now → slice_index values.new c ≡ extension l at.entry.rest.now at.entry.position c class }
     {
-        self.looks.add(values.len() as u64);
         match self.ahead(at) {
             Some(ahead) => fill_column_ahead(ahead, class, values),
             None => values.fill(0),
@@ -223,21 +224,23 @@ impl<'a> SolvedSuffix<'a> {
     }
 
     /// Copies the numbers of a row with register D in a class, by the class of C.
+    #[inline(always)]
     pub fn copy_column(self, row: &[u32], class: usize, column: &mut [u32])
         requires few { length self.registers.now ≤ most_sections }
         requires class { class < length self.registers.now + 1 }
         requires row { length row.now ≡ (length self.registers.now + 1) * (length self.registers.now + 1) }
         requires len { length column.old ≡ length self.registers.now + 1 }
-        ensures len { length column.new ≡ length column.old }
+        ensures len { length column.new ≡ length self.entry.registers.now + 1 }
         ensures is { (c : ℕ) → c < length self.entry.registers.now + 1 → slice_index column.new c ≡ slice_index row.now (place_of (length self.entry.registers.now + 1) c class) }
     {
-        'classes: for c in 0..column.len() {
+        'classes: for c in 0..self.classes() {
             column[c] = row[self.place(c, class)];
         }
     }
 }
 
 /// Fills in the extension for each pair of `classes` classes.
+#[inline(always)]
 fn fill_ahead(ahead: NextFixup<'_>, classes: usize, values: &mut [u32])
     requires some { 0 < classes }
     requires few { classes ≤ most_sections + 1 }
@@ -260,6 +263,7 @@ fn fill_ahead(ahead: NextFixup<'_>, classes: usize, values: &mut [u32])
 }
 
 /// Fills in the extension with register D in a class, by the class of C.
+#[inline(always)]
 fn fill_column_ahead(ahead: NextFixup<'_>, class: usize, values: &mut [u32])
     requires few { length values.old ≤ most_sections + 1 }
     requires class { class < length values.old }

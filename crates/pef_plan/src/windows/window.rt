@@ -79,7 +79,8 @@ impl Window {
     }
 
     /// Adds a row, and removes the oldest one if there are too many. Each number of a row is looked at when the
-    /// row is added, and once more when it becomes an older row. Reading a kept minimum is no look.
+    /// row is added, which the caller counts, and once more when it becomes an older row. Reading a kept minimum is
+    /// no look.
     ///
     /// # Errors
     ///
@@ -90,7 +91,6 @@ impl Window {
         ensures { OnOk result ((width limit : ℕ) (rows : List (List ℕ)) → WindowOf width limit rows self.old → WindowOf width limit (row.now ∷ take (limit - 1) rows) self.new) }
     {
         self.make_room(looks);
-        looks.add(row.len() as u64);
         let start = self.newer * self.width;
         self.reserve(start, row)?;
         self.write(start, row);
@@ -186,6 +186,7 @@ impl Window {
     }
 
     /// Lowers each number of a line to 1 plus the least number at its place.
+    #[inline(always)]
     pub fn lower(&self, line: &mut [u32])
         requires { length line.old ≡ self.now.width }
         ensures len { length line.new ≡ length line.old }
@@ -199,6 +200,7 @@ impl Window {
     }
 
     /// Does the same with the older rows alone.
+    #[inline(always)]
     fn lower_older(&self, line: &mut [u32])
         requires { length line.old ≡ self.now.width }
         ensures len { length line.new ≡ length line.old }
@@ -240,6 +242,7 @@ impl Window {
 }
 
 /// Lowers each number of a line to 1 plus the number at its place in another one.
+#[inline(always)]
 fn lower_line(line: &mut [u32], others: &[u32])
     requires { length line.old ≤ length others.now }
     ensures len { length line.new ≡ length line.old }

@@ -1,27 +1,28 @@
 use Rattle.std.proofs.Common.{◌≡◌, ◌∙◌, ◌+◌, ◌-◌, ◌*◌, ◌++◌, ◌∷◌, List, ℕ, [], ap, ap₂, drop, length, rules, take, refl, subst, sym, arith}
 use Rattle.std.proofs.lemmas.List.{drop_all, get_or_read, length-replicate, with_items_is}
 use Rattle.pef_reloc.specs.Deliveries.{index_after}
+use Rattle.pef_cert.specs.Valid.{RegistersOf}
 use Rattle.pef_plan.specs.Runs.Ends.{EndsOf}
 use Rattle.pef_plan.specs.Runs.Tables.{SameLabels}
 use Rattle.pef_plan.specs.Kept.Tables.{TablesOf}
 use Rattle.pef_plan.proofs.FillLemmas.{ends-at, ends-next, ends-none, fill-at, fill-none, fill-steps, tables-next}
 use Rattle.pef_plan.proofs.PlanFacts.{few_classes}
-use Rattle.pef_plan.proofs.tables.fill.Goals as goal
+use Rattle.pef_plan.proofs.tables.fill_counted.Goals as goal
 
 pub overflow_mul-classes : goal.overflow_mul-classes
-overflow_mul-classes c =
-    let few = few_classes c.args.fixups.now c.args.registers.now c.requires.fit c.requires.registers in
+overflow_mul-classes o c =
+    let few = few_classes c.args.fixups.now c.counted-registers.result.now c.requires.fit (subst (λ rs. RegistersOf c.args.fixups.now rs) (sym c.counted-registers.ensures) c.requires.registers) in
     search (rules, few)
 
 pub new-requires-clause-few : goal.new-requires-clause-few
-new-requires-clause-few c =
-    let few = few_classes c.args.fixups.now c.args.registers.now c.requires.fit c.requires.registers in
+new-requires-clause-few o c =
+    let few = few_classes c.args.fixups.now c.counted-registers.result.now c.requires.fit (subst (λ rs. RegistersOf c.args.fixups.now rs) (sym c.counted-registers.ensures) c.requires.registers) in
     omega (arith, few)
 
 pub fixups-init : goal.fixups-init
-fixups-init c =
+fixups-init o c =
     let fixups = c.args.fixups.now in
-    let r : ℕ = length c.args.registers.now + 1 in
+    let r : ℕ = length c.counted-registers.result.now + 1 in
     let none : drop (length fixups) fixups ≡ [] = drop_all (length fixups) fixups (omega arith) in
     let labels = c.in_ok-push.ensures.ok in
     let skips = c.in_ok-push-2.ensures.ok in
@@ -32,64 +33,64 @@ fixups-init c =
     record {
       inside = omega arith;
       tables = record {
-        tabled = fill-none (drop (length fixups) fixups) c.args.registers.now c.push.new.self.rows c.push-2.new.self.rows (index_after (take (length fixups) fixups) 0) (r * r) r none label_rows skip_rows;
+        tabled = fill-none (drop (length fixups) fixups) c.counted-registers.result.now c.push.new.self.rows c.push-2.new.self.rows (index_after (take (length fixups) fixups) 0) (r * r) r none label_rows skip_rows;
         labels_wide = ap (λ t. t.width) labels ∙ ap (λ t. t.width) c.new-labels.ensures;
         skips_wide = ap (λ t. t.width) skips ∙ ap (λ t. t.width) c.new-skips.ensures;
         rows_wide = rw label_rows (length-replicate (r * r) 0, tt);
       };
-      ends = ends-none (drop (length fixups) fixups) c.args.registers.now c.push.new.self.rows r c.in_ok-ends.ends none refl c.in_ok-ends.ensures;
+      ends = ends-none (drop (length fixups) fixups) c.counted-registers.result.now c.push.new.self.rows r c.in_ok-ends.ends none refl c.in_ok-ends.ensures;
       row_len = c.in_ok-row.ensures.len;
       line_len = c.in_ok-line.ensures.len;
     }
 
 pub pass-requires-clause-at : goal.pass-requires-clause-at
-pass-requires-clause-at c =
+pass-requires-clause-at o c =
     let e = c.state_at-state.ensures in
     let t = c.fixups-test.true in
     let i = c.fixups.invariant in
-    fill-at c.args.fixups.now c.args.registers.now c.fixups.labels.rows c.fixups.skips.rows (c.fixups.at - 1) c.fixups.at _ _ c.state_at-state.result c.requires.fit c.requires.registers (omega (arith, t)) i.inside i.tables.tabled
+    fill-at c.args.fixups.now c.counted-registers.result.now c.fixups.labels.rows c.fixups.skips.rows (c.fixups.at - 1) c.fixups.at _ _ c.state_at-state.result c.requires.fit (subst (λ rs. RegistersOf c.args.fixups.now rs) (sym c.counted-registers.ensures) c.requires.registers) (omega (arith, t)) i.inside i.tables.tabled
     (record { registers_are = refl; labels_are = refl; skips_are = refl; labels_wide = i.tables.labels_wide; skips_wide = i.tables.skips_wide })
     (record { left = e.left; parts = e.parts; others = e.others; import_index = e.import_index })
 
 pub pass-requires-clause-ends : goal.pass-requires-clause-ends
-pass-requires-clause-ends c =
+pass-requires-clause-ends o c =
     let e = c.state_at-state.ensures in
     let t = c.fixups-test.true in
     let i = c.fixups.invariant in
-    ends-at c.args.fixups.now c.args.registers.now c.fixups.labels.rows c.fixups.skips.rows (c.fixups.at - 1) c.fixups.at _ c.state_at-state.result c.fixups.ends (omega (arith, t))
+    ends-at c.args.fixups.now c.counted-registers.result.now c.fixups.labels.rows c.fixups.skips.rows (c.fixups.at - 1) c.fixups.at _ c.state_at-state.result c.fixups.ends (omega (arith, t))
     (record { registers_are = refl; labels_are = refl; skips_are = refl; labels_wide = i.tables.labels_wide; skips_wide = i.tables.skips_wide })
     (record { left = e.left; parts = e.parts; others = e.others; import_index = e.import_index })
     i.ends
 
 pub fill_labels-requires-clause-at : goal.fill_labels-requires-clause-at
-fill_labels-requires-clause-at c =
+fill_labels-requires-clause-at o c =
     let e = c.state_at-state.ensures in
     let t = c.fixups-test.true in
     let i = c.fixups.invariant in
-    fill-at c.args.fixups.now c.args.registers.now c.fixups.labels.rows c.fixups.skips.rows (c.fixups.at - 1) c.fixups.at _ _ c.state_at-state.result c.requires.fit c.requires.registers (omega (arith, t)) i.inside i.tables.tabled
+    fill-at c.args.fixups.now c.counted-registers.result.now c.fixups.labels.rows c.fixups.skips.rows (c.fixups.at - 1) c.fixups.at _ _ c.state_at-state.result c.requires.fit (subst (λ rs. RegistersOf c.args.fixups.now rs) (sym c.counted-registers.ensures) c.requires.registers) (omega (arith, t)) i.inside i.tables.tabled
     (record { registers_are = refl; labels_are = refl; skips_are = refl; labels_wide = i.tables.labels_wide; skips_wide = i.tables.skips_wide })
     (record { left = e.left; parts = e.parts; others = e.others; import_index = e.import_index })
 
 pub fill_labels-requires-clause-steps : goal.fill_labels-requires-clause-steps
-fill_labels-requires-clause-steps c =
+fill_labels-requires-clause-steps o c =
     let e = c.state_at-state.ensures in
     let t = c.fixups-test.true in
     let i = c.fixups.invariant in
-    fill-steps c.args.fixups.now c.args.registers.now c.fixups.labels.rows c.fixups.skips.rows (c.fixups.at - 1) c.fixups.at _ _ c.state_at-state.result c.requires.fit c.requires.registers (omega (arith, t)) i.inside i.tables.tabled
+    fill-steps c.args.fixups.now c.counted-registers.result.now c.fixups.labels.rows c.fixups.skips.rows (c.fixups.at - 1) c.fixups.at _ _ c.state_at-state.result c.requires.fit (subst (λ rs. RegistersOf c.args.fixups.now rs) (sym c.counted-registers.ensures) c.requires.registers) (omega (arith, t)) i.inside i.tables.tabled
     (record { registers_are = refl; labels_are = refl; skips_are = refl; labels_wide = i.tables.labels_wide; skips_wide = i.tables.skips_wide })
     (record { left = e.left; parts = e.parts; others = e.others; import_index = e.import_index })
 
 pub fill_skips-requires-clause-at : goal.fill_skips-requires-clause-at
-fill_skips-requires-clause-at c =
+fill_skips-requires-clause-at o c =
     let e = c.state_at-state.ensures in
     let t = c.fixups-test.true in
     let i = c.fixups.invariant in
-    fill-at c.args.fixups.now c.args.registers.now c.fixups.labels.rows c.fixups.skips.rows (c.fixups.at - 1) c.fixups.at _ _ c.state_at-state.result c.requires.fit c.requires.registers (omega (arith, t)) i.inside i.tables.tabled
+    fill-at c.args.fixups.now c.counted-registers.result.now c.fixups.labels.rows c.fixups.skips.rows (c.fixups.at - 1) c.fixups.at _ _ c.state_at-state.result c.requires.fit (subst (λ rs. RegistersOf c.args.fixups.now rs) (sym c.counted-registers.ensures) c.requires.registers) (omega (arith, t)) i.inside i.tables.tabled
     (record { registers_are = refl; labels_are = refl; skips_are = refl; labels_wide = i.tables.labels_wide; skips_wide = i.tables.skips_wide })
     (record { left = e.left; parts = e.parts; others = e.others; import_index = e.import_index })
 
 pub fixups-preserved : goal.fixups-preserved
-fixups-preserved c =
+fixups-preserved o c =
     let a = c.args in
     let e = c.state_at-state.ensures in
     let t = c.fixups-test.true in
@@ -106,12 +107,12 @@ fixups-preserved c =
     let skips = c.in_ok-push-4.ensures.ok ∙ ap (λ x. record { width = c.fixups.skips.width; rows = c.fixups.skips.rows ++ x ∷ [] }) line in
     record {
       inside = omega (arith, inside);
-      tables = tables-next a.fixups.now a.registers.now c.fixups.labels c.fixups.skips c.push-in-fixups.new.self c.push-in-fixups-2.new.self (c.fixups.at - 1) c.fixups.at _ c.state_at-state.result c.fill_labels.new.row c.fill_skips.new.skips c.requires.fit c.requires.registers (omega (arith, t)) inside i.tables
+      tables = tables-next a.fixups.now c.counted-registers.result.now c.fixups.labels c.fixups.skips c.push-in-fixups.new.self c.push-in-fixups-2.new.self (c.fixups.at - 1) c.fixups.at _ c.state_at-state.result c.fill_labels.new.row c.fill_skips.new.skips c.requires.fit (subst (λ rs. RegistersOf c.args.fixups.now rs) (sym c.counted-registers.ensures) c.requires.registers) (omega (arith, t)) inside i.tables
           (record { registers_are = refl; labels_are = refl; skips_are = refl; labels_wide = i.tables.labels_wide; skips_wide = i.tables.skips_wide })
           (record { left = e.left; parts = e.parts; others = e.others; import_index = e.import_index })
           c.fill_labels.ensures.labels c.fill_skips.ensures.are (row_len ∙ i.row_len) labels skips;
-      ends = subst (λ (xs : List (List ℕ)). EndsOf (λ l. SameLabels l a.registers.now xs (length rest)) (length a.registers.now + 1) rest c.pass.new.self) (sym (ap (λ t. t.rows) labels))
-          (ends-next a.fixups.now a.registers.now c.fixups.labels.rows c.fixups.skips.rows (c.fixups.at - 1) c.fixups.at _ _ c.state_at-state.result c.fill_labels.new.row c.pass.new.self (omega (arith, t)) i.tables.tabled
+      ends = subst (λ (xs : List (List ℕ)). EndsOf (λ l. SameLabels l c.counted-registers.result.now xs (length rest)) (length c.counted-registers.result.now + 1) rest c.pass.new.self) (sym (ap (λ t. t.rows) labels))
+          (ends-next a.fixups.now c.counted-registers.result.now c.fixups.labels.rows c.fixups.skips.rows (c.fixups.at - 1) c.fixups.at _ _ c.state_at-state.result c.fill_labels.new.row c.pass.new.self (omega (arith, t)) i.tables.tabled
           (record { registers_are = refl; labels_are = refl; skips_are = refl; labels_wide = i.tables.labels_wide; skips_wide = i.tables.skips_wide })
           (record { left = e.left; parts = e.parts; others = e.others; import_index = e.import_index })
           c.in_ok-pass.ensures);
@@ -120,17 +121,18 @@ fixups-preserved c =
     }
 
 pub index-requires : goal.index-requires
-index-requires c =
+index-requires o c =
     let h = c.in_ok-indices.ensures in
     omega (arith, h.count, c.fixups.invariant.inside, c.fixups-test.true, c.in_ok-indices.indices.ok.0)
 
 pub state_at-state-requires-clause-import_index : goal.state_at-state-requires-clause-import_index
-state_at-state-requires-clause-import_index c =
+state_at-state-requires-clause-import_index o c =
     let h = c.in_ok-indices.ensures in
     get_or_read c.in_ok-indices.indices.items _ _ (omega (arith, h.count, c.fixups.invariant.inside, c.fixups-test.true)) c.index.ensures 0
     ∙ h.at (c.fixups.at - 1) (omega (arith, c.fixups.invariant.inside, c.fixups-test.true))
 
 pub returns : goal.returns
-returns c =
+returns o c =
     let none : c.fixups.at ≡ 0 = omega (arith, c.fixups-test.false) in
-    subst (λ (n : ℕ). TablesOf c.args.registers.now c.fixups.labels c.fixups.skips (index_after (take n c.args.fixups.now) 0) (drop n c.args.fixups.now)) none c.fixups.invariant.tables
+    subst (λ rs. TablesOf rs c.fixups.labels c.fixups.skips 0 c.args.fixups.now) c.counted-registers.ensures
+    (subst (λ (n : ℕ). TablesOf c.counted-registers.result.now c.fixups.labels c.fixups.skips (index_after (take n c.args.fixups.now) 0) (drop n c.args.fixups.now)) none c.fixups.invariant.tables)
