@@ -1,6 +1,6 @@
 -- How printed memory is put together.
-use Rattle.std.proofs.Common.{◌≡◌, ℕ, zero, suc, ◌+◌, ◌-◌, ◌/◌, ◌%◌, ◌<◌, ◌≤◌, List, [], ◌∷◌, ◌++◌, length, get_or, take, drop, refl, sym, ap, subst, ◌∙◌, arith}
-use Rattle.std.proofs.lemmas.List.{append-nil, length-drop, take_all, take_more, drop_all, drop_more}
+use Rattle.std.proofs.Common.{◌≡◌, ℕ, zero, suc, ◌+◌, ◌-◌, ◌*◌, ◌/◌, ◌%◌, ◌<◌, ◌≤◌, ◌⊎◌, inl, inr, List, [], ◌∷◌, ◌++◌, length, get_or, take, drop, refl, sym, ap, subst, ◌∙◌, arith}
+use Rattle.std.proofs.lemmas.List.{append_assoc, append-nil, drop-append-le, length-append, length-drop, length-take-le, take-append-drop, take-append-le, take_all, take_more, drop_all, drop_more}
 use Rattle.pef_ports.specs.Text.{hex_digit, hex_text, word_text, groups, group_text, row_text, rows, dump_text}
 
 -- bytes after bytes
@@ -53,11 +53,51 @@ unfolding rows
 dump_text-at a b [] same = refl
 dump_text-at a b (x ∷ bytes) same = ap (λ (at : ℕ). dump_text at (x ∷ bytes)) (same (omega arith))
 
--- a line of what is left, and the others
-pub dump_text-left : (a n : ℕ) (rest : List ℕ) → 0 < length rest → length rest ≤ n → dump_text (a + (n - length rest)) rest ≡ row_text (a + (n - length rest)) (take 16 rest) ++ dump_text (a + (n - length (drop 16 rest))) (drop 16 rest)
-dump_text-left a n rest some inside =
-    let after = dump_text-at (a + (n - length rest) + 16) (a + (n - length (drop 16 rest))) (drop 16 rest) (λ more. let shorter = length-drop 16 rest in omega arith) in
-    dump_text-more (a + (n - length rest)) rest some ∙ ap (λ (t : List ℕ). row_text (a + (n - length rest)) (take 16 rest) ++ t) after
+-- full lines, and the others
+pub dump_text-append : (k a : ℕ) (front back : List ℕ) → length front ≡ 16 * k → dump_text a (front ++ back) ≡ dump_text a front ++ dump_text (a + length front) back
+dump_text-append zero a [] back full = dump_text-at a (a + 0) back (λ more. omega arith) ∙ ap (λ t. t ++ dump_text (a + 0) back) (sym (dump_text-none a [] refl))
+dump_text-append zero a (b ∷ front) back full = absurd (omega (arith, full))
+dump_text-append (suc k) a front back full =
+    let left = length-drop 16 front in
+    let long = length-append front back in
+    let one = row_text a (take 16 front) in
+    let at : a + 16 + length (drop 16 front) ≡ a + length front = omega (arith, left, full) in
+    dump_text-more a (front ++ back) (omega (arith, long, full))
+    ∙ (ap (λ bytes. row_text a bytes ++ dump_text (a + 16) (drop 16 (front ++ back))) (take-append-le 16 front back (omega (arith, full)))
+    ∙ (ap (λ bytes. one ++ dump_text (a + 16) bytes) (drop-append-le 16 front back (omega (arith, full)))
+    ∙ (ap (λ t. one ++ t) (dump_text-append k (a + 16) (drop 16 front) back (omega (arith, left, full)) ∙ ap (λ n. dump_text (a + 16) (drop 16 front) ++ dump_text n back) at)
+    ∙ (sym (append_assoc one (dump_text (a + 16) (drop 16 front)) (dump_text (a + length front) back))
+    ∙ ap (λ t. t ++ dump_text (a + length front) back) (sym (dump_text-more a front (omega (arith, full))))))))
+
+-- one line or four of what is left, and the others
+pub dump_text-lines : (count a n : ℕ) (rest : List ℕ) → (count ≡ 16) ⊎ (count ≡ 64) → count ≤ length rest → length rest ≤ n
+    → dump_text (a + (n - length rest)) rest ≡ dump_text (a + (n - length rest)) (take count rest) ++ dump_text (a + (n - length (drop count rest))) (drop count rest)
+dump_text-lines count a n rest lines some inside = elim lines [ inl one ↦ taken 1 one | inr four ↦ taken 4 four ]
+  where
+    taken : (k : ℕ) → count ≡ 16 * k → dump_text (a + (n - length rest)) rest ≡ dump_text (a + (n - length rest)) (take count rest) ++ dump_text (a + (n - length (drop count rest))) (drop count rest)
+    taken k is =
+        let len = length-take-le count rest some in
+        let left = length-drop count rest in
+        let here = a + (n - length rest) in
+        ap (λ bytes. dump_text here bytes) (sym (take-append-drop count rest))
+        ∙ (dump_text-append k here (take count rest) (drop count rest) (len ∙ is)
+        ∙ ap (λ t. dump_text here (take count rest) ++ t) (dump_text-at (here + length (take count rest)) (a + (n - length (drop count rest))) (drop count rest) (λ more. omega (arith, len, left, some, inside))))
+
+-- four lines
+pub dump_text-four : (a : ℕ) (bytes : List ℕ) → length bytes ≡ 64
+    → dump_text a bytes ≡ (row_text a (take 16 bytes) ++ row_text (a + 16) (take 16 (drop 16 bytes))) ++ (row_text (a + 16 + 16) (take 16 (drop 16 (drop 16 bytes))) ++ row_text (a + 16 + 16 + 16) (drop 16 (drop 16 (drop 16 bytes))))
+dump_text-four a bytes full =
+    let one = length-drop 16 bytes in
+    let two = length-drop 16 (drop 16 bytes) in
+    let three = length-drop 16 (drop 16 (drop 16 bytes)) in
+    let last = drop 16 (drop 16 (drop 16 bytes)) in
+    dump_text-more a bytes (omega (arith, full))
+    ∙ (ap (λ t. row_text a (take 16 bytes) ++ t)
+    (dump_text-more (a + 16) (drop 16 bytes) (omega (arith, full, one))
+    ∙ ap (λ t. row_text (a + 16) (take 16 (drop 16 bytes)) ++ t)
+    (dump_text-more (a + 16 + 16) (drop 16 (drop 16 bytes)) (omega (arith, full, one, two))
+    ∙ ap (λ t. row_text (a + 16 + 16) (take 16 (drop 16 (drop 16 bytes))) ++ t) (dump_text-last (a + 16 + 16 + 16) last (omega (arith, full, one, two, three)) (omega (arith, full, one, two, three)))))
+    ∙ sym (append_assoc (row_text a (take 16 bytes)) (row_text (a + 16) (take 16 (drop 16 bytes))) (row_text (a + 16 + 16) (take 16 (drop 16 (drop 16 bytes))) ++ row_text (a + 16 + 16 + 16) last)))
 
 -- n elements from the one at an index
 abbrev gets : ℕ → ℕ → List ℕ → List ℕ

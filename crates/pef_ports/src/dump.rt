@@ -1,4 +1,4 @@
-ghost use Rattle.std.specs.Prelude.{◌≡◌, ◌≤◌, ◌<◌, ◌+◌, ◌^◌, ◌++◌, length};
+ghost use Rattle.std.specs.Prelude.{◌≡◌, ◌≤◌, ◌<◌, ◌+◌, ◌^◌, ◌++◌, ◌⊎◌, length};
 ghost use Rattle.arrayvec.specs.ArrayVec.{array_vec_len};
 ghost use Rattle.pef_ports.specs.Sent.{Sends};
 ghost use Rattle.pef_ports.specs.Text.{dump_text, group_text, row_text};
@@ -9,6 +9,9 @@ use crate::ports::{Sink, StreamFault};
 
 /// How many bytes of memory a line shows.
 const ROW: usize = 16;
+
+/// How many bytes of memory four lines show.
+const FOUR_ROWS: usize = 64;
 
 /// How many bytes of memory a group of a line shows.
 const GROUP: usize = 4;
@@ -26,8 +29,8 @@ pub fn print_memory<W: Sink>(
     let mut rest = bytes;
     while rest.len() >= ROW {
         let here = address + (bytes.len() - rest.len()) as u32;
-        let (row, others) = rest.split_at(ROW);
-        send(out, page, &full_row(here, row))?;
+        let (rows, others) = rest.split_at(next_rows(rest.len()));
+        print_rows(out, page, here, rows)?;
         rest = others;
     }
     if rest.is_empty() {
@@ -35,6 +38,73 @@ pub fn print_memory<W: Sink>(
     }
     let here = address + (bytes.len() - rest.len()) as u32;
     send(out, page, short_row(here, rest).as_slice())
+}
+
+/// Returns how many of `len` bytes are printed next: those of four lines, or of one.
+#[inline(always)]
+fn next_rows(len: usize) -> usize
+    requires { 16 ≤ len }
+    ensures rows { (result ≡ 16) ⊎ (result ≡ 64) }
+    ensures inside { result ≤ len }
+{
+    if len >= FOUR_ROWS { FOUR_ROWS } else { ROW }
+}
+
+/// Prints one line of sixteen bytes, or four.
+#[inline(always)]
+fn print_rows<W: Sink>(
+    out: &mut W,
+    page: &mut Page,
+    address: u32,
+    bytes: &[u8],
+) -> Result<(), StreamFault>
+    requires rows { (length bytes.now ≡ 16) ⊎ (length bytes.now ≡ 64) }
+    requires room { address + length bytes.now ≤ 2 ^ 32 }
+    ensures { Sends result (W.stream out.old) (W.stream out.new) page.old.items page.new.items (dump_text address bytes.now) }
+{
+    if bytes.len() == FOUR_ROWS {
+        print_four(out, page, address, bytes)
+    } else {
+        send(out, page, &full_row(address, bytes))
+    }
+}
+
+/// Prints four lines of sixteen bytes. All four are made before the first one is sent, since bytes that were written just
+/// before are slow to copy.
+#[inline(always)]
+fn print_four<W: Sink>(
+    out: &mut W,
+    page: &mut Page,
+    address: u32,
+    bytes: &[u8],
+) -> Result<(), StreamFault>
+    requires rows { length bytes.now ≡ 64 }
+    requires room { address + 64 ≤ 2 ^ 32 }
+    ensures { Sends result (W.stream out.old) (W.stream out.new) page.old.items page.new.items (dump_text address bytes.now) }
+{
+    let (first, rest) = bytes.split_at(ROW);
+    let (second, rest) = rest.split_at(ROW);
+    let (third, fourth) = rest.split_at(ROW);
+    let a = full_row(address, first);
+    let b = full_row(address + 16, second);
+    let c = full_row(address + 16 + 16, third);
+    let d = full_row(address + 16 + 16 + 16, fourth);
+    send_both(out, page, &a, &b)?;
+    send_both(out, page, &c, &d)
+}
+
+/// Sends some bytes, and then others.
+#[inline(always)]
+fn send_both<W: Sink>(
+    out: &mut W,
+    page: &mut Page,
+    first: &[u8],
+    second: &[u8],
+) -> Result<(), StreamFault>
+    ensures { Sends result (W.stream out.old) (W.stream out.new) page.old.items page.new.items (first.now ++ second.now) }
+{
+    send(out, page, first)?;
+    send(out, page, second)
 }
 
 /// Returns the line of sixteen bytes. It is made as one array, because the compiler then makes many digits at once.

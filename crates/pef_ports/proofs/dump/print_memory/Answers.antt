@@ -1,8 +1,8 @@
 -- The lines left.
-use Rattle.std.proofs.Common.{◌≡◌, ◌<◌, ◌≤◌, ◌+◌, ◌-◌, ◌++◌, length, take, drop, sym, ap, ◌∙◌, arith, rules}
-use Rattle.pef_ports.specs.Text.{dump_text, row_text}
+use Rattle.std.proofs.Common.{◌≡◌, ◌<◌, ◌≤◌, ◌+◌, ◌-◌, ◌++◌, length, drop, sym, ap, ◌∙◌, arith, rules}
+use Rattle.pef_ports.specs.Text.{dump_text}
 use Rattle.pef_ports.proofs.Laws.Sending.{Sends-short, Sends-then, sent-all, sent-nothing, sent-piece, sent-short}
-use Rattle.pef_ports.proofs.TextLemmas.{dump_text-last, dump_text-left, dump_text-none}
+use Rattle.pef_ports.proofs.TextLemmas.{dump_text-last, dump_text-lines, dump_text-none}
 use Rattle.pef_ports.proofs.dump.print_memory.Goals as goal
 
 pub loop-rest-init : goal.loop-rest-init
@@ -11,29 +11,29 @@ loop-rest-init g c =
     let start : c.args.address + (length bytes - length bytes) ≡ c.args.address = omega arith in
     record { inside = omega arith; sent = rw start (sent-nothing (g.W.Sink.stream c.args.out.now) c.args.page.now.items (dump_text c.args.address bytes)) }
 
-pub returns-in_err-send : goal.returns-in_err-send
-returns-in_err-send g c =
+pub returns-in_err-print_rows : goal.returns-in_err-print_rows
+returns-in_err-print_rows g c =
     let rest = c.loop-rest.rest.now in
     let address = c.args.address in
     let n = length c.args.bytes.now in
-    let some : 0 < length rest = omega (arith, c.loop-rest-test.true) in
-    let line : row_text (address + (n - length rest)) (take 16 rest) ≡ c.full_row.result = sym (c.full_row.ensures ∙ ap (row_text (address + (n - length rest))) c.split_at.ensures.front) in
-    let left = dump_text (address + (n - length (drop 16 rest))) (drop 16 rest) in
-    let next : dump_text (address + (n - length rest)) rest ≡ c.full_row.result ++ left = dump_text-left address n rest some c.loop-rest.invariant.inside ∙ ap (λ t. t ++ left) line in
-    Sends-short _ c.from_residual.result _ c.from_residual.ensures.1 (sent-short left c.loop-rest.invariant.sent next c.in_err-send.ensures)
+    let count = c.next_rows.result in
+    let left = dump_text (address + (n - length (drop count rest))) (drop count rest) in
+    let next : dump_text (address + (n - length rest)) rest ≡ dump_text (address + (n - length rest)) c.split_at.result.0.now ++ left =
+    dump_text-lines count address n rest c.next_rows.ensures.rows c.next_rows.ensures.inside c.loop-rest.invariant.inside ∙ ap (λ bytes. dump_text (address + (n - length rest)) bytes ++ left) (sym c.split_at.ensures.front) in
+    Sends-short _ c.from_residual.result _ c.from_residual.ensures.1 (sent-short left c.loop-rest.invariant.sent next c.in_err-print_rows.ensures)
 
 pub loop-rest-preserved : goal.loop-rest-preserved
 loop-rest-preserved g c =
     let rest = c.loop-rest.rest.now in
     let address = c.args.address in
     let n = length c.args.bytes.now in
-    let some : 0 < length rest = omega (arith, c.loop-rest-test.true) in
-    let line : row_text (address + (n - length rest)) (take 16 rest) ≡ c.full_row.result = sym (c.full_row.ensures ∙ ap (row_text (address + (n - length rest))) c.split_at.ensures.front) in
-    let left = dump_text (address + (n - length (drop 16 rest))) (drop 16 rest) in
-    let next : dump_text (address + (n - length rest)) rest ≡ c.full_row.result ++ left = dump_text-left address n rest some c.loop-rest.invariant.inside ∙ ap (λ t. t ++ left) line in
+    let count = c.next_rows.result in
+    let left = dump_text (address + (n - length (drop count rest))) (drop count rest) in
+    let next : dump_text (address + (n - length rest)) rest ≡ dump_text (address + (n - length rest)) c.split_at.result.0.now ++ left =
+    dump_text-lines count address n rest c.next_rows.ensures.rows c.next_rows.ensures.inside c.loop-rest.invariant.inside ∙ ap (λ bytes. dump_text (address + (n - length rest)) bytes ++ left) (sym c.split_at.ensures.front) in
     record {
       inside = omega (arith, c.split_at.ensures.back_len, c.loop-rest.invariant.inside);
-      sent = rw c.split_at.ensures.back (sent-piece left c.loop-rest.invariant.sent next c.in_ok-send.ensures);
+      sent = rw c.split_at.ensures.back (sent-piece left c.loop-rest.invariant.sent next c.in_ok-print_rows.ensures);
     }
 
 pub returns-then-is_empty : goal.returns-then-is_empty
@@ -50,4 +50,4 @@ returns g c =
     let few : length rest ≤ 16 = omega (arith, c.loop-rest-test.false) in
     let last : dump_text at rest ≡ c.as_slice.result.now = dump_text-last at rest some few ∙ sym (c.as_slice.ensures.value ∙ c.short_row.ensures) in
     let sent = c.loop-rest.invariant.sent in
-    rw (← sent.whole, last) (Sends-then c.send-2.result _ _ _ sent.prints c.send-2.ensures)
+    rw (← sent.whole, last) (Sends-then c.send.result _ _ _ sent.prints c.send.ensures)
