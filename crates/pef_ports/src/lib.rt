@@ -11,6 +11,7 @@ mod page;
 mod pieces;
 mod ports;
 pub mod system;
+mod text;
 
 pub use chain::{Decimal, Escaped, Hex, HexByte, Joined, Printed, Verbatim};
 pub use dump::print_memory;
@@ -20,3 +21,4 @@ pub use name::print_name;
 pub use page::{Page, flush, send};
 pub use pieces::{Piece, print_pieces};
 pub use ports::{FileFault, Files, Sink, Source, StreamFault};
+pub use text::Text;

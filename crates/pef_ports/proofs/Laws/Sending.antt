@@ -109,3 +109,20 @@ pub sent-all : {a b : Stream} {p l text left : List ℕ} → IsSentUpTo a b p l 
 sent-all {a} {b} {p} {l} {text} {left} so_far none =
     let P : List ℕ → Type 0 = λ (t : List ℕ). Prints a b p l t in
     subst P (sym (append-nil so_far.front) ∙ ap (λ (t : List ℕ). so_far.front ++ t) (sym none) ∙ so_far.whole) so_far.prints
+
+-- an output that reports its bytes had these before others were written
+pub grown : (first kept sent : List ℕ) (a b : Option (List ℕ)) → a ≡ Some first → b ≡ Some kept → Grows a b sent → kept ≡ first ++ sent
+grown first kept sent a b was is out =
+    let P : Option (List ℕ) → Type 0 = λ o. Grows o (Some kept) sent in
+    let Q : Option (List ℕ) → Type 0 = λ o. Grows a o sent in
+    let grew : Some kept ≡ Some (first ++ sent) = subst P was (subst Q is out) in
+    cc grew
+
+-- it has all of a text that was sent, after those that it had
+pub kept-all : (first kept text : List ℕ) {a b : Stream} → Prints a b [] [] text → a.bytes ≡ Some first → b.bytes ≡ Some kept → kept ≡ first ++ text
+kept-all first kept text {a} {b} prints was is =
+    grown first kept prints.sent a.bytes b.bytes was is prints.out ∙ ap (λ (t : List ℕ). first ++ t) (sym (append-nil prints.sent) ∙ prints.whole)
+
+-- or a part of it
+pub kept-part : (first kept page text : List ℕ) {a b : Stream} → StopsShort a b page text → a.bytes ≡ Some first → b.bytes ≡ Some kept → (sent : List ℕ) × (kept ≡ first ++ sent)
+kept-part first kept page text {a} {b} short was is = (short.sent, grown first kept short.sent a.bytes b.bytes was is short.out)
