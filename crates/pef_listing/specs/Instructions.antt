@@ -1,6 +1,6 @@
 -- How a relocation instruction is listed: its halfwords, its kind (PEFBinaryFormat.h, the relocation
 -- opcodes), and its numbers by their meanings.
-use Rattle.std.specs.Prelude.{ℕ, List, [], ◌∷◌, ◌++◌, codes, decimal}
+use Rattle.std.specs.Prelude.{ℕ, List, [], ◌∷◌, ◌++◌, decimal}
 use Rattle.byteorder.specs.Endian.{big_bytes}
 use Rattle.pef_reloc.specs.declared.instr.Instr.{Instr}
 use Rattle.pef_reloc.specs.Instrs.{halfwords_of}

@@ -87,9 +87,13 @@ export_text e =
     ++ codes " section " ++ sign_text e.section ++ decimal (magnitude e.section)
     ++ codes " value " ++ word_text e.value ++ codes "\n"
 
--- the lines of a relocation header: its section and its count of halfwords, then its instructions
+-- the line of a relocation header: its section and its count of halfwords
+abbrev pub reloc_header_text : ℕ × List ℕ → List ℕ
+reloc_header_text r = codes "reloc section " ++ decimal r.0 ++ codes " halfwords " ++ decimal (length r.1 / 2) ++ codes "\n"
+
+-- the lines of a relocation header: its own, then its instructions
 unfoldable pub reloc_text : ℕ × List ℕ → List ℕ
-reloc_text r = codes "reloc section " ++ decimal r.0 ++ codes " halfwords " ++ decimal (length r.1 / 2) ++ codes "\n" ++ program_text (instrs_of r.1)
+reloc_text r = reloc_header_text r ++ program_text (instrs_of r.1)
 
 -- the lines of the parts with a number, none past the last one of each kind
 unfoldable pub section_lines : Contained → ℕ → List ℕ

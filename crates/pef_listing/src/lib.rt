@@ -2,15 +2,19 @@
 //! export.
 //!
 //! [`Listing::read`] reads all parts to be listed, and reports the first refusal. [`Listing::print`]
-//! prints the lines.
+//! prints the lines, [`LineReader`] prints them one after the other, and [`ListingReader`] gives their text in parts.
 #![tactic(auto)]
 
 mod fault;
 mod instructions;
+mod line_reader;
 mod lines;
 mod listing;
+mod reader;
 
 pub use fault::ListFault;
 pub use instructions::print_instr;
+pub use line_reader::{LineReader, Place};
 pub use listing::Listing;
 pub use pef_reloc::{InstrNumbers, instr_numbers, kind_name};
+pub use reader::ListingReader;

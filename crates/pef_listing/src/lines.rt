@@ -1,13 +1,14 @@
-ghost use Rattle.std.specs.Prelude.{◌≡◌, ◌<◌, ℕ, List, None, Some};
+ghost use Rattle.std.specs.Prelude.{◌≡◌, ◌<◌, ℕ, List, None, Some, length};
 ghost use Rattle.std.specs.Option.{ForSome};
 ghost use Rattle.std.specs.Option.{option_copied};
 ghost use Rattle.pef_views.specs.Views.{contained};
 ghost use Rattle.pef_format.specs.Symbols.{import_seen};
-ghost use Rattle.pef_loader.specs.Loader.{import_of};
+ghost use Rattle.pef_loader.specs.Loader.{import_of, reloc_of};
+ghost use Rattle.pef_reloc.specs.Views.{program_bytes};
 ghost use Rattle.pef_loader.specs.Views.{loaded};
 ghost use Rattle.pef_ports.specs.Sent.{Sends};
 ghost use Rattle.pef_listing.specs.Listed.{AreReadable};
-ghost use Rattle.pef_listing.specs.Listing.{container_text, each_text, entry_text, export_lines, import_lines, library_lines, library_name, magnitude, reloc_lines, section_lines, section_name_text, sign_text, strength_text};
+ghost use Rattle.pef_listing.specs.Listing.{container_text, each_text, entry_text, export_lines, import_lines, library_lines, library_name, magnitude, reloc_header_text, reloc_lines, section_lines, section_name_text, sign_text, strength_text};
 ghost use Rattle.pef_ports.specs.Pieces.{piece_text};
 
 use crate::instructions::print_program;
@@ -31,10 +32,11 @@ pub trait Lines {
     fn len(&self) -> usize
         ensures { result ≡ many self.now };
 
-    /// Prints the lines of part `i`.
+    /// Prints the lines of part `i`, which aren't empty.
     fn print_at<W: Sink>(&self, out: &mut W, page: &mut Page, i: usize) -> Result<(), StreamFault>
         requires { i < many self.now }
-        ensures { Sends result (W.stream out.old) (W.stream out.new) page.old.items page.new.items (text self.now i) };
+        ensures some { 0 < length (text self.now i) }
+        ensures sends { Sends result (W.stream out.old) (W.stream out.new) page.old.items page.new.items (text self.now i) };
 }
 
 /// Prints the lines of all of them, in order.
@@ -198,7 +200,7 @@ pub fn print_imports<W: Sink>(
 }
 
 /// Prints the line of import `j`.
-fn print_import<'a, W: Sink>(
+pub fn print_import<'a, W: Sink>(
     out: &mut W,
     page: &mut Page,
     names: &mut LibraryName<'a>,
@@ -207,6 +209,7 @@ fn print_import<'a, W: Sink>(
 ) -> Result<(), StreamFault>
     requires import { import_of (loaded names.old.loader) j ≡ Some (import_seen import) }
     requires library { import.library < (loaded names.old.loader).header.library_count }
+    ensures some { 0 < length (import_lines (loaded names.old.loader) j) }
     ensures sends { Sends result (W.stream out.old) (W.stream out.new) page.old.items page.new.items (import_lines (loaded names.old.loader) j) }
     ensures same { names.new.loader ≡ names.old.loader }
 {
@@ -221,7 +224,7 @@ fn print_import<'a, W: Sink>(
 
 /// The name of the library that was asked for last.
 #[derive(Clone, Copy)]
-struct LibraryName<'a> {
+pub struct LibraryName<'a> {
     loader: Loader<'a>,
     number: usize,
     name: Option<&'a [u8]>,
@@ -230,7 +233,7 @@ struct LibraryName<'a> {
 
 impl<'a> LibraryName<'a> {
     /// Returns what has asked for no library yet.
-    fn new(loader: Loader<'a>) -> LibraryName<'a>
+    pub fn new(loader: Loader<'a>) -> LibraryName<'a>
         ensures { result.loader ≡ loader.entry }
     {
         LibraryName {
@@ -317,25 +320,58 @@ impl<'a> Lines for Relocations<'a> {
     }
 
     fn print_at<W: Sink>(&self, out: &mut W, page: &mut Page, i: usize) -> Result<(), StreamFault> {
-        let Some((section, instructions)) = self.loader.reloc(i) else {
+        let relocation = self.at(i);
+        relocation.print_header(out, page)?;
+        print_program(out, page, &relocation.program)
+    }
+}
+
+impl<'a> Relocations<'a> {
+    /// Returns relocation header `i`.
+    pub fn at(&self, i: usize) -> Relocation<'a>
+        requires { i < (loaded self.now.loader).header.reloc_count }
+        ensures is { reloc_of (loaded self.now.loader) i ≡ Some (result.section, result.bytes.now) }
+        ensures program { program_bytes result.program ≡ result.bytes.now }
+    {
+        let Some((section, bytes)) = self.loader.reloc(i) else {
             unreachable!()
         };
-        let Ok(program) = Program::read(instructions) else {
+        let Ok(program) = Program::read(bytes) else {
             unreachable!()
         };
-        let halfwords = instructions.len() / 2;
+        Relocation {
+            section,
+            bytes,
+            program,
+        }
+    }
+}
+
+/// A relocation header: its section, and its program, as bytes and as it is read.
+#[derive(Clone, Copy)]
+pub struct Relocation<'a> {
+    pub section: u32,
+    pub bytes: &'a [u8],
+    pub program: Program<'a>,
+}
+
+impl<'a> Relocation<'a> {
+    /// Prints the line of the header, without the program.
+    pub fn print_header<W: Sink>(&self, out: &mut W, page: &mut Page) -> Result<(), StreamFault>
+        ensures { Sends result (W.stream out.old) (W.stream out.new) page.old.items page.new.items (reloc_header_text (self.now.section, self.now.bytes.now)) }
+    {
+        let halfwords = self.bytes.len() / 2;
         print_pieces(
             out,
             page,
             &[
                 Piece::Text(b"reloc section "),
-                Piece::Number(u64::from(section)),
+                Piece::Number(u64::from(self.section)),
                 Piece::Text(b" halfwords "),
                 Piece::Number(halfwords as u64),
                 Piece::Text(b"\n"),
             ],
-        )?;
-        print_program(out, page, &program)
+        )
     }
 }
 

@@ -8,6 +8,7 @@ ghost use Rattle.pef_listing.specs.Listing.{container_lines, entries_lines, impo
 ghost use Rattle.pef_listing.specs.Listed.{AreReadable, listed_of, program_refusal, programs_fault};
 
 use crate::fault::ListFault;
+use crate::line_reader::LineReader;
 use crate::lines::{
     Exported, Libraries, Relocations, Sections, print_each, print_entry, print_header,
     print_imports,
@@ -20,13 +21,14 @@ use pef_views::Container;
 /// A container whose parts were all read, so that all of it can be listed.
 #[derive(Clone, Copy, Debug)]
 pub struct Listing<'a> {
-    container: Container<'a>,
-    loader: Loader<'a>,
+    pub(crate) container: Container<'a>,
+    pub(crate) loader: Loader<'a>,
     ghost readable: { AreReadable (loaded loader) },
 }
 
 impl<'a> Listing<'a> {
     ghost use Rattle.pef_ports.specs.Sent.{Sends};
+    ghost use Rattle.pef_listing.specs.Left.{lines_left};
     ghost use Rattle.pef_listing.specs.Listing.{listing_text};
     ghost use Rattle.pef_listing.specs.Views.{parts};
 
@@ -69,6 +71,13 @@ impl<'a> Listing<'a> {
         print_each(out, page, &Relocations { loader })?;
         print_each(out, page, &Exported { loader })
     }
+
+    /// Returns a reader of the lines, by which a caller prints them one after the other.
+    pub fn lines(self) -> LineReader<'a>
+        ensures { lines_left result ≡ listing_text (parts self.entry).container (parts self.entry).loader }
+    {
+        LineReader::new(self)
+    }
 }
 
 /// Prints what a container is: its header and its sections.
@@ -96,7 +105,7 @@ fn print_imported<W: Sink>(
 }
 
 /// Prints where a container is entered.
-fn print_entries<W: Sink>(
+pub(crate) fn print_entries<W: Sink>(
     out: &mut W,
     page: &mut Page,
     loader: Loader<'_>,

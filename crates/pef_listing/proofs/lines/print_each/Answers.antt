@@ -14,12 +14,12 @@ loop-i-init g c =
 pub loop-i-preserved : goal.loop-i-preserved
 loop-i-preserved g c =
     let next = each_text-more (g.L.Lines.text c.args.lines.now) c.loop-i.i (g.L.Lines.many c.args.lines.now) (omega (arith, c.len-i-end.ensures)) in
-    sent-piece _ c.loop-i.invariant next c.in_ok-print_at.ensures
+    sent-piece _ c.loop-i.invariant next c.in_ok-print_at.ensures.sends
 
 pub returns-in_err-print_at : goal.returns-in_err-print_at
 returns-in_err-print_at g c =
     let next = each_text-more (g.L.Lines.text c.args.lines.now) c.loop-i.i (g.L.Lines.many c.args.lines.now) (omega (arith, c.len-i-end.ensures)) in
-    Sends-short _ c.from_residual.result _ c.from_residual.ensures.1 (sent-short _ c.loop-i.invariant next c.in_err-print_at.ensures)
+    Sends-short _ c.from_residual.result _ c.from_residual.ensures.1 (sent-short _ c.loop-i.invariant next c.in_err-print_at.ensures.sends)
 
 pub returns : goal.returns
 returns g c = sent-all c.loop-i.invariant (each_text-none (g.L.Lines.text c.args.lines.now) c.loop-i.i (g.L.Lines.many c.args.lines.now) (omega (arith, c.len-i-end.ensures)))

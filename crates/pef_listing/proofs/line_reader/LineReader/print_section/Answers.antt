@@ -1,0 +1,26 @@
+-- A section's line is the next.
+use Rattle.std.proofs.Common.{◌≡◌, ℕ, ◌+◌, ◌<◌, List, ◌++◌, ◌∙◌, refl, arith}
+use Rattle.pef_loader.specs.Views.{loaded}
+use Rattle.pef_views.specs.Views.{contained}
+use Rattle.pef_listing.specs.Left.{from_library, lines_from, lines_left}
+use Rattle.pef_listing.specs.Listing.{section_lines}
+use Rattle.pef_listing.proofs.ReaderLemmas.{parts-front, sent-line, short-line}
+use Rattle.pef_listing.proofs.line_reader.LineReader.print_section.Goals as goal
+
+pub returns-in_err-print_at-clause-next : goal.returns-in_err-print_at-clause-next
+returns-in_err-print_at-clause-next g c =
+    let v = contained c.args.self.now.listing.container in
+    let l = loaded c.args.self.now.listing.loader in
+    let under : c.args.i < v.header.section_count = omega (arith, c.if-i-len.false, c.len.ensures) in
+    let rest : List ℕ = lines_from (section_lines v) v.header.section_count (c.args.i + 1) ++ from_library l 0 in
+    let front : lines_left c.args.self.now ≡ section_lines v c.args.i ++ rest = c.requires ∙ parts-front (section_lines v) v.header.section_count c.args.i (from_library l 0) under in
+    short-line _ c.from_residual.result _ c.args.self.now c.args.self.now (section_lines v c.args.i) rest front refl c.from_residual.ensures.1 c.in_err-print_at.ensures.sends
+
+pub returns-clause-next : goal.returns-clause-next
+returns-clause-next g c =
+    let v = contained c.args.self.now.listing.container in
+    let l = loaded c.args.self.now.listing.loader in
+    let under : c.args.i < v.header.section_count = omega (arith, c.if-i-len.false, c.len.ensures) in
+    let rest : List ℕ = lines_from (section_lines v) v.header.section_count (c.args.i + 1) ++ from_library l 0 in
+    let front : lines_left c.args.self.now ≡ section_lines v c.args.i ++ rest = c.requires ∙ parts-front (section_lines v) v.header.section_count c.args.i (from_library l 0) under in
+    sent-line c.args.self.now _ (section_lines v c.args.i) rest front c.print_at.ensures.some refl c.in_ok-print_at.ensures.sends
