@@ -7,7 +7,7 @@
 #include "../include/pef.h"
 
 /* How many bytes of lines each call of `parts` asks for. */
-#define PART ((size_t)1 << 20)
+#define PART ((size_t)1 << 16)
 
 struct file {
     uint8_t *bytes;
@@ -27,15 +27,13 @@ static bool read_file(const char *path, struct file *read) {
 /* A part that is shorter than the buffer is the last one. */
 static bool parts(const struct file *file) {
     static uint8_t buffer[PART];
-    size_t from = 0, written = PART;
-    while (written == PART) {
-        if (pef_list_part(file->bytes, file->length, from, buffer, PART, &written) != PEF_OK)
-            return false;
-        if (fwrite(buffer, 1, written, stdout) != written)
-            return false;
-        from += written;
-    }
-    return true;
+    struct pef_listing listing = PEF_NO_LISTING;
+    bool is_read = pef_list_open(&listing, file->bytes, file->length) == PEF_OK;
+    size_t written = PART;
+    while (is_read && written == PART)
+        is_read = pef_list_next(&listing, buffer, PART, &written) == PEF_OK && fwrite(buffer, 1, written, stdout) == written;
+    pef_list_free(&listing);
+    return is_read;
 }
 
 static bool headers(size_t count, const struct file *file) {

@@ -140,6 +140,25 @@ static void read_fixups(const uint8_t *bytes, size_t length)
     }
 }
 
+/* Reads a listing part by part, and compares it with the lines. */
+static void list_in_parts(const uint8_t *bytes, size_t length, const uint8_t *lines, size_t count)
+{
+    struct pef_listing listing = PEF_NO_LISTING;
+    size_t most = 1 + count / 3, from = 0, written = most;
+    uint8_t *part = malloc(most);
+    if (part == NULL || pef_list_open(&listing, bytes, length) != PEF_OK)
+        fails("pef_list_open", (uint32_t)count);
+    while (written == most) {
+        if (pef_list_next(&listing, part, most, &written) != PEF_OK || written > count - from || memcmp(part, lines + from, written) != 0)
+            fails("pef_list_next", (uint32_t)from);
+        from += written;
+    }
+    if (from != count)
+        fails("pef_list_next, at the end", (uint32_t)from);
+    pef_list_free(&listing);
+    free(part);
+}
+
 /* Lists into a room that is too small by one byte, and into one that isn't. The first stays as it is. */
 static void list(const uint8_t *bytes, size_t length)
 {
@@ -158,6 +177,7 @@ static void list(const uint8_t *bytes, size_t length)
     if (part == NULL || pef_list_part(bytes, length, from, part, left, &again) != PEF_OK || again != left || memcmp(part, room + from, left) != 0)
         fails("pef_list_part", (uint32_t)again);
     free(part);
+    list_in_parts(bytes, length, room, written);
 }
 
 static bool is_same_finding(const struct pef_finding *one, const struct pef_finding *other)

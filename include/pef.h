@@ -12,17 +12,19 @@
  * - No pointer is null, but one with a length of 0 may be: such bytes, names, buffers and places are none.
  * - A pointer with a length points to at least that many bytes, which nobody else changes during the call.
  * - What a call fills, it fills whatever was there: structs may come as zero bytes, or not initialized. What a call leaves
- *   unchanged keeps the bytes that it had. Only a struct pef_context has to start as zero bytes.
+ *   unchanged keeps the bytes that it had. Only a struct pef_context and a struct pef_listing have to start as zero bytes.
  * - What a call writes overlaps nothing else that it takes.
- * - A context is used by one thread at a time; but several may read it at once by the calls whose names end in `_const`. Apart
- *   from that, several threads may make calls at once: the library has no state outside of contexts.
+ * - A context is used by one thread at a time; but several may read it at once by the calls whose names end in `_const`. A
+ *   listing is used by one thread at a time. Apart from that, several threads may make calls at once: the library has no state
+ *   outside of contexts and listings.
  * - A thread that makes calls has 64 KB of stack for them. No call takes more, whatever it reads.
  * - No call is made from a signal handler.
  * - malloc, realloc and free are those of the C library, or others whose blocks are aligned to 16 bytes.
  *
  * What is borrowed is read during the call only, unless a call says that a result points into it. Then the bytes have to
  * stay, unchanged, while the result is used. What pef_add() takes has to stay until pef_free() of that context returns, or until
- * pef_open() of it, which frees it first. Nothing that the library gives has to be freed, except for a context.
+ * pef_open() of it, which frees it first. What pef_list_open() takes has to stay until pef_list_free() of that listing returns, or
+ * until pef_list_open() of it. Nothing that the library gives has to be freed, except for a context and a listing.
  */
 #ifndef PEF_H
 #define PEF_H
@@ -245,9 +247,58 @@ uint32_t pef_list(const uint8_t *container, size_t container_length, uint8_t *bu
  *
  * Returns PEF_OK, and stores the number of bytes in `*written`: it is less than `buffer_length` only at the end of the lines, and
  * 0 after it. Or returns the first refusal, 1 to 20 or 31 to 36; or PEF_OUT_OF_MEMORY. Then `buffer` and `*written` are left
- * unchanged. Each call makes the lines up to the end of its part again, so take a large buffer.
+ * unchanged. Each call makes the lines up to the end of its part again. To read all parts, pef_list_next() makes them once.
  */
 uint32_t pef_list_part(const uint8_t *container, size_t container_length, size_t from, uint8_t *buffer, size_t buffer_length, size_t *written);
+
+/*
+ * A listing that is read part by part. It starts as zero bytes:
+ *
+ *     struct pef_listing listing = PEF_NO_LISTING;
+ *
+ * Only the three calls below change it, and it isn't copied. Several listings may be open at once.
+ */
+struct pef_listing {
+    void *handle;
+    bool is_open;
+};
+
+/* No listing, which are zero bytes: struct pef_listing listing = PEF_NO_LISTING; */
+#define PEF_NO_LISTING {NULL, false}
+
+/*
+ * Opens the listing of a container, to be read by pef_list_next(). A listing that is open already is freed first.
+ *
+ * `container` is kept, not copied: it has to stay, unchanged, until pef_list_free() of this listing returns.
+ *
+ * Returns PEF_OK; or the first refusal, 1 to 20 or 31 to 36, or PEF_OUT_OF_MEMORY, and then the listing isn't open.
+ */
+uint32_t pef_list_open(struct pef_listing *listing, const uint8_t *container, size_t container_length);
+
+/*
+ * Writes the next bytes of the lines that `pef list` prints to the front of `buffer`, as many as fit. Each line is made once,
+ * whatever the size of the buffer, and the listing keeps no more of them in memory than a buffer, a few kilobytes and a line. A
+ * buffer of 64 KB is fastest: larger ones leave the processor's cache.
+ *
+ * Returns PEF_OK, and stores the number of bytes in `*written`: it is less than `buffer_length` only at the end of the lines, and
+ * 0 after it. Or returns PEF_NOT_OPEN, if the listing isn't open; or PEF_OUT_OF_MEMORY, and then the next call goes on where
+ * this one began. After both `buffer` and `*written` are left unchanged.
+ */
+uint32_t pef_list_next(struct pef_listing *listing, uint8_t *buffer, size_t buffer_length, size_t *written);
+
+/*
+ * Frees a listing. It may be opened again. A listing that isn't open stays as it is, so one may be freed twice.
+ *
+ * A program that includes this header may also free NULL, which does nothing.
+ */
+void pef_list_free(struct pef_listing *listing);
+
+static inline void pef_list_free_unless_null(struct pef_listing *listing)
+{
+    if (listing != NULL)
+        pef_list_free(listing);
+}
+#define pef_list_free pef_list_free_unless_null
 
 /*
  * Gives the name of a number that a call returned or of a note, as "BadTag". PEF_OK has none.

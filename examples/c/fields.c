@@ -43,6 +43,7 @@ static const struct number places[] = {
     SIZE(pef_options, 32), AT(pef_options, size, 0), AT(pef_options, limit, 4), AT(pef_options, granule, 8),
     AT(pef_options, connections, 12), AT(pef_options, steps, 16), AT(pef_options, bytes, 24),
     SIZE(pef_context, 16), AT(pef_context, handle, 0), AT(pef_context, is_open, 8),
+    SIZE(pef_listing, 16), AT(pef_listing, handle, 0), AT(pef_listing, is_open, 8),
     SIZE(pef_names, 48), AT(pef_names, fragment, 0), AT(pef_names, library, 16), AT(pef_names, symbol, 32),
     SIZE(pef_fragment_section, 24), AT(pef_fragment_section, address, 0), AT(pef_fragment_section, size, 8),
     AT(pef_fragment_section, kind, 16), AT(pef_fragment_section, share, 17),
@@ -335,6 +336,24 @@ static void test_fragment_section(void)
     COMPARE(numbers);
 }
 
+/* A listing is open from pef_list_open to pef_list_free. */
+static void test_listing(void)
+{
+    struct pef_listing it = PEF_NO_LISTING;
+    bool was_open = it.is_open;
+    uint32_t answer = pef_list_open(&it, container, LENGTH);
+    bool is_open = it.is_open, has_handle = it.handle != NULL;
+    pef_list_free(&it);
+    const struct number numbers[] = {
+        {"pef_list_open", answer, PEF_OK},
+        {"pef_listing.is_open, at first", was_open, false},
+        {"pef_listing.is_open", is_open, true},
+        {"pef_listing.handle", has_handle, true},
+        {"pef_listing.is_open, after pef_list_free", it.is_open, false},
+    };
+    COMPARE(numbers);
+}
+
 /* Tests the entries of a fragment whose section is at 00010000. The address of one that isn't there is 0. */
 static void test_entries_of(const char *text, uint32_t main, uint32_t init, uint32_t term)
 {
@@ -428,6 +447,7 @@ int main(void)
     test_relocation();
     test_exports();
     test_fragment_section();
+    test_listing();
     test_entries();
     test_target();
     test_names();

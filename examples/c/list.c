@@ -22,19 +22,19 @@ static uint32_t list_at_once(const uint8_t *container, size_t length)
     return answer;
 }
 
-/* Prints the lines in parts. */
+/* Prints the lines in parts, each of which is made once. */
 static uint32_t list_in_parts(const uint8_t *container, size_t length, size_t room)
 {
-    size_t from = 0, written = 0;
+    struct pef_listing listing = PEF_NO_LISTING;
+    size_t written = room;
     uint8_t *part = malloc(room);
-    uint32_t answer = part == NULL ? PEF_OUT_OF_MEMORY : PEF_OK;
-    do {
-        if (answer == PEF_OK)
-            answer = pef_list_part(container, length, from, part, room, &written);
+    uint32_t answer = part == NULL ? PEF_OUT_OF_MEMORY : pef_list_open(&listing, container, length);
+    while (answer == PEF_OK && written == room) {
+        answer = pef_list_next(&listing, part, room, &written);
         if (answer == PEF_OK)
             fwrite(part, 1, written, stdout);
-        from += written;
-    } while (answer == PEF_OK && written == room);
+    }
+    pef_list_free(&listing);
     free(part);
     return answer;
 }

@@ -220,6 +220,35 @@ static uint8_t *copy(const void *bytes, size_t length)
     return memcpy(made, bytes, length);
 }
 
+/* A listing that isn't open, of a container without bytes, and one that is opened again and freed twice. */
+static void test_listing(void)
+{
+    struct pef_listing listing = PEF_NO_LISTING, zeros;
+    uint8_t byte = 7;
+    size_t count = 7;
+    memset(&zeros, 0, sizeof zeros);
+    pef_list_free(NULL);
+    pef_list_free(&listing);
+    pef_list_free(&zeros);
+    expect(pef_list_next(&listing, &byte, 1, &count) == PEF_NOT_OPEN && byte == 7 && count == 7, "pef_list_next of a listing that isn't open");
+    expect(pef_list_open(&listing, NULL, 0) == PEF_TOO_SHORT && !listing.is_open, "pef_list_open of null");
+    expect(pef_list_open(&listing, container, container_length) == PEF_OK && listing.is_open, "pef_list_open");
+    expect(pef_list_next(&listing, &byte, 1, &count) == PEF_OK && byte == 'c' && count == 1, "the first byte of a listing");
+    expect(pef_list_next(&listing, NULL, 0, &count) == PEF_OK && count == 0, "no bytes of a listing");
+    expect(pef_list_next(&listing, &byte, 1, &count) == PEF_OK && byte == 'o' && count == 1, "the second byte of a listing");
+    uint8_t *bytes = copy(container, container_length);
+    expect(pef_list_open(&listing, bytes, container_length) == PEF_OK, "pef_list_open of a listing that is open");
+    expect(pef_list_next(&listing, &byte, 1, &count) == PEF_OK && byte == 'c' && count == 1, "the first byte again");
+    pef_list_free(&listing);
+    memset(bytes, 0xA5, container_length);
+    free(bytes);
+    expect(pef_list_next(&listing, &byte, 1, &count) == PEF_NOT_OPEN, "a listing that was freed");
+    expect(pef_list_open(&listing, container, container_length) == PEF_OK, "pef_list_open of a listing that was freed");
+    expect(pef_list_open(&listing, container, 3) == PEF_TOO_SHORT && !listing.is_open, "a listing that was open");
+    pef_list_free(&listing);
+    pef_list_free(&listing);
+}
+
 /* Opens a context, prepares a fragment whose name and container are blocks of their own, and frees all of it. */
 static void open_once(void)
 {
@@ -282,6 +311,7 @@ int main(int count, char **words)
         test_filled_by_context(0xA5);
         test_filled_by_context(0xFF);
         test_free();
+        test_listing();
         open_once();
     }
     return failures == 0 ? 0 : 1;

@@ -1,6 +1,6 @@
 /*
- * Refuses each growth in turn: refused SCRIPT links the script, lists its container, and finds the notes on that with bytes after it
- * that need memory, once for each growth that these calls ask for. The call has to return PEF_OUT_OF_MEMORY and to write nothing; or, where it can do without the growth, to
+ * Refuses each growth in turn: refused SCRIPT links the script, lists its container at once, a part of it, and in parts, and
+ * finds the notes on that with bytes after it that need memory, once for each growth that these calls ask for. The call has to return PEF_OUT_OF_MEMORY and to write nothing; or, where it can do without the growth, to
  * return what it returns with memory. No block is left behind, and the same call works when it is made again.
  */
 #include "file.h"
@@ -11,7 +11,7 @@
 enum { ROOM = 1 << 20 };
 
 /* One of the calls, the bytes that it takes, and what it writes when it has memory. */
-enum kind { LINK, LIST, NOTES };
+enum kind { LINK, LIST, PART, PARTS, NOTES };
 
 struct trial {
     const char *name;
@@ -34,6 +34,24 @@ static uint32_t find_notes(const uint8_t *bytes, size_t length, uint8_t *out, si
     return answer;
 }
 
+/* Reads a listing in parts of 100 bytes. A part that needs memory which isn't there is read once more. */
+static uint32_t list_in_parts(const uint8_t *bytes, size_t length, uint8_t *out, size_t *written)
+{
+    struct pef_listing listing = PEF_NO_LISTING;
+    size_t all = 0, part = 100;
+    uint32_t answer = pef_list_open(&listing, bytes, length);
+    while (answer == PEF_OK && part == 100) {
+        answer = pef_list_next(&listing, out + all, 100, &part);
+        if (answer == PEF_OUT_OF_MEMORY)
+            answer = pef_list_next(&listing, out + all, 100, &part);
+        all += part;
+    }
+    if (answer == PEF_OK)
+        *written = all;
+    pef_list_free(&listing);
+    return answer;
+}
+
 static uint32_t call(const struct trial *trial, uint8_t *out, size_t *written)
 {
     size_t line;
@@ -42,6 +60,10 @@ static uint32_t call(const struct trial *trial, uint8_t *out, size_t *written)
         return pef_link(trial->bytes, trial->length, out, ROOM, written, &line);
     case LIST:
         return pef_list(trial->bytes, trial->length, out, ROOM, written);
+    case PART:
+        return pef_list_part(trial->bytes, trial->length, 50, out, ROOM, written);
+    case PARTS:
+        return list_in_parts(trial->bytes, trial->length, out, written);
     default:
         return find_notes(trial->bytes, trial->length, out, written);
     }
@@ -96,13 +118,15 @@ static bool sweep(struct trial *trial)
 
 int main(int count, char **words)
 {
-    static uint8_t container[ROOM], lines[ROOM], numbers[ROOM];
+    static uint8_t container[ROOM], lines[ROOM], part[ROOM], parts[ROOM], numbers[ROOM];
     if (count != 2) {
         fputs("usage: refused SCRIPT\n", stderr);
         return 2;
     }
     struct trial link = {.name = "pef_link", .kind = LINK, .wanted = container};
     struct trial list = {.name = "pef_list", .kind = LIST, .wanted = lines};
+    struct trial list_part = {.name = "pef_list_part", .kind = PART, .wanted = part};
+    struct trial list_parts = {.name = "pef_list_open, pef_list_next", .kind = PARTS, .wanted = parts};
     struct trial notes = {.name = "pef_more_notes", .kind = NOTES, .wanted = numbers};
     uint8_t *script = read_file(words[1], &link.length);
     if (script == NULL) {
@@ -114,7 +138,11 @@ int main(int count, char **words)
     free(script);
     list.bytes = container;
     list.length = link.wanted_length;
-    right = right && sweep(&list);
+    list_part.bytes = list_parts.bytes = container;
+    list_part.length = list_parts.length = list.length;
+    right = right && sweep(&list) && sweep(&list_part) && sweep(&list_parts);
+    right = right && list_part.wanted_length == list.wanted_length - 50 && memcmp(part, lines + 50, list_part.wanted_length) == 0;
+    right = right && list_parts.wanted_length == list.wanted_length && memcmp(parts, lines, list.wanted_length) == 0;
     memset(container + link.wanted_length, 1, 6);
     notes.bytes = container;
     notes.length = link.wanted_length + 6;

@@ -95,6 +95,23 @@ static void call_list_part(void)
     answer = pef_list_part(it.at, it.length, 100, room, ROOM, &written);
 }
 
+static struct pef_listing listing;
+
+static void call_list_open(void)
+{
+    answer = pef_list_open(&listing, it.at, it.length);
+}
+
+static void call_list_next(void)
+{
+    answer = pef_list_next(&listing, room, ROOM, &written);
+}
+
+static void call_list_free(void)
+{
+    pef_list_free(&listing);
+}
+
 static void call_section(void)
 {
     static struct pef_section section;
@@ -274,6 +291,9 @@ static void measure_container(const char *what)
     measure("pef_container_place", what, call_container_place);
     measure("pef_list", what, call_list);
     measure("pef_list_part", what, call_list_part);
+    measure("pef_list_open", what, call_list_open);
+    measure("pef_list_next", what, call_list_next);
+    measure("pef_list_free", what, call_list_free);
     measure("pef_section", what, call_section);
     measure("pef_loader", what, call_loader);
     measure("pef_libraries", what, call_libraries);

@@ -304,6 +304,10 @@ class _Context(ctypes.Structure):
     _fields_ = _fields(void_p="handle", bool="is_open")
 
 
+class _Listing(ctypes.Structure):
+    _fields_ = _fields(void_p="handle", bool="is_open")
+
+
 class _Options(ctypes.Structure):
     _fields_ = _fields(uint32="size limit granule connections", uint64="steps bytes")
 
@@ -344,12 +348,16 @@ _IN: List[Any] = [ctypes.c_char_p, ctypes.c_size_t]
 _ROOM: List[Any] = [ctypes.c_void_p, ctypes.c_size_t]
 _SIZE: List[Any] = [ctypes.POINTER(ctypes.c_size_t)]
 _PLACES: List[Any] = [ctypes.POINTER(ctypes.c_size_t), ctypes.c_size_t]
+_IN_LISTING: List[Any] = [ctypes.POINTER(_Listing)]
 _IN_CONTEXT: List[Any] = [ctypes.POINTER(_Context)]
 _OF_FRAGMENT: List[Any] = _IN_CONTEXT + [ctypes.c_uint32, ctypes.c_size_t]
 _CALLS: Dict[str, List[Any]] = {
     "pef_link": _IN + _ROOM + _SIZE * 2,
     "pef_list": _IN + _ROOM + _SIZE,
     "pef_list_part": _IN + [ctypes.c_size_t] + _ROOM + _SIZE,
+    "pef_list_open": _IN_LISTING + _IN,
+    "pef_list_next": _IN_LISTING + _ROOM + _SIZE,
+    "pef_list_free": _IN_LISTING,
     "pef_name": [ctypes.c_uint32, ctypes.POINTER(_Bytes)],
     "pef_help": [ctypes.c_uint32, ctypes.POINTER(_Bytes)],
     "pef_container_place": _IN + [ctypes.POINTER(_Place)],
@@ -413,7 +421,7 @@ def library() -> ctypes.CDLL:
     for name, arguments in _CALLS.items():
         if hasattr(loaded, name):  # an older library lacks some calls
             call = getattr(loaded, name)
-            call.argtypes, call.restype = arguments, None if name == "pef_free" else ctypes.c_uint32
+            call.argtypes, call.restype = arguments, None if name in ("pef_free", "pef_list_free") else ctypes.c_uint32
     return loaded
 
 
@@ -861,6 +869,19 @@ class Container:
                 _check(answer)
                 return ctypes.string_at(room, written.value).decode("ascii")
             length = written.value
+
+    def listing_parts(self, size: int = 65536) -> Iterator[str]:
+        """The lines of `pef list`, in parts of `size` characters; the last part may be shorter. However many lines there are, only
+        one part is in memory. Raises what `listing` raises, when the first part is asked for."""
+        listing, room, written = _Listing(), _room(size), ctypes.c_size_t(size)
+        try:
+            _check(library().pef_list_open(ctypes.byref(listing), *self._bytes))
+            while written.value == size:
+                _check(library().pef_list_next(ctypes.byref(listing), room, size, ctypes.byref(written)))
+                if written.value > 0:
+                    yield ctypes.string_at(room, written.value).decode("ascii")
+        finally:
+            library().pef_list_free(ctypes.byref(listing))
 
 
 # --- contexts ---

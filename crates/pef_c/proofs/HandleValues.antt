@@ -1,4 +1,4 @@
--- The machine values of a `Loose`, after those in the crate once_cell, and of a `Handle`. Assumes `Logic`.
+-- The machine values of a `Loose`, after those in the crate once_cell, and of a handle. Assumes `Logic`.
 use Rattle.std.proofs.Common.{◌≡◌, ℕ, List, [], ◌∷◌, ◌++◌, refl, subst, ◌∙◌, lit<, Option, Some, None}
 use mathlib.Core.Bool.{Bool, true, false, ◌&&◌}
 use lib.Dec.{T}
@@ -15,7 +15,6 @@ use denote.Memory.{lone}
 use denote.RawPtr.{Ptr, block_ptr, null_ptr, ptr_val, in_a_block}
 use denote.Steps.{nothing}
 use denote.Shadow.{shadow, makes_shadow}
-use denote.Signature.{static_lft}
 use denote.Param.{layout}
 use denote.Param.Laws.{Laws}
 use denote.Struct.Struct.{Struct, within}
@@ -28,9 +27,7 @@ use Rattle.std_alloc.proofs.ResultValues.{and_tt}
 use Rattle.std.specs.Option.{is_some}
 use Rattle.std.specs.declared.alloc.Global.{Global}
 use Rattle.std.specs.contracts.impls.GlobalAllocator.TheImpl.{ghosts}
-use Rattle.cfm_prepare.specs.contracts.context.Context as context
-use Rattle.cfm_prepare.specs.Contexts.{ContextState}
-use Rattle.pef_c.specs.Handles.{handle_owns}
+use Rattle.pef_c.specs.Handles.{boxed}
 use Rattle.pef_c.specs.contracts.loose.Loose as loose
 
 abbrev pub both : Val → Val → Val
@@ -90,9 +87,9 @@ module _ {M : Type 1} {𝓤 : Ura M} (𝓛 : Logic 𝓤) where
   handle_made p = makes_shadow 𝓛 (Pointed.own_val (p, tt) (handle_val p ∷ [])) (λ _. (tt, (tt, tt))) ((ptr_val p ∷ [], tt), (refl, (refl, tt)))
 
 module _ {M : Type 1} {𝓤 : Ura M} {𝓛 : Logic 𝓤} {K : Type 0} {Γ : List (Item 𝓤)} {G : Goal 𝓤 𝓛.H} where
-  -- a handle that isn't closed has a context on the heap
-  pub held_out : K → (p : Ptr) (held : Option ContextState) → is_some held ≡ true
-      → ((heap : Global) (x : ContextState) → Some x ≡ held → Seq K 𝓛 (‵ (box_owns (ghosts.dealloc_token heap) (context.the_row static_lft) p x) ∷ Γ) G)
-      → Seq K 𝓛 (‵ (handle_owns p held) ∷ Γ) G
-  held_out t p None full k = absurd (cc)
-  held_out t p (Some x) full k = fpick t (λ heap. k heap x refl)
+  -- a handle that isn't closed has a value on the heap
+  pub held_out : K → (R : RattleType) (p : Ptr) (held : Option R.Denot) → is_some held ≡ true
+      → ((heap : Global) (x : R.Denot) → Some x ≡ held → Seq K 𝓛 (‵ (box_owns (ghosts.dealloc_token heap) R p x) ∷ Γ) G)
+      → Seq K 𝓛 (‵ (boxed R p held) ∷ Γ) G
+  held_out t R p None full k = absurd (cc)
+  held_out t R p (Some x) full k = fpick t (λ heap. k heap x refl)

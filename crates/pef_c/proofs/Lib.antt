@@ -5,5 +5,4 @@ mod LogSteps
 mod MacFilling
 mod NumberLemmas
 mod PartLemmas
-mod TextLemmas
 mod WrittenLemmas

@@ -1,6 +1,7 @@
--- What a handle owns.
+-- What the handles own.
 use Rattle.std.specs.Prelude.{Option, None, Some}
 use base.Fml.{Fml, fex, ftrue}
+use denote.RattleType.{RattleType}
 use denote.RawPtr.{Ptr}
 use denote.Signature.{static_lft}
 use Rattle.std.specs.Box.Ownership.{box_owns}
@@ -8,8 +9,18 @@ use Rattle.std.specs.declared.alloc.Global.{Global}
 use Rattle.std.specs.contracts.impls.GlobalAllocator.TheImpl.{ghosts}
 use Rattle.cfm_prepare.specs.contracts.context.Context as context
 use Rattle.cfm_prepare.specs.Contexts.{ContextState}
+use Rattle.pef_listing.specs.contracts.reader.ListingReader as reader
+use Rattle.pef_listing.specs.declared.reader.ListingReader.{ListingReader}
 
--- the context on the heap, with the right to free its block; or nothing
+-- a value on the heap, with the right to free its block; or nothing
+abbrev pub boxed : (R : RattleType) → Ptr → Option R.Denot → Fml
+boxed R p None = ftrue
+boxed R p (Some x) = fex Global (λ heap. box_owns (ghosts.dealloc_token heap) R p x)
+
+-- a context, or nothing
 abbrev pub handle_owns : Ptr → Option ContextState → Fml
-handle_owns p None = ftrue
-handle_owns p (Some s) = fex Global (λ heap. box_owns (ghosts.dealloc_token heap) (context.the_row static_lft) p s)
+handle_owns p held = boxed (context.the_row static_lft) p held
+
+-- a reader of a listing, or nothing
+abbrev pub reader_owns : Ptr → Option ListingReader → Fml
+reader_owns p held = boxed (reader.the_row static_lft) p held

@@ -1,7 +1,7 @@
 //! The numbers that calls return, and copying into the caller's buffer.
-ghost use Rattle.std.specs.Prelude.{◌≡◌, ◌==◌, drop, false, take};
+ghost use Rattle.std.specs.Prelude.{◌≡◌, ◌==◌, false};
 ghost use Rattle.std.specs.Option.{option_copied};
-ghost use Rattle.pef_c.specs.Buffers.{FillsPart, IsCopied};
+ghost use Rattle.pef_c.specs.Buffers.{IsCopied};
 ghost use Rattle.pef_c.specs.Reading.{CopiesOut};
 ghost use Rattle.pef_listing.specs.Faults as listing;
 ghost use Rattle.pef_loader.specs.Faults as loader;
@@ -67,28 +67,6 @@ pub(crate) fn copy_answer<T: Copy>(items: Option<&[T]>, buffer: &mut [T], count:
     match copy_out(items, buffer, count) {
         Some(()) => 0,
         None => ROOM_TOO_SMALL,
-    }
-}
-
-/// Copies the items from a place on to the front of the caller's buffer, as many as fit. Writes how many they are.
-pub(crate) fn copy_part<T: Copy>(items: &[T], from: usize, buffer: &mut [T], written: &mut usize)
-    ensures { FillsPart items.now from buffer.old buffer.new written.new }
-{
-    let part = part_of(items, from, buffer.len());
-    let _ = copy_out(part, buffer, written);
-}
-
-/// Returns the items from a place on, and no more than `most` of them.
-fn part_of<T>(items: &[T], from: usize, most: usize) -> &[T]
-    ensures { result.now ≡ take most (drop from items.now) }
-{
-    let rest = match items.split_at_checked(from) {
-        Some((_, rest)) => rest,
-        None => return &[],
-    };
-    match rest.split_at_checked(most) {
-        Some((part, _)) => part,
-        None => rest,
     }
 }
 

@@ -21,6 +21,9 @@ mod handle;
 mod large_tests;
 mod link;
 mod list;
+mod list_handle;
+#[cfg(test)]
+mod list_tests;
 mod loader;
 mod log;
 mod loose;
@@ -64,7 +67,8 @@ pub use fragments::{
 };
 pub use handle::PefContext;
 pub use link::pef_link;
-pub use list::{pef_list, pef_list_part};
+pub use list::{pef_list, pef_list_free, pef_list_next, pef_list_open, pef_list_part};
+pub use list_handle::PefListing;
 pub use loader::pef_loader;
 pub use mac_file::{
     pef_file_container, pef_file_kind, pef_fork_container, pef_forks, pef_numbered_container,

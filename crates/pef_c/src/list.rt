@@ -1,8 +1,11 @@
-ghost use Rattle.pef_c.specs.List.{ListAnswers, PartAnswers};
+//! Listings: the lines of a container, at once or part by part.
+ghost use Rattle.std.specs.Prelude.{◌≡◌, None};
+ghost use Rattle.pef_c.specs.List.{ListAnswers, NextAnswers, OpenListAnswers, PartAnswers, unread};
 
-use crate::answers::{OUT_OF_MEMORY, ROOM_TOO_SMALL, copy_out, copy_part, list_number};
-use crate::text::{listing_part, listing_text};
-use pef_listing::Listing;
+use crate::answers::{NOT_OPEN, OUT_OF_MEMORY, ROOM_TOO_SMALL, copy_out, given, list_number};
+use crate::list_handle::{PefListing, put, take};
+use crate::text::{listing_text, read_from};
+use pef_listing::{Listing, ListingReader};
 use std::alloc::Global;
 
 /// Lists a container, and copies the lines to the front of `buffer`.
@@ -49,9 +52,71 @@ pub extern "C" fn pef_list_part(
         Ok(listing) => listing,
         Err(fault) => return list_number(fault),
     };
-    let Ok(text) = listing_part(alloc, &listing, from, buffer.len()) else {
-        return OUT_OF_MEMORY;
+    match read_from(alloc, listing, from, buffer) {
+        Ok(count) => {
+            *written = count;
+            0
+        }
+        Err(_) => OUT_OF_MEMORY,
+    }
+}
+
+/// Opens a container's listing, to be read part by part. A listing that was open is freed.
+///
+/// Returns 0; or the number of the first refusal, or 99, and then the listing isn't open.
+#[unsafe(no_mangle)]
+pub extern "C" fn pef_list_open(
+    alloc: Global,
+    listing: &mut PefListing,
+    container: &'static [u8],
+) -> u32
+    ensures { OpenListAnswers container.entry.now (unread listing.new) result }
+{
+    let _closed = take(alloc, listing);
+    let lines = match Listing::read(given(container)) {
+        Ok(read) => read.lines(),
+        Err(fault) => return list_number(fault),
     };
-    copy_part(text.as_slice(), from, buffer, written);
-    0
+    match Box::new(alloc, ListingReader::new(alloc, lines)) {
+        Ok(boxed) => {
+            put(listing, boxed);
+            0
+        }
+        Err(_) => OUT_OF_MEMORY,
+    }
+}
+
+/// Copies the next bytes of the lines to the front of `buffer`, as many as it has.
+///
+/// Returns 0, and writes the number of bytes to `written`: 0 after the last line; or 202 if the listing isn't open; or
+/// 99, and then nothing is read.
+#[unsafe(no_mangle)]
+pub extern "C" fn pef_list_next(
+    alloc: Global,
+    listing: &mut PefListing,
+    buffer: &mut [u8],
+    written: &mut usize,
+) -> u32
+    ensures { NextAnswers (unread listing.old) (unread listing.new) buffer.old buffer.new written.old written.new result }
+{
+    let Some(mut reader) = take(alloc, listing) else {
+        return NOT_OPEN;
+    };
+    let answer = match reader.read(alloc, buffer) {
+        Ok(count) => {
+            *written = count;
+            0
+        }
+        Err(_) => OUT_OF_MEMORY,
+    };
+    put(listing, reader);
+    answer
+}
+
+/// Frees a listing. Does nothing if it isn't open.
+#[unsafe(no_mangle)]
+pub extern "C" fn pef_list_free(alloc: Global, listing: &mut PefListing)
+    ensures { unread listing.new ≡ None }
+{
+    let _closed = take(alloc, listing);
 }

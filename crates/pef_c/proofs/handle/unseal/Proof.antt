@@ -44,7 +44,7 @@ unseal_spec 𝓤 𝓛 𝓜 𝓡 wired =
     let a = z.0.3.0 in let d = z.0.3.1.0 in let Post : Val → SProp 𝓤 = (walk_of 𝓛 En hs c).post z in let Run : List Val → SProp 𝓤 = λ ws. WpFn 𝓤 H 𝓣.C 𝓣.Λ fn ws Post in
     qed 𝓛 ((raw (alive 𝓛 En.signature z.0.0 z.0.1) ⊛ ‵ (owns (types_at En.signature.params z.0.0) z.0.3 z.0.4)) ∷ raw (fact 𝓤 (is_some d.value ≡ true)) ∷ []) ∵ move ! (1 ∷ []) $ heard ! (is_some d.value ≡ true) (λ full. split ! $ move ! (1 ∷ []) $ fsplit ! $
     handle_tells A ! a z.0.4.0 (λ h ea fits. move ! (1 ∷ []) $ fsplit ! $ fsplit ! $ drop ! $ move ! (1 ∷ []) $ drop ! $
-    held_out ! d.at d.value full (λ heap x is. in_a_block ! d.at (λ p. box_owns (ghosts.dealloc_token heap) R p x) (fst∗ 𝓤 (never 𝓤) (sem 𝓛 (ghosts.dealloc_token heap (bare (lone R.mir)) null_ptr))) (λ b o e.
+    held_out ! R d.at d.value full (λ heap x is. in_a_block ! d.at (λ p. box_owns (ghosts.dealloc_token heap) R p x) (fst∗ 𝓤 (never 𝓤) (sem 𝓛 (ghosts.dealloc_token heap (bare (lone R.mir)) null_ptr))) (λ b o e.
     let p : Ptr = block_ptr b o in let w : Val = handle_val p in let Reported : Type 0 = Some x ≡ d.value in
     let ws : z.0.4.1.0 ≡ w ∷ [] = handle_reported d.at z.0.4.1.0 are.1.0.0 ∙ ap (λ (q : Ptr). handle_val q ∷ []) e in
     suffices ! (Run (h ∷ w ∷ [])) (subst (λ (us : List Val). ent 𝓤 (Run (h ∷ w ∷ [])) (Run us)) (sym (λ i. ea i ++ (ws i ++ []))) (id⊢ 𝓤 (Run (h ∷ w ∷ [])))) $
