@@ -8,5 +8,6 @@ pub mod ReadsBack
 pub mod RoundLemmas
 pub mod TextLemmas
 pub mod TextsRead
+pub mod UnreadLemmas
 pub mod ValidPrints
 pub mod WordsRead

@@ -1,7 +1,8 @@
 //! Certificates that a relocation program has no more halfwords than any other that makes the same fixups.
 //!
 //! [`check`] decides whether a [`Certificate`] is valid for some fixups. [`Certificate::read`] and
-//! [`Certificate::print`] read and print the text of certificates: a certificate for each section of a script.
+//! [`Certificate::print_to`] read and print the text of certificates: a certificate for each section of a script.
+//! [`CertificateReader`] reads one after the other. [`Certificate::print`] returns the text.
 #![tactic(auto)]
 
 mod additions;
@@ -30,7 +31,7 @@ pub use extension::{REACH, SKIP_REACH, moved_value};
 pub use fixups::{WORD, adds_at, after_first, after_import, program_length};
 pub use registers::{are_rising, uses_section};
 pub use rows::{KeptRows, LabelRows, LabelRun, LabelRuns};
-pub use text::{CertFault, printed_texts, read_texts, valid_certificates_print};
+pub use text::{CertFault, CertificateReader, printed_texts, read_texts, valid_certificates_print};
 pub use theorems::{
     extension_of_labels, extensions_fall, labels_are_near, valid_programs_are_least,
 };

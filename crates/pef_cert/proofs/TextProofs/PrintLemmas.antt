@@ -1,12 +1,16 @@
 -- Texts are printed part by part.
-use Rattle.std.proofs.Common.{◌≡◌, ℕ, ◌+◌, ◌<◌, ◌≤◌, true, List, [], ◌∷◌, ◌++◌, length, take, drop, set, get_or, decimal, refl, sym, ap, ◌∙◌, append_assoc}
-use Rattle.std.proofs.lemmas.List.{append-nil, drop_all, drop_more, drop-set, take-append-drop}
+use Rattle.std.proofs.Common.{◌≡◌, ℕ, ◌+◌, ◌-◌, ◌<◌, ◌≤◌, true, List, [], ◌∷◌, ◌++◌, length, take, drop, set, get_or, decimal, refl, sym, ap, ◌∙◌, append_assoc, arith}
+use Rattle.std.specs.Prelude.{codes}
+use Rattle.std.proofs.lemmas.List.{drop_all, drop_more, drop-set, take-append-drop}
 use Rattle.std.proofs.Math.Path.{ap₂}
 use Rattle.pef_reloc.specs.declared.instr.Instr.{Instr}
-use Rattle.pef_reloc.specs.Instrs.{halfword_bytes, halfwords_of, instr_fits, instrs_fit, spelled}
+use Rattle.pef_reloc.specs.Instrs.{halfword_bytes, halfwords_of, instr_fits, instrs_fit, program_length, spelled}
 use Rattle.pef_reloc.proofs.Laws.{spelled-nothing, spelled-one}
 use Rattle.std.proofs.lemmas.Bool.{and_parts}
-use Rattle.pef_cert.specs.Text.Printed.{halfword_words, number_words, words_text}
+use Rattle.pef_cert.specs.Certified.{Certified}
+use Rattle.pef_cert.specs.declared.text.fields.Version.TheVariants.{Two}
+use Rattle.pef_cert.specs.Text.Lines.{Range}
+use Rattle.pef_cert.specs.Text.Printed.{certificate_text, each_text, halfword_words, labels_text, line_text, number_words, program_words, range_text, words_text}
 
 -- words after words
 pub words_text-append : (some others : List (List ℕ)) → words_text (some ++ others) ≡ words_text some ++ words_text others
@@ -33,14 +37,15 @@ numbers_text-append (number ∷ some) others =
     ap (λ (t : List ℕ). 0x20 ∷ decimal number ++ t) (numbers_text-append some others)
     ∙ ap (λ (t : List ℕ). 0x20 ∷ t) (sym (append_assoc (decimal number) (numbers_text some) (numbers_text others)))
 
--- the first numbers are written, and the others are left
-pub numbers_text-split : (k : ℕ) (numbers part others done more total : List ℕ) → part ≡ take k numbers → others ≡ drop k numbers
-    → more ≡ done ++ numbers_text part → done ++ numbers_text numbers ≡ total → more ++ numbers_text others ≡ total
-numbers_text-split k numbers part others done more total front back grown left =
-    ap (λ (t : List ℕ). t ++ numbers_text others) grown
-    ∙ append_assoc done (numbers_text part) (numbers_text others)
-    ∙ ap (λ (t : List ℕ). done ++ t) (sym (numbers_text-append part others) ∙ ap₂ (λ (a b : List ℕ). numbers_text (a ++ b)) front back ∙ ap numbers_text (take-append-drop k numbers))
-    ∙ left
+-- the first numbers, and then the others
+pub numbers_text-split : (k : ℕ) (numbers part others : List ℕ) → part ≡ take k numbers → others ≡ drop k numbers → numbers_text numbers ≡ numbers_text part ++ numbers_text others
+numbers_text-split k numbers part others front back =
+    ap numbers_text (sym (take-append-drop k numbers) ∙ ap₂ (λ (a b : List ℕ). a ++ b) (sym front) (sym back)) ∙ numbers_text-append part others
+
+-- no number is left
+pub numbers_text-none : (numbers : List ℕ) → length numbers ≡ 0 → numbers_text numbers ≡ []
+numbers_text-none [] none = refl
+numbers_text-none (number ∷ numbers) none = absurd (omega (arith, none))
 
 -- halfwords in front of bytes
 pub halfword_words-append : (halfwords bytes : List ℕ) → halfword_words (halfword_bytes halfwords ++ bytes) ≡ halfword_words (halfword_bytes halfwords) ++ halfword_words bytes
@@ -57,18 +62,65 @@ instrs_text-one instr instrs =
     ∙ ap words_text (halfword_words-append (halfwords_of instr) (spelled instrs))
     ∙ words_text-append (halfword_words (halfword_bytes (halfwords_of instr))) (halfword_words (spelled instrs))
 
-pub instrs_text-more : (xs : List Instr) (i : ℕ) (d : Instr) (done more total : List ℕ) → i < length xs → more ≡ done ++ words_text (halfword_words (halfword_bytes (halfwords_of (get_or xs i d))))
-    → done ++ instrs_text (drop i xs) ≡ total → more ++ instrs_text (drop (i + 1) xs) ≡ total
-instrs_text-more xs i d done more total under grown left =
-    ap (λ (t : List ℕ). t ++ instrs_text (drop (i + 1) xs)) grown
-    ∙ append_assoc done (words_text (halfword_words (halfword_bytes (halfwords_of (get_or xs i d))))) (instrs_text (drop (i + 1) xs))
-    ∙ ap (λ (t : List ℕ). done ++ t) (sym (instrs_text-one (get_or xs i d) (drop (i + 1) xs)) ∙ ap instrs_text (sym (drop_more xs i d under)))
-    ∙ left
+-- the first of the instructions that are left, and then the others
+pub instrs_text-more : (xs : List Instr) (i : ℕ) (d : Instr) (words : List ℕ) → i < length xs → words ≡ halfwords_of (get_or xs i d)
+    → instrs_text (drop i xs) ≡ words_text (halfword_words (halfword_bytes words)) ++ instrs_text (drop (i + 1) xs)
+instrs_text-more xs i d words under is =
+    ap instrs_text (drop_more xs i d under)
+    ∙ instrs_text-one (get_or xs i d) (drop (i + 1) xs)
+    ∙ ap (λ (w : List ℕ). words_text (halfword_words (halfword_bytes w)) ++ instrs_text (drop (i + 1) xs)) (sym is)
 
 -- if instructions fit, the first one does and the others do
 pub instrs_fit-parts : (xs : List Instr) (i : ℕ) (d : Instr) → i < length xs → instrs_fit (drop i xs) ≡ true → (instr_fits (get_or xs i d) ≡ true) × (instrs_fit (drop (i + 1) xs) ≡ true)
 instrs_fit-parts xs i d under fit = and_parts (instr_fits (get_or xs i d)) (instrs_fit (drop (i + 1) xs)) (ap instrs_fit (sym (drop_more xs i d under)) ∙ fit)
 
-pub instrs_text-none : (xs : List Instr) (i : ℕ) (done : List ℕ) → length xs ≤ i → done ++ instrs_text (drop i xs) ≡ done
-instrs_text-none xs i done past =
-    ap (λ (b : List ℕ). done ++ words_text (halfword_words b)) (ap spelled (drop_all i xs past) ∙ spelled-nothing) ∙ append-nil done
+-- no instruction is left
+pub instrs_text-none : (xs : List Instr) (i : ℕ) → length xs ≤ i → instrs_text (drop i xs) ≡ []
+instrs_text-none xs i past = ap (λ (b : List ℕ). words_text (halfword_words b)) (ap spelled (drop_all i xs past) ∙ spelled-nothing)
+
+-- the line of the registers
+pub registers_line-parts : (registers : List ℕ) → line_text (codes "registers") (number_words registers ++ codes "*" ∷ []) ≡ codes "registers" ++ (numbers_text registers ++ codes " *\n")
+registers_line-parts registers =
+    ap (λ (t : List ℕ). codes "registers" ++ (t ++ 0x0A ∷ [])) (words_text-append (number_words registers) (codes "*" ∷ []))
+    ∙ ap (λ (t : List ℕ). codes "registers" ++ t) (append_assoc (numbers_text registers) (codes " *") (0x0A ∷ []))
+
+-- the line of a program that has instructions
+pub program_line-parts : (instrs : List Instr) → 0 < length instrs → line_text (codes "program") (program_words instrs) ≡ codes "program" ++ (instrs_text instrs ++ codes "\n")
+program_line-parts [] some = absurd (omega (arith, some))
+program_line-parts (instr ∷ instrs) some = refl
+
+-- the line of a range
+pub range_line-parts : (range : Range) → range_text range ≡ (((codes "at " ++ decimal range.first) ++ codes " ") ++ decimal range.last) ++ (numbers_text range.labels ++ codes "\n")
+range_line-parts range =
+    let first = decimal range.first in
+    let last = decimal range.last in
+    let labels = numbers_text range.labels in
+    let end : List ℕ = codes "\n" in
+    ap (λ (t : List ℕ). codes "at " ++ t) (append_assoc first (0x20 ∷ last ++ labels) end ∙ ap (λ (t : List ℕ). first ++ 0x20 ∷ t) (append_assoc last labels end))
+    ∙ sym (append_assoc (codes "at " ++ first) (codes " ") (last ++ (labels ++ end)))
+    ∙ sym (append_assoc ((codes "at " ++ first) ++ codes " ") last (labels ++ end))
+
+-- the first part in front of all others
+six_parts : (a b c d e f : List ℕ) → a ++ b ++ c ++ d ++ e ++ f ≡ a ++ (b ++ (c ++ (d ++ (e ++ f))))
+six_parts a b c d e f = simp append_assoc
+
+-- the lines of a certificate, one after the other
+pub certificate_text-parts : (c view : Certified) (section rows halfwords : ℕ) (program : List Instr) (registers : List ℕ)
+    → view ≡ c → section ≡ view.section → rows ≡ length view.labels → halfwords ≡ program_length c.program → program ≡ view.program → registers ≡ view.registers
+    → certificate_text Two c ≡ line_text (codes "section") (decimal section ∷ []) ++ (line_text (codes "fixups") (decimal (rows - 1) ∷ []) ++ (line_text (codes "length") (decimal halfwords ∷ [])
+    ++ (line_text (codes "program") (program_words program) ++ (line_text (codes "registers") (number_words registers ++ codes "*" ∷ []) ++ labels_text Two view.labels))))
+unfolding certificate_text
+certificate_text-parts c view section rows halfwords program registers is own many long spells uses =
+    six_parts (line_text (codes "section") (decimal c.section ∷ [])) (line_text (codes "fixups") (decimal (length c.labels - 1) ∷ [])) (line_text (codes "length") (decimal (program_length c.program) ∷ []))
+    (line_text (codes "program") (program_words c.program)) (line_text (codes "registers") (number_words c.registers ++ codes "*" ∷ [])) (labels_text Two c.labels)
+    ∙ sym (rw (own, many, long, spells, uses, is) refl)
+
+-- the first of the certificates that are left, and then the others
+pub each_text-more : (cs : List Certified) (i : ℕ) (c : Certified) → i < length cs → c ≡ get_or cs i c → each_text Two (drop i cs) ≡ certificate_text Two c ++ each_text Two (drop (i + 1) cs)
+each_text-more cs i c under is =
+    ap (λ (left : List Certified). each_text Two left) (drop_more cs i c under)
+    ∙ ap (λ (one : Certified). certificate_text Two one ++ each_text Two (drop (i + 1) cs)) (sym is)
+
+-- no certificate is left
+pub each_text-none : (cs : List Certified) (i : ℕ) → length cs ≤ i → each_text Two (drop i cs) ≡ []
+each_text-none cs i past = ap (λ (left : List Certified). each_text Two left) (drop_all i cs past)

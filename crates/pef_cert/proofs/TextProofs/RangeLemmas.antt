@@ -1,5 +1,5 @@
 -- Rows as ranges: equal rows in front of others are one range.
-use Rattle.std.proofs.Common.{◌≡◌, ◌≢◌, ℕ, zero, suc, ◌+◌, ◌-◌, ◌<◌, Bool, true, false, cond, List, [], ◌∷◌, ◌++◌, length, length-append, replicate, refl, sym, ap, ap₂, ◌∙◌, append_assoc, arith}
+use Rattle.std.proofs.Common.{◌≡◌, ◌≢◌, ℕ, zero, suc, ◌+◌, ◌-◌, ◌<◌, Bool, true, false, cond, List, [], ◌∷◌, ◌++◌, length, length-append, replicate, refl, sym, ap, ap₂, ◌∙◌, arith}
 use Rattle.std.specs.Str.{bytes_eq}
 use Rattle.std.proofs.lemmas.List.{get_or-append_right, get_or-replicate, length-replicate}
 use Rattle.std.proofs.lemmas.Slice.Eq.{bytes_eq-Decides}
@@ -90,19 +90,14 @@ split row (next ∷ rows) = by (bytes_eq row next) refl (split row rows)
       apart = λ more is. (let first : next ≡ row = cc in labels_differ row next same (sym first));
     }
 
--- equal rows are printed
-pub run_text-more : (at n : ℕ) (row done more total : List ℕ) (rows others : List (List ℕ)) → 0 < n → rows ≡ replicate n row ++ others → ((next : List (List ℕ)) → others ≢ row ∷ next)
-    → more ≡ done ++ range_text (record { first = at; last = at + n - 1; labels = row }) → done ++ ranges_text (ranges_of at rows) ≡ total → more ++ ranges_text (ranges_of (at + n) others) ≡ total
-run_text-more at n row done more total rows others some parts apart grown left =
+-- the line of equal rows, and then the others
+pub run_text-more : (at n : ℕ) (row : List ℕ) (rows others : List (List ℕ)) → 0 < n → rows ≡ replicate n row ++ others → ((next : List (List ℕ)) → others ≢ row ∷ next)
+    → ranges_text (ranges_of at rows) ≡ range_text (record { first = at; last = at + n - 1; labels = row }) ++ ranges_text (ranges_of (at + n) others)
+run_text-more at n row rows others some parts apart =
     let whole : suc (n - 1) ≡ n = omega (arith, some) in
     let last : at + (n - 1) ≡ at + n - 1 = omega (arith, some) in
     let next : at + (n - 1) + 1 ≡ at + n = omega (arith, some) in
-    let line = range_text (record { first = at; last = at + n - 1; labels = row }) in
-    let run : ranges_of at rows ≡ record { first = at; last = at + n - 1; labels = row } ∷ ranges_of (at + n) others =
-    ap (ranges_of at) (parts ∙ ap (λ (m : ℕ). replicate m row ++ others) (sym whole))
+    ap ranges_text
+    (ap (ranges_of at) (parts ∙ ap (λ (m : ℕ). replicate m row ++ others) (sym whole))
     ∙ ranges_of-run (n - 1) at row others apart
-    ∙ ap₂ (λ (l m : ℕ). record { first = at; last = l; labels = row } ∷ ranges_of m others) last next in
-    ap (λ (t : List ℕ). t ++ ranges_text (ranges_of (at + n) others)) grown
-    ∙ append_assoc done line (ranges_text (ranges_of (at + n) others))
-    ∙ ap (λ (rs : List Range). done ++ ranges_text rs) (sym run)
-    ∙ left
+    ∙ ap₂ (λ (l m : ℕ). record { first = at; last = l; labels = row } ∷ ranges_of m others) last next)

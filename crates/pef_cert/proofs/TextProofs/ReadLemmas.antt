@@ -3,17 +3,14 @@ use Rattle.std.proofs.Common.{◌≡◌, ◌==◌, true, false, ℕ, suc, ◌+�
 use Rattle.std.specs.Option.{ok_or}
 use Rattle.std.proofs.lemmas.Bool.{ne_eqb}
 use Rattle.std.proofs.lemmas.List.{length-replicate}
-use Rattle.pef_cert.specs.Certified.{Certified}
 use Rattle.pef_words.specs.Results.{◌>>=◌}
 use Rattle.pef_cert.specs.declared.text.fault.CertFault.{CertFault}
 use Rattle.pef_cert.specs.declared.text.fault.CertFault.TheVariants.{BadCertificate, OutOfMemory}
-use Rattle.pef_cert.specs.declared.text.fields.Head.TheVariants.{End, Section}
-use Rattle.pef_cert.specs.declared.text.fields.Version.{Version}
 use Rattle.pef_cert.specs.declared.text.lines.Line.{Line}
-use Rattle.pef_cert.specs.Text.Grammar.{Left, after_head, certificate_read, certificates_of, certificates_read, last_labels, line_read, range_rows, ranges_read, rows_read}
-use Rattle.pef_cert.specs.Text.Kept.Reading.{Going, NextLine, RangesGoing, Says, Takes}
+use Rattle.pef_cert.specs.Text.Grammar.{Left, last_labels, line_read, range_rows, ranges_read, rows_read}
+use Rattle.pef_cert.specs.Text.Kept.Reading.{NextLine, RangesGoing, Says, Takes}
 use Rattle.pef_cert.specs.Text.Views.{FailsAs}
-use Rattle.pef_cert.specs.Text.Lines.{Range, head_line, range_line, row_line, version_line}
+use Rattle.pef_cert.specs.Text.Lines.{Range, range_line, row_line}
 
 -- if there is no line, its number is refused
 pub line_missing : {A : Type 0} (says : List ℕ → Option A) (old new : Left) → NextLine None old new → line_read says old ≡ Err new.number
@@ -41,17 +38,6 @@ pub rows_read-more : (width at count : ℕ) (rows : List (List ℕ)) (left : Lef
 rows_read-more width at count rows left under =
     let e : count - at ≡ suc (count - (at + 1)) = omega arith in
     rw e refl
-
--- more certificates begin with a line
-pub record GoingOn (version : Version) (text : List ℕ) (certificates : List Certified) (behind : Left) : Type 0 where
-  pub most : ℕ
-  pub more : length behind.text ≤ most
-  pub whole : (line_read head_line behind >>= λ head. after_head version head.0 certificates head.1 (certificates_read version most)) ≡ certificates_of text
-
-pub going_on : (version : Version) (text : List ℕ) (certificates : List Certified) (behind : Left) → Going version text certificates behind → GoingOn version text certificates behind
-going_on version text certificates behind g =
-    let e : g.most ≡ suc (g.most - 1) = omega (arith, g.more) in
-    record { most = g.most - 1; more = omega (arith, g.more); whole = sym (ap (λ n. certificates_read version n certificates behind) e) ∙ g.whole }
 
 -- the result of a second step, if the first has one
 abbrev pub then_read : {A B : Type 0} → Option A → (A → Option B) → Option B
@@ -141,29 +127,6 @@ ranges-end width count rows behind old going whole =
     let same : (length rows == count) ≡ true = eq-eqb (length rows) count (omega (arith, few, whole)) in
     sym going.whole ∙ ap (λ (n : ℕ). ranges_read width count n rows behind) e ∙ rw same refl
 
--- a text begins with its version
-
+-- what is left of a text before its first line
 abbrev pub whole_text : List ℕ → Left
 whole_text text = record { number = 1; text = text }
-
-pub certificates-fail : (fault : CertFault) (text : List ℕ) → FailsAs fault (line_read version_line (whole_text text)) → FailsAs fault (certificates_of text)
-unfolding certificates_of
-certificates-fail fault text is = fails_step fault (line_read version_line (whole_text text)) (λ version. certificates_read version.0 (length text) [] version.1) is
-
-pub certificates-begin : (text : List ℕ) (version : Version) (next : Left) → line_read version_line (whole_text text) ≡ Ok (version, next) → length next.text + 1 ≤ length text → Going version text [] next
-unfolding certificates_of
-certificates-begin text version next is less = record { most = length text; more = omega arith; whole = rw is refl }
-
--- a certificate that was read is after the others
-pub certificates-more : (version : Version) (text : List ℕ) (certificates : List Certified) (behind head next : Left) (section : ℕ) (certificate : Certified) → Going version text certificates behind
-    → line_read head_line behind ≡ Ok (Section section, head) → length head.text + 1 ≤ length behind.text
-    → certificate_read version section head ≡ Ok (certificate, next) → length next.text ≤ length head.text → Going version text (certificates ++ certificate ∷ []) next
-certificates-more version text certificates behind head next section certificate going is less certified no_more =
-    let g = going_on version text certificates behind going in
-    record { most = g.most; more = omega (arith, g.more); whole = rw (is, certified) at g.whole }
-
--- and after the last line these are all
-pub certificates-end : (version : Version) (text : List ℕ) (certificates : List Certified) (behind head : Left) → Going version text certificates behind → line_read head_line behind ≡ Ok (End, head) → true ≡ (length head.text == 0) → certificates_of text ≡ Ok certificates
-certificates-end version text certificates behind head going is empty =
-    let g = going_on version text certificates behind going in
-    sym (rw (is, ← empty) at g.whole)

@@ -149,12 +149,12 @@ labels_read-are Two width n old new all is =
     }
 
 -- a certificate
-record CertificateText (version : Version) (section : ℕ) (old : Left) (c : Certified) (new : Left) : Type 0 where
-  section_is : c.section ≡ section
-  printable : IsNumber section → Printable c
-  text : old.text ≡ body_text version c new.text
+pub record CertificateText (version : Version) (section : ℕ) (old : Left) (c : Certified) (new : Left) : Type 0 where
+  pub section_is : c.section ≡ section
+  pub printable : IsNumber section → Printable c
+  pub text : old.text ≡ body_text version c new.text
 
-certificate_read-is : (version : Version) (section : ℕ) (old new : Left) (c : Certified) → certificate_read version section old ≡ Ok (c, new) → CertificateText version section old c new
+pub certificate_read-is : (version : Version) (section : ℕ) (old new : Left) (c : Certified) → certificate_read version section old ≡ Ok (c, new) → CertificateText version section old c new
 unfolding certificate_read
 certificate_read-is version section old new c is =
     step_ok (line_read fixups_line old) (λ fixups. line_read length_line fixups.1 >>= λ halfwords. line_read (program_line halfwords.0) halfwords.1 >>= λ program. line_read registers_line program.1 >>= λ registers. labels_read version (row_width registers.0) (fixups.0 + 1) registers.1 >>= λ labels. Ok (record { section = section; program = program.0; registers = registers.0; labels = labels.0 }, labels.1)) (c, new) is (λ fixups fixups_read rest1.

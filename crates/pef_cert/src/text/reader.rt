@@ -1,10 +1,11 @@
-ghost use Rattle.std.specs.Prelude.{◌≡◌, ◌+◌, ◌*◌, ◌<◌, ◌≤◌, [], length, vec_len, IfOk, OnOk};
+ghost use Rattle.std.specs.Prelude.{◌≡◌, ◌+◌, ◌*◌, ◌<◌, ◌≤◌, [], length, vec_len, IfOk, IfSome, OnOk};
 ghost use Rattle.std.specs.List.{AllByRecursion};
 ghost use Rattle.pef_words.specs.Refusals.{result_map};
 ghost use Rattle.pef_cert.specs.Text.Grammar.{certificate_read, certificates_of, labels_read, line_read, ranges_read, rows_read};
 ghost use Rattle.pef_cert.specs.Text.Kept.Reading.{Takes, left};
 ghost use Rattle.pef_cert.specs.Text.Lines.{fixups_line, head_line, length_line, program_line, range_line, registers_line, row_line, version_line};
 ghost use Rattle.pef_cert.specs.Text.Printed.{Printable};
+ghost use Rattle.pef_cert.specs.Text.Unread.{BeginsAs, TakesNext, certificates_left, unread};
 ghost use Rattle.pef_cert.specs.Text.Views.{ReadsAs};
 
 use crate::text::CertFault;
@@ -17,6 +18,58 @@ use pef_reloc::Instr;
 use std::alloc::Global;
 use std::mem;
 
+/// The certificates that are left of a text in version 1 or 2. They are read one after the other, so that one at a time
+/// is in memory.
+#[derive(Clone, Copy)]
+pub struct CertificateReader<'a> {
+    version: Version,
+    lines: Lines<'a>,
+}
+
+impl<'a> CertificateReader<'a> {
+    /// Returns the certificates of a text. It reads the first line, which has the version.
+    ///
+    /// # Errors
+    ///
+    /// `BadCertificate` if there is no such line.
+    pub fn new(text: &'a [u8]) -> Result<CertificateReader<'a>, CertFault>
+        ensures { BeginsAs result (certificates_of text.entry.now) }
+    {
+        let mut lines = Lines::new(text);
+        let version = read_version(&mut lines)?;
+        Ok(CertificateReader { version, lines })
+    }
+
+    /// Reads the next certificate, or returns `None` if the text ends after the last one.
+    ///
+    /// After `None` or an error the reader is as it was.
+    ///
+    /// # Errors
+    ///
+    /// `BadCertificate` with the number of the first line that breaks a rule by itself or with the lines before it, or,
+    /// if a line is missing, of the one after the last; or `OutOfMemory`.
+    pub fn next_certificate(&mut self, alloc: Global) -> Result<Option<Certificate>, CertFault>
+        ensures next { TakesNext result (certificates_left self.old) (certificates_left self.new) }
+        ensures printable { IfOk result (λ next. IfSome next Printable) }
+        ensures less { IfOk result (λ next. IfSome next (λ _. length (unread self.new).text < length (unread self.old).text)) }
+    {
+        let mut lines = self.lines;
+        match read_head(&mut lines)? {
+            Head::End => {
+                if !lines.is_empty() {
+                    return Err(lines.fault());
+                }
+                Ok(None)
+            }
+            Head::Section(section) => {
+                let certificate = read_certificate(alloc, &mut lines, self.version, section)?;
+                self.lines = lines;
+                Ok(Some(certificate))
+            }
+        }
+    }
+}
+
 impl Certificate {
     /// Reads the certificates of a text in version 1 or 2, in time linear in its length.
     ///
@@ -28,20 +81,13 @@ impl Certificate {
         ensures certificates { ReadsAs (result_map (λ v. v.items) result) (certificates_of text.now) }
         ensures printable { IfOk result (λ v. AllByRecursion Printable v.items) }
     {
-        let mut lines = Lines::new(text);
-        let version = read_version(&mut lines)?;
+        let mut reader = CertificateReader::new(text)?;
         let mut certificates = Vec::new(alloc);
         'certificates: loop {
-            match read_head(&mut lines)? {
-                Head::End => break,
-                Head::Section(section) => {
-                    let certificate = read_certificate(alloc, &mut lines, version, section)?;
-                    certificates.push(certificate)?;
-                }
+            match reader.next_certificate(alloc)? {
+                Some(certificate) => certificates.push(certificate)?,
+                None => break,
             }
-        }
-        if !lines.is_empty() {
-            return Err(lines.fault());
         }
         Ok(certificates)
     }

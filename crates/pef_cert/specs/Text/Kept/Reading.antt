@@ -1,13 +1,11 @@
 -- The values of the reader's types, and of its steps.
 use Rattle.std.specs.Prelude.{◌≡◌, ℕ, ◌+◌, ◌<◌, ◌≤◌, length, List, [], Option, None, Some, Result, Ok, Err}
 use Rattle.std.specs.Option.{ok_or}
-use Rattle.pef_cert.specs.Certified.{Certified}
 use Rattle.pef_lines.specs.Lines.{cut_at}
 use Rattle.pef_cert.specs.declared.text.fault.CertFault.{CertFault}
-use Rattle.pef_cert.specs.declared.text.fields.Version.{Version}
 use Rattle.pef_cert.specs.declared.text.lines.Line.{Line}
 use Rattle.pef_cert.specs.declared.text.lines.Lines.{Lines}
-use Rattle.pef_cert.specs.Text.Grammar.{Left, certificates_of, certificates_read, ranges_read}
+use Rattle.pef_cert.specs.Text.Grammar.{Left, ranges_read}
 use Rattle.pef_cert.specs.Text.Views.{FailsAs, ReadsAs}
 
 -- a result and the rest are the expected ones, unless an allocation failed
@@ -27,12 +25,6 @@ left lines = record { number = lines.number; text = lines.rest.now }
 abbrev pub NextLine : Option Line → Left → Left → Type 0
 NextLine None old new = (cut_at 0x0A old.text ≡ None) × (new ≡ old)
 NextLine (Some line) old new = (line.number ≡ old.number) × (cut_at 0x0A old.text ≡ Some (line.bytes.now, new.text)) × (new.number ≡ old.number + 1)
-
--- after some certificates of a text this rest is left, which gives those of the whole
-pub record Going (version : Version) (text : List ℕ) (certificates : List Certified) (behind : Left) : Type 0 where
-  pub most : ℕ
-  pub more : length behind.text < most
-  pub whole : certificates_read version most certificates behind ≡ certificates_of text
 
 -- after some rows of ranges this rest is left, which gives the rows of all
 pub record RangesGoing (width count : ℕ) (rows : List (List ℕ)) (behind old : Left) : Type 0 where
