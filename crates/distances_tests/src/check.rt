@@ -32,6 +32,14 @@ const TURNED: &[u8] = b"\
       pefcert 1\nsection 1\nfixups 0\nlength 0\nprogram -\nregisters *\nat 0 0\n\
       section 0\nfixups 0\nlength 0\nprogram -\nregisters *\nat 0 0\nend\n";
 
+/// Certificates for other sections, and one that isn't valid, each with a bad line after it.
+const TURNED_BADLY: &[u8] = b"\
+      pefcert 1\nsection 1\nfixups 0\nlength 0\nprogram -\nregisters *\nat 0 0\n\
+      section 0\nfixups x\n";
+
+const BAD_AFTER_NO: &[u8] =
+    b"pefcert 1\nsection 0\nfixups 0\nlength 0\nprogram -\nregisters *\nat 0 1\nsections 1\n";
+
 /// A script with one section without fixups.
 const PLAIN: &[u8] = b"section d data process 4 4\n";
 
@@ -51,6 +59,18 @@ const CHECKS: &[(&[u8], &[u8], &[u8], u8)] = &[
     (VECTORS, FIRST, b"refused 52 SectionsDiffer\n", 1),
     (PLAIN, SECOND, b"refused 52 SectionsDiffer\n", 1),
     (VECTORS, TURNED, b"refused 52 SectionsDiffer\n", 1),
+    (
+        VECTORS,
+        TURNED_BADLY,
+        b"refused 51 BadCertificate line 9\n",
+        1,
+    ),
+    (
+        PLAIN,
+        BAD_AFTER_NO,
+        b"refused 51 BadCertificate line 8\n",
+        1,
+    ),
     (
         VECTORS,
         b"pefcert 3\n",

@@ -39,8 +39,8 @@ script_print script certificates holds are =
     certified_print (length script.sections) (length script.imports) 0 script.sections certificates holds.sections.each are (omega (arith, few))
 
 -- .. also those of a link
-pub certificates_print : (script : DescribedScript) (l : CertifiedContainer) (given : List Certified) → IsCertifiedLink script l → given ≡ l.certificates → AllByRecursion Printable given
-certificates_print script l given is same = subst (AllByRecursion Printable) (sym (same ∙ is.certificates)) (script_print script is.linked.certificates is.linked.holds is.linked.certified)
+pub certificates_print : (script : DescribedScript) (l : CertifiedContainer) → IsCertifiedLink script l → AllByRecursion Printable l.certificates
+certificates_print script l is = subst (AllByRecursion Printable) (sym is.certificates) (script_print script is.linked.certificates is.linked.holds is.linked.certified)
 
 -- a file whose script was linked
 pub files_linked : {F : Type 0} {port : FilesPort F} {before after : F} {path text : List ℕ} {l : LinkedContainer} (given : List ℕ) (script : DescribedScript)

@@ -1,15 +1,17 @@
-ghost use Rattle.std.specs.Prelude.{◌≡◌, IfOk, length, true};
+ghost use Rattle.std.specs.Prelude.{◌≡◌, [], IfSome, OnOk, true};
+ghost use Rattle.std.specs.Option.{option_copied};
 ghost use Rattle.pef_ports.specs.Sent.{Sends};
 ghost use Rattle.pef_reloc.specs.Fixups.{fixups_fit};
+ghost use Rattle.pef_script.specs.Script.{DescribedScript};
 ghost use Rattle.pef_tool.specs.Answers.Answers.{Answer, IsDelivered};
-ghost use Rattle.pef_tool.specs.Check.{AreVerdicts, CheckAnswers, IsVerdict, Judges, are_numbered, judged_answer, match_sections, verdict_text, verdicts_outcome, verdicts_text};
-ghost use Rattle.pef_tool.specs.Kept.Judged.{JudgesRead, JudgesScript};
+ghost use Rattle.pef_tool.specs.Check.{CheckAnswers, IsVerdict, Judges, judged_answer, verdict_text, verdicts_outcome, verdicts_text};
+ghost use Rattle.pef_tool.specs.Kept.Judged.{HasJudged, JudgesAll, JudgesNext, JudgesScript, next_fixups};
 ghost use Rattle.pef_words.specs.Refusals.{result_map};
 
 use crate::answers::{Outcome, Reply, deliver};
 use crate::linking::read_script;
 use crate::reading::read_file;
-use pef_cert::{Certificate, check};
+use pef_cert::{Certificate, CertificateReader, check};
 use pef_faults::Fault;
 use pef_ports::{Files, Page, Piece, Sink, StreamFault, print_pieces};
 use pef_reloc::Fixup;
@@ -73,7 +75,7 @@ fn check_texts<'a>(
     }
 }
 
-/// Checks the certificates of a text for the sections of a script.
+/// Checks the certificates of a text for the sections of a script. One certificate at a time is in memory.
 fn check_certificates<'a>(
     alloc: Global,
     script: &Script<'_>,
@@ -81,65 +83,81 @@ fn check_certificates<'a>(
 ) -> Result<Verdicts, Fault<'a>>
     ensures { JudgesScript script.now certificates.now (result_map (λ v. v.verdicts.items) result) }
 {
-    match Certificate::read(alloc, certificates) {
-        Ok(certificates) => judge(alloc, script, certificates.as_slice()),
-        Err(fault) => Err(Fault::Certificate(fault)),
-    }
-}
-
-/// Judges certificates for the sections of a script.
-fn judge<'a>(
-    alloc: Global,
-    script: &Script<'_>,
-    certificates: &[Certificate],
-) -> Result<Verdicts, Fault<'a>>
-    ensures { JudgesRead script.now certificates.now (result_map (λ v. v.verdicts.items) result) }
-{
-    if !match_sections(script, certificates) {
-        return Err(Fault::SectionsDiffer);
-    }
-    match check_sections(alloc, script, certificates) {
-        Ok(verdicts) => Ok(Verdicts { verdicts }),
-        Err(_) => Err(Fault::OutOfMemory),
-    }
-}
-
-/// Returns whether there is exactly one certificate for each section of the script, in order.
-fn match_sections(script: &Script<'_>, certificates: &[Certificate]) -> bool
-    ensures { result ≡ match_sections script.now certificates.now }
-{
-    certificates.len() == script.sections() && are_numbered(certificates)
-}
-
-/// Returns whether certificates are for sections numbered from 0.
-fn are_numbered(certificates: &[Certificate]) -> bool
-    ensures { result ≡ are_numbered 0 certificates.now }
-{
-    for (k, certificate) in certificates.iter().enumerate() {
-        if certificate.section as usize != k {
-            return false;
+    let mut reader = CertificateReader::new(certificates)?;
+    let mut judging = Judging::new(alloc);
+    'certificates: loop {
+        match reader.next_certificate(alloc)? {
+            Some(certificate) => judging.judge(script, &certificate)?,
+            None => break,
         }
     }
-    true
+    judging.end(script)
 }
 
-/// Checks the certificates of the sections, one for each section.
-fn check_sections(
-    alloc: Global,
-    script: &Script<'_>,
-    certificates: &[Certificate],
-) -> Result<Vec<Verdict>, AllocFailed<Verdict>>
-    requires { length certificates.now ≡ length script.now.sections }
-    ensures { IfOk result (λ verdicts. AreVerdicts script.now.sections certificates.now verdicts.items) }
-{
-    let mut verdicts = Vec::new(alloc);
-    for (k, certificate) in certificates.iter().enumerate() {
-        let Some(fixups) = script.fixups(k) else {
-            unreachable!()
-        };
-        verdicts.push(verdict_on(fixups, certificate))?;
+/// What is known after some certificates of a text.
+#[derive(Drop)]
+struct Judging {
+    /// The verdicts on them, until one differs.
+    verdicts: Vec<Verdict>,
+    /// Whether one of them isn't for the section at its place.
+    differ: bool,
+}
+
+impl Judging {
+    /// Returns what is known before the first certificate.
+    fn new(alloc: Global) -> Judging
+        ensures { (script : DescribedScript) → HasJudged script [] result }
+    {
+        Judging {
+            verdicts: Vec::new(alloc),
+            differ: false,
+        }
     }
-    Ok(verdicts)
+
+    /// Judges the next certificate.
+    fn judge(
+        &mut self,
+        script: &Script<'_>,
+        certificate: &Certificate,
+    ) -> Result<(), AllocFailed<Verdict>>
+        ensures { OnOk result (JudgesNext script.now certificate.now self.old self.new) }
+    {
+        if self.differ {
+            return Ok(());
+        }
+        match section_fixups(script, self.verdicts.len(), certificate) {
+            Some(fixups) => self.verdicts.push(verdict_on(fixups, certificate))?,
+            None => self.differ = true,
+        }
+        Ok(())
+    }
+
+    /// Returns the verdicts after the last certificate, if there is one for each section.
+    fn end<'a>(self, script: &Script<'_>) -> Result<Verdicts, Fault<'a>>
+        ensures { JudgesAll script.now self (result_map (λ v. v.verdicts.items) result) }
+    {
+        if self.differ || self.verdicts.len() != script.sections() {
+            return Err(Fault::SectionsDiffer);
+        }
+        Ok(Verdicts {
+            verdicts: self.verdicts,
+        })
+    }
+}
+
+/// Returns the fixups of section k, or `None` if there is none or a certificate isn't for it.
+fn section_fixups<'s>(
+    script: &'s Script<'_>,
+    k: usize,
+    certificate: &Certificate,
+) -> Option<&'s [Fixup]>
+    ensures value { option_copied result ≡ next_fixups script.now.sections k certificate.now }
+    ensures fit { IfSome result (λ fixups. fixups_fit fixups.now ≡ true) }
+{
+    if certificate.section as usize != k {
+        return None;
+    }
+    script.fixups(k)
 }
 
 /// Returns the verdict on a certificate for some fixups.

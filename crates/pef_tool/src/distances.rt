@@ -1,3 +1,6 @@
+ghost use Rattle.std.proofs.Props.{props};
+ghost use Rattle.std.specs.List.{AllByRecursion};
+ghost use Rattle.pef_cert.specs.Text.Printed.{Printable, certificates_text};
 ghost use Rattle.pef_tool.specs.Answers.Answers.{Answer, IsDelivered, answer_done};
 ghost use Rattle.pef_tool.specs.Distances.{DistancesAnswers};
 
@@ -5,14 +8,14 @@ use crate::answers::{Outcome, Reply, deliver};
 use crate::linking::certify_text;
 use crate::reading::read_file;
 use pef_cert::Certificate;
-use pef_faults::Fault;
-use pef_ports::{Files, Page, Sink, StreamFault, send};
+use pef_ports::{Files, Page, Sink, StreamFault};
+use pef_write::Linked;
 use std::alloc::Global;
 
 /// Links the script at a path, and prints the certificates. The certificate of a section states that no program is
 /// shorter than the one that was linked.
 ///
-/// The whole text is made before the first line is printed.
+/// All certificates are made before the first line is printed.
 pub fn print_distances<F: Files, W: Sink>(
     alloc: Global,
     files: &mut F,
@@ -31,26 +34,24 @@ pub fn print_distances<F: Files, W: Sink>(
         Ok(linked) => linked,
         Err(fault) => return deliver(out, &fault),
     };
-    match Certificate::print(alloc, linked.certificates()) {
-        Ok(text) => deliver(out, &Distances { text }),
-        Err(_) => deliver(out, &Fault::OutOfMemory),
-    }
+    deliver(out, &Distances { linked })
 }
 
 /// The certificates of a script's sections, as they are printed.
 #[derive(Drop)]
 struct Distances {
-    text: Vec<u8>,
+    linked: Linked,
+    ghost printable: { AllByRecursion Printable linked.certificates } by { Prim.hlevel props },
 }
 
 impl Reply for Distances {
-    ghost answer = { λ distances. answer_done distances.text.items };
+    ghost answer = { λ distances. answer_done (certificates_text distances.linked.certificates) };
 
     fn outcome(&self) -> Outcome {
         Outcome::Done
     }
 
     fn print<W: Sink>(&self, out: &mut W, page: &mut Page) -> Result<(), StreamFault> {
-        send(out, page, &self.text)
+        Certificate::print_to(out, page, self.linked.certificates())
     }
 }

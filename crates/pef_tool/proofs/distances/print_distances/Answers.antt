@@ -1,7 +1,6 @@
 -- SCRIPT is read and linked, and the certificates of its sections are printed.
-use Rattle.std.proofs.Common.{inr, refl, ap, ◌∙◌}
+use Rattle.std.proofs.Common.{refl}
 use Rattle.pef_cert.specs.Text.Printed.{certificates_text}
-use Rattle.pef_faults.specs.declared.fault.Fault.TheVariants.{OutOfMemory}
 use Rattle.pef_tool.specs.Answers.Answers.{answer_done}
 use Rattle.pef_tool.specs.Answers.Faults.{fault_answer}
 use Rattle.pef_tool.specs.Distances.{certifies, refuses}
@@ -20,15 +19,14 @@ returns-in-Err-certify_text g c =
     let refused = unlinked _ c.args.files.now c.read_file.new.files c.args.script.now c.in-Ok.text.items c.as_slice.result.now why c.in-Ok.ensures.read c.as_slice.ensures.value c.in-Err-certify_text.ensures in
     (fault_answer why, (refuses why, refused, refl), c.deliver-in-Err-certify_text.ensures)
 
-pub returns-in-Ok-print : goal.returns-in-Ok-print
-returns-in-Ok-print g c =
+pub invariant_of-deliver : goal.invariant_of-deliver
+invariant_of-deliver g c =
     let certified = c.in-Ok-certify_text.ensures in
-    let text = c.in-Ok-print.ensures.text ∙ ap certificates_text c.certificates.ensures in
-    let file = file_certified c.as_slice.result.now certified.0 c.in-Ok.ensures.read c.as_slice.ensures.value certified.1 certified.2 in
-    (answer_done c.in-Ok-print.text.items, (certifies c.in-Ok-certify_text.linked.certificates, file, ap answer_done text), c.deliver-in-Ok-print.ensures)
+    record { printable = certificates_print certified.0 c.in-Ok-certify_text.linked certified.2 }
 
 pub returns : goal.returns
-returns g c = (fault_answer OutOfMemory, (refuses OutOfMemory, inr (inr (c.in-Ok.text.items, c.in-Ok.ensures.read)), refl), c.deliver-in-Err-print.ensures)
-
-pub print-requires : goal.print-requires
-print-requires g c = certificates_print c.in-Ok-certify_text.ensures.0 _ c.certificates.result.now c.in-Ok-certify_text.ensures.2 c.certificates.ensures
+returns g c =
+    let certified = c.in-Ok-certify_text.ensures in
+    let certificates = c.in-Ok-certify_text.linked.certificates in
+    let file = file_certified c.as_slice.result.now certified.0 c.in-Ok.ensures.read c.as_slice.ensures.value certified.1 certified.2 in
+    (answer_done (certificates_text certificates), (certifies certificates, file, refl), c.deliver-2.ensures)
