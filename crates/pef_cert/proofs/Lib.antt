@@ -23,5 +23,6 @@ mod StepLemmas
 mod SweepLemmas
 mod TestLemmas
 mod FixupsProofs
+mod PackedLemmas
 mod RowLemmas
 mod TextProofs

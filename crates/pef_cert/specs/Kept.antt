@@ -3,4 +3,5 @@ pub mod Registers
 pub mod Sets
 pub mod Tests
 pub mod Values
+pub mod Packed
 pub mod RowsKept

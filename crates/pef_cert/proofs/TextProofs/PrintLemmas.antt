@@ -3,12 +3,14 @@ use Rattle.std.proofs.Common.{◌≡◌, ℕ, ◌+◌, ◌-◌, ◌<◌, ◌≤�
 use Rattle.std.specs.Prelude.{codes}
 use Rattle.std.proofs.lemmas.List.{drop_all, drop_more, drop-set, take-append-drop}
 use Rattle.std.proofs.Math.Path.{ap₂}
+use Rattle.std.proofs.Math.Seq.{drop-append-add, take-append-add}
 use Rattle.pef_reloc.specs.declared.instr.Instr.{Instr}
 use Rattle.pef_reloc.specs.Instrs.{halfword_bytes, halfwords_of, instr_fits, instrs_fit, program_length, spelled}
 use Rattle.pef_reloc.proofs.Laws.{spelled-nothing, spelled-one}
 use Rattle.std.proofs.lemmas.Bool.{and_parts}
 use Rattle.pef_cert.specs.Certified.{Certified}
 use Rattle.pef_cert.specs.declared.text.fields.Version.TheVariants.{Two}
+use Rattle.pef_cert.specs.Text.Kept.Heads.{head_text}
 use Rattle.pef_cert.specs.Text.Lines.{Range}
 use Rattle.pef_cert.specs.Text.Printed.{certificate_text, each_text, halfword_words, labels_text, line_text, number_words, program_words, range_text, words_text}
 
@@ -36,6 +38,16 @@ numbers_text-append [] others = refl
 numbers_text-append (number ∷ some) others =
     ap (λ (t : List ℕ). 0x20 ∷ decimal number ++ t) (numbers_text-append some others)
     ∙ ap (λ (t : List ℕ). 0x20 ∷ t) (sym (append_assoc (decimal number) (numbers_text some) (numbers_text others)))
+
+-- the numbers that were read, and then the others
+pub numbers_text-read : (old part new : List ℕ) (left more : ℕ) → old ≡ part ++ new → left ≡ length part + more → numbers_text (take left old) ≡ numbers_text part ++ numbers_text (take more new)
+numbers_text-read old part new left more is counts =
+    ap₂ (λ (n : ℕ) (l : List ℕ). numbers_text (take n l)) counts is
+    ∙ ap numbers_text (take-append-add part new more)
+    ∙ numbers_text-append part (take more new)
+
+pub numbers-left : (old part new : List ℕ) (left more : ℕ) → old ≡ part ++ new → left ≡ length part + more → drop left old ≡ drop more new
+numbers-left old part new left more is counts = ap₂ (λ (n : ℕ) (l : List ℕ). drop n l) counts is ∙ drop-append-add part new more
 
 -- the first numbers, and then the others
 pub numbers_text-split : (k : ℕ) (numbers part others : List ℕ) → part ≡ take k numbers → others ≡ drop k numbers → numbers_text numbers ≡ numbers_text part ++ numbers_text others
@@ -100,20 +112,19 @@ range_line-parts range =
     ∙ sym (append_assoc (codes "at " ++ first) (codes " ") (last ++ (labels ++ end)))
     ∙ sym (append_assoc ((codes "at " ++ first) ++ codes " ") last (labels ++ end))
 
--- the first part in front of all others
-six_parts : (a b c d e f : List ℕ) → a ++ b ++ c ++ d ++ e ++ f ≡ a ++ (b ++ (c ++ (d ++ (e ++ f))))
+-- the lines before the labels, one after the other, and the labels
+six_parts : (a b c d e f : List ℕ) → a ++ b ++ c ++ d ++ e ++ f ≡ (a ++ (b ++ (c ++ (d ++ e)))) ++ f
 six_parts a b c d e f = simp append_assoc
 
--- the lines of a certificate, one after the other
-pub certificate_text-parts : (c view : Certified) (section rows halfwords : ℕ) (program : List Instr) (registers : List ℕ)
-    → view ≡ c → section ≡ view.section → rows ≡ length view.labels → halfwords ≡ program_length c.program → program ≡ view.program → registers ≡ view.registers
-    → certificate_text Two c ≡ line_text (codes "section") (decimal section ∷ []) ++ (line_text (codes "fixups") (decimal (rows - 1) ∷ []) ++ (line_text (codes "length") (decimal halfwords ∷ [])
-    ++ (line_text (codes "program") (program_words program) ++ (line_text (codes "registers") (number_words registers ++ codes "*" ∷ []) ++ labels_text Two view.labels))))
+-- the lines of a certificate: those before the labels, and the labels
+pub certificate_text-head : (c view : Certified) (section rows : ℕ) (program : List Instr) (registers : List ℕ)
+    → view ≡ c → section ≡ view.section → rows ≡ length view.labels → program ≡ view.program → registers ≡ view.registers
+    → certificate_text Two c ≡ head_text section rows program registers ++ labels_text Two view.labels
 unfolding certificate_text
-certificate_text-parts c view section rows halfwords program registers is own many long spells uses =
+certificate_text-head c view section rows program registers is own many spells uses =
     six_parts (line_text (codes "section") (decimal c.section ∷ [])) (line_text (codes "fixups") (decimal (length c.labels - 1) ∷ [])) (line_text (codes "length") (decimal (program_length c.program) ∷ []))
     (line_text (codes "program") (program_words c.program)) (line_text (codes "registers") (number_words c.registers ++ codes "*" ∷ [])) (labels_text Two c.labels)
-    ∙ sym (rw (own, many, long, spells, uses, is) refl)
+    ∙ sym (rw (own, many, spells, uses, is) refl)
 
 -- the first of the certificates that are left, and then the others
 pub each_text-more : (cs : List Certified) (i : ℕ) (c : Certified) → i < length cs → c ≡ get_or cs i c → each_text Two (drop i cs) ≡ certificate_text Two c ++ each_text Two (drop (i + 1) cs)

@@ -1,4 +1,4 @@
-ghost use Rattle.std.specs.Prelude.{◌≡◌, ◌+◌, ◌-◌, ◌*◌, ◌^◌, ◌<◌, ◌≤◌, ◌∷◌, ◌++◌, [], codes, decimal, drop, length, true, IfOk};
+ghost use Rattle.std.specs.Prelude.{◌≡◌, ◌+◌, ◌-◌, ◌*◌, ◌^◌, ◌<◌, ◌≤◌, ◌∷◌, ◌++◌, [], codes, decimal, drop, length, take, true, IfOk, OnOk};
 ghost use Rattle.std.specs.List.{AllByRecursion};
 ghost use Rattle.std.specs.Option.{option_to_list};
 ghost use Rattle.std.specs.Result.{IfErr};
@@ -7,10 +7,13 @@ ghost use Rattle.pef_ports.specs.Sent.{Sends};
 ghost use Rattle.pef_reloc.specs.Instrs.{halfword_bytes, instrs_fit, spelled};
 ghost use Rattle.pef_cert.specs.declared.text.fault.CertFault.TheVariants.{OutOfMemory};
 ghost use Rattle.pef_cert.specs.declared.text.fields.Version.TheVariants.{Two};
+ghost use Rattle.pef_cert.specs.Text.Kept.Heads.{head_text, indices_text};
 ghost use Rattle.pef_cert.specs.Text.Printed.{Printable, certificate_text, certificates_text, each_text, halfword_words, labels_text, line_text, number_words, program_words, range_text, words_text};
 
+use crate::fixups::program_length;
+use crate::packed::{NumbersLeft, PackedKept, PackedRows};
 use crate::text::CertFault;
-use crate::{Certificate, LabelRows, LabelRun};
+use crate::{Certificate, LabelRows, LabelRun, PackedCertificate};
 use itoa::write_digits;
 use pef_ports::{
     Decimal, Joined, Line, Page, Printed, Sink, StreamFault, Text, Verbatim, flush, push_hex, send,
@@ -140,6 +143,21 @@ fn print_registers<W: Sink>(
     send(out, page, b" *\n")
 }
 
+/// The indices of equal rows, one after another.
+#[derive(Clone, Copy)]
+struct Indices {
+    first: usize,
+    last: usize,
+}
+
+/// Prints the indices at the front of the line of equal rows.
+fn print_indices<W: Sink>(out: &mut W, page: &mut Page, at: Indices) -> Result<(), StreamFault>
+    ensures { Sends result (W.stream out.old) (W.stream out.new) page.old.items page.new.items (indices_text at.first at.last) }
+{
+    let first = Joined(Verbatim(b"at "), Decimal(at.first as u64));
+    Joined(Joined(first, Verbatim(b" ")), Decimal(at.last as u64)).print(out, page)
+}
+
 /// Prints the line of equal rows, from an index on.
 fn print_run<W: Sink>(
     out: &mut W,
@@ -152,8 +170,7 @@ fn print_run<W: Sink>(
     ensures { Sends result (W.stream out.old) (W.stream out.new) page.old.items page.new.items (range_text (record { first = at; last = at + run.entry.rows - 1; labels = run.entry.labels.now })) }
 {
     let last = at + run.rows - 1;
-    let first = Joined(Verbatim(b"at "), Decimal(at as u64));
-    Joined(Joined(first, Verbatim(b" ")), Decimal(last as u64)).print(out, page)?;
+    print_indices(out, page, Indices { first: at, last })?;
     print_numbers(out, page, run.labels)?;
     send(out, page, b"\n")
 }
@@ -176,6 +193,93 @@ fn print_labels<W: Sink>(
     Ok(())
 }
 
+/// Reads numbers, and prints them after the first words of their line.
+fn print_next<W: Sink>(
+    out: &mut W,
+    page: &mut Page,
+    numbers: &mut NumbersLeft<'_>,
+    count: usize,
+) -> Result<(), StreamFault>
+    requires { count ≤ length numbers.old }
+    ensures sent { Sends result (W.stream out.old) (W.stream out.new) page.old.items page.new.items (words_text (number_words (take count numbers.old))) }
+    ensures left { OnOk result (numbers.new ≡ drop count numbers.old) }
+{
+    let mut room = [0; MAX_PART];
+    let mut left = count;
+    'parts: while left > 0 {
+        let (part, _) = room.split_at_mut(left.min(MAX_PART));
+        numbers.read(part);
+        print_part(out, page, part)?;
+        left -= part.len();
+    }
+    Ok(())
+}
+
+/// Reads the labels of equal rows, and prints their line.
+fn print_next_run<W: Sink>(
+    out: &mut W,
+    page: &mut Page,
+    at: Indices,
+    numbers: &mut NumbersLeft<'_>,
+    width: usize,
+) -> Result<(), StreamFault>
+    requires { width ≤ length numbers.old }
+    ensures sent { Sends result (W.stream out.old) (W.stream out.new) page.old.items page.new.items (range_text (record { first = at.first; last = at.last; labels = take width numbers.old })) }
+    ensures left { OnOk result (numbers.new ≡ drop width numbers.old) }
+{
+    print_indices(out, page, at)?;
+    print_next(out, page, numbers, width)?;
+    send(out, page, b"\n")
+}
+
+/// Prints the lines of packed labels.
+fn print_packed<W: Sink>(
+    out: &mut W,
+    page: &mut Page,
+    labels: &PackedRows,
+) -> Result<(), StreamFault>
+    ensures { Sends result (W.stream out.old) (W.stream out.new) page.old.items page.new.items (labels_text Two labels.now.rows) }
+{
+    let PackedKept {
+        width,
+        ends,
+        mut numbers,
+    } = labels.kept();
+    let mut first = 0;
+    for end in ends {
+        let at = Indices {
+            first,
+            last: *end - 1,
+        };
+        print_next_run(out, page, at, &mut numbers, width)?;
+        first = *end;
+    }
+    Ok(())
+}
+
+/// What the lines before the labels are about.
+#[derive(Clone, Copy)]
+struct Head<'a> {
+    section: u32,
+    /// How many rows of labels there are.
+    rows: usize,
+    program: &'a [Instr],
+    registers: &'a [u32],
+}
+
+/// Prints the lines of a certificate that are before the labels.
+fn print_head<W: Sink>(out: &mut W, page: &mut Page, head: Head<'_>) -> Result<(), StreamFault>
+    requires some { 0 < head.rows }
+    requires fit { instrs_fit head.program.now ≡ true }
+    ensures { Sends result (W.stream out.old) (W.stream out.new) page.old.items page.new.items (head_text head.entry.section head.entry.rows head.entry.program.now head.entry.registers.now) }
+{
+    print_field(out, page, b"section", u64::from(head.section))?;
+    print_field(out, page, b"fixups", head.rows as u64 - 1)?;
+    print_field(out, page, b"length", program_length(head.program))?;
+    print_program(out, page, head.program)?;
+    print_registers(out, page, head.registers)
+}
+
 /// Prints the lines of a certificate.
 fn print_certificate<W: Sink>(
     out: &mut W,
@@ -185,13 +289,33 @@ fn print_certificate<W: Sink>(
     requires { Printable certificate.now }
     ensures { Sends result (W.stream out.old) (W.stream out.new) page.old.items page.new.items (certificate_text Two certificate.now) }
 {
-    let labels = &certificate.labels;
-    print_field(out, page, b"section", u64::from(certificate.section))?;
-    print_field(out, page, b"fixups", labels.rows() as u64 - 1)?;
-    print_field(out, page, b"length", certificate.program_length())?;
-    print_program(out, page, &certificate.program)?;
-    print_registers(out, page, &certificate.registers)?;
-    print_labels(out, page, labels)
+    let head = Head {
+        section: certificate.section,
+        rows: certificate.labels.rows(),
+        program: &certificate.program,
+        registers: &certificate.registers,
+    };
+    print_head(out, page, head)?;
+    print_labels(out, page, &certificate.labels)
+}
+
+/// Prints the lines of a packed certificate.
+fn print_packed_certificate<W: Sink>(
+    out: &mut W,
+    page: &mut Page,
+    certificate: &PackedCertificate,
+) -> Result<(), StreamFault>
+    requires { Printable certificate.now }
+    ensures { Sends result (W.stream out.old) (W.stream out.new) page.old.items page.new.items (certificate_text Two certificate.now) }
+{
+    let head = Head {
+        section: certificate.section,
+        rows: certificate.labels.rows(),
+        program: &certificate.program,
+        registers: &certificate.registers,
+    };
+    print_head(out, page, head)?;
+    print_packed(out, page, &certificate.labels)
 }
 
 /// Prints the lines of certificates.
@@ -205,6 +329,21 @@ fn print_certificates<W: Sink>(
 {
     for certificate in certificates {
         print_certificate(out, page, certificate)?;
+    }
+    Ok(())
+}
+
+/// Prints the lines of packed certificates.
+fn print_packed_certificates<W: Sink>(
+    out: &mut W,
+    page: &mut Page,
+    certificates: &[PackedCertificate],
+) -> Result<(), StreamFault>
+    requires { AllByRecursion Printable certificates.now }
+    ensures { Sends result (W.stream out.old) (W.stream out.new) page.old.items page.new.items (each_text Two certificates.now) }
+{
+    for certificate in certificates {
+        print_packed_certificate(out, page, certificate)?;
     }
     Ok(())
 }
@@ -248,6 +387,22 @@ impl Certificate {
     {
         send(out, page, b"pefcert 2\n")?;
         print_certificates(out, page, certificates)?;
+        send(out, page, b"end\n")
+    }
+}
+
+impl PackedCertificate {
+    /// Prints certificates as `Certificate::print_to` does.
+    pub fn print_to<W: Sink>(
+        out: &mut W,
+        page: &mut Page,
+        certificates: &[PackedCertificate],
+    ) -> Result<(), StreamFault>
+        requires { AllByRecursion Printable certificates.now }
+        ensures { Sends result (W.stream out.old) (W.stream out.new) page.old.items page.new.items (certificates_text certificates.now) }
+    {
+        send(out, page, b"pefcert 2\n")?;
+        print_packed_certificates(out, page, certificates)?;
         send(out, page, b"end\n")
     }
 }
