@@ -85,7 +85,7 @@ certified_after k (t ∷ sections) (d ∷ certificates) s c are is =
     (are.0, certified_after (k + 1) sections certificates s c are.1 (subst (λ n. IsCertified n s.fixups c) at is))
 
 -- certificates so far, and one more
-certified_more : (sections : List DescribedSection) (k : ℕ) (s d : DescribedSection) (done : List Certified) (c : Certified) → k < length sections → s ≡ get_or sections k d → IsCertified k s.fixups c
+pub certified_more : (sections : List DescribedSection) (k : ℕ) (s d : DescribedSection) (done : List Certified) (c : Certified) → k < length sections → s ≡ get_or sections k d → IsCertified k s.fixups c
     → AreCertified 0 (take k sections) done → AreCertified 0 (take (k + 1) sections) (done ++ c ∷ [])
 certified_more sections k s d done c under found is are =
     let taken : take (k + 1) sections ≡ take k sections ++ s ∷ [] = take_more sections k d under ∙ ap (λ x. take k sections ++ x ∷ []) (sym found) in

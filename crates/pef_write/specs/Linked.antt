@@ -140,3 +140,8 @@ pub record IsCertifiedLink (script : DescribedScript) (l : CertifiedContainer) :
 pub record IsLinkedContainer (script : DescribedScript) (l : LinkedContainer) : Type 0 where
   pub certificates : List Certified
   pub certified : IsCertifiedLink script (record { container = l; certificates = certificates })
+
+-- certificates that `link` may give, with some container
+pub record AreLinkCertificates (script : DescribedScript) (certificates : List Certified) : Type 0 where
+  pub container : LinkedContainer
+  pub certified : IsCertifiedLink script (record { container = container; certificates = certificates })

@@ -3,7 +3,8 @@
 //! The format is that of Mac OS Runtime Architectures, "PEF Structure", and of PEFBinaryFormat.h.
 //! [`link`] takes a script and returns its container, with a shortest relocation program for each
 //! section that has fixups, and a certificate for each section. [`link_container`] returns the container
-//! alone, and takes far less memory. The container is read back as the script: see [`linked_containers`],
+//! alone, and takes far less memory; [`link_certificates`] returns the certificates alone. The container is read back
+//! as the script: see [`linked_containers`],
 //! [`linked_programs`] and [`linked_programs_are_least`]. For every script there is one: see
 //! [`every_script_links`].
 #![tactic(auto)]
@@ -21,7 +22,7 @@ mod sections;
 mod theorems;
 
 pub use fault::LinkFault;
-pub use linking::{Linked, LinkedContainer, link, link_container};
+pub use linking::{Linked, LinkedContainer, link, link_certificates, link_container};
 pub use theorems::{
     every_script_links, linked_containers, linked_programs, linked_programs_are_least,
 };

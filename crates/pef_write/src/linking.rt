@@ -1,5 +1,5 @@
 ghost use Rattle.std.specs.Prelude.{◌≡◌, IfOk, length, map, option_copied, slice_get};
-ghost use Rattle.pef_write.specs.Linked.{IsCertifiedLink, IsLinkedContainer};
+ghost use Rattle.pef_write.specs.Linked.{AreLinkCertificates, IsCertifiedLink, IsLinkedContainer};
 ghost use Rattle.pef_write.specs.Kept.Encoded.{HasRoom, container_with};
 
 use crate::container::write_container;
@@ -8,7 +8,8 @@ use crate::loader::write_loader;
 use crate::program::{EncodedPrograms, certified_programs, programs};
 use crate::relocations::section_programs;
 use crate::sections::raw_sections;
-use pef_cert::Certificate;
+use pef_cert::{Certificate, PackedCertificate};
+use pef_plan::plan;
 use pef_script::Script;
 use std::alloc::Global;
 use std::marker::Model;
@@ -112,7 +113,7 @@ impl Linked {
 /// fixups, and for each section a certificate that no program without repeats is shorter.
 ///
 /// The certificates of all sections can take far more memory than the container. [`link_container`]
-/// returns the container alone.
+/// returns the container alone, and [`link_certificates`] returns the certificates in little memory.
 ///
 /// # Errors
 ///
@@ -138,6 +139,26 @@ pub fn link_container(alloc: Global, script: &Script<'_>) -> Result<LinkedContai
 {
     let encoded = programs(alloc, script)?;
     encoded_container(alloc, script, encoded)
+}
+
+/// Links a script: returns the certificates that [`link`] may return, in little memory, without the container.
+///
+/// # Errors
+///
+/// Only `OutOfMemory`.
+pub fn link_certificates(
+    alloc: Global,
+    script: &Script<'_>,
+) -> Result<Vec<PackedCertificate>, LinkFault>
+    ensures { IfOk result (λ certificates. AreLinkCertificates script.now certificates.items) }
+{
+    let sections = &script.parts().sections;
+    let mut certificates = Vec::with_capacity(alloc, sections.len())?;
+    for (k, section) in sections.iter().enumerate() {
+        let certificate = plan(alloc, k as u32, &section.fixups)?;
+        certificates.push(certificate.packed(alloc)?)?;
+    }
+    Ok(certificates)
 }
 
 /// Returns the container of a script with the programs of its sections, and their lengths.
