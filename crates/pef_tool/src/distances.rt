@@ -7,9 +7,8 @@ ghost use Rattle.pef_tool.specs.Distances.{DistancesAnswers};
 use crate::answers::{Outcome, Reply, deliver};
 use crate::linking::certify_text;
 use crate::reading::read_file;
-use pef_cert::Certificate;
+use pef_cert::PackedCertificate;
 use pef_ports::{Files, Page, Sink, StreamFault};
-use pef_write::Linked;
 use std::alloc::Global;
 
 /// Links the script at a path, and prints the certificates. The certificate of a section states that no program is
@@ -30,28 +29,28 @@ pub fn print_distances<F: Files, W: Sink>(
         Ok(text) => text,
         Err(fault) => return deliver(out, &fault),
     };
-    let linked = match certify_text(alloc, text.as_slice()) {
-        Ok(linked) => linked,
+    let certificates = match certify_text(alloc, text.as_slice()) {
+        Ok(certificates) => certificates,
         Err(fault) => return deliver(out, &fault),
     };
-    deliver(out, &Distances { linked })
+    deliver(out, &Distances { certificates })
 }
 
 /// The certificates of a script's sections, as they are printed.
 #[derive(Drop)]
 struct Distances {
-    linked: Linked,
-    ghost printable: { AllByRecursion Printable linked.certificates } by { Prim.hlevel props },
+    certificates: Vec<PackedCertificate>,
+    ghost printable: { AllByRecursion Printable certificates.items } by { Prim.hlevel props },
 }
 
 impl Reply for Distances {
-    ghost answer = { λ distances. answer_done (certificates_text distances.linked.certificates) };
+    ghost answer = { λ distances. answer_done (certificates_text distances.certificates.items) };
 
     fn outcome(&self) -> Outcome {
         Outcome::Done
     }
 
     fn print<W: Sink>(&self, out: &mut W, page: &mut Page) -> Result<(), StreamFault> {
-        Certificate::print_to(out, page, self.linked.certificates())
+        PackedCertificate::print_to(out, page, &self.certificates)
     }
 }

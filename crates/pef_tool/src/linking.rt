@@ -1,8 +1,9 @@
 ghost use Rattle.pef_tool.specs.Kept.Linking.{CertifiesText, LinksText, ReadsScript};
 
+use pef_cert::PackedCertificate;
 use pef_faults::Fault;
 use pef_script::Script;
-use pef_write::{Linked, LinkedContainer, link, link_container};
+use pef_write::{LinkedContainer, link_certificates, link_container};
 use std::alloc::Global;
 
 /// Parses and links the script in a text.
@@ -19,16 +20,16 @@ pub fn link_text(alloc: Global, text: &[u8]) -> Result<LinkedContainer, Fault<'_
     }
 }
 
-/// Parses and links the script in a text, with certificates.
-pub fn certify_text(alloc: Global, text: &[u8]) -> Result<Linked, Fault<'_>>
+/// Parses and links the script in a text. Returns its certificates.
+pub fn certify_text(alloc: Global, text: &[u8]) -> Result<Vec<PackedCertificate>, Fault<'_>>
     ensures { CertifiesText text.now result }
 {
     let script = match read_script(alloc, text) {
         Ok(script) => script,
         Err(fault) => return Err(fault),
     };
-    match link(alloc, &script) {
-        Ok(linked) => Ok(linked),
+    match link_certificates(alloc, &script) {
+        Ok(certificates) => Ok(certificates),
         Err(_) => Err(Fault::OutOfMemory),
     }
 }

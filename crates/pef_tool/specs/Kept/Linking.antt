@@ -1,11 +1,13 @@
 -- How the script in a text is parsed and linked, for the commands that do so.
-use Rattle.std.specs.Prelude.{◌≡◌, ℕ, List, Result, Ok, Err}
+use Rattle.std.specs.Prelude.{◌≡◌, ℕ, List, Result, Ok, Err, Vec}
+use Rattle.std.specs.declared.alloc.Global.{Global}
+use Rattle.pef_cert.specs.Certified.{Certified}
 use Rattle.pef_script.specs.Text.Grammar.{script_of}
 use Rattle.pef_script.specs.Text.Reads.{FailsAs}
 use Rattle.pef_script.specs.Script.{DescribedScript}
 use Rattle.pef_faults.specs.declared.fault.Fault.{Fault}
 use Rattle.pef_faults.specs.declared.fault.Fault.TheVariants.{Script, OutOfMemory}
-use Rattle.pef_write.specs.Linked.{CertifiedContainer, IsCertifiedLink, IsLinked, LinkedContainer}
+use Rattle.pef_write.specs.Linked.{AreLinkCertificates, IsLinked, LinkedContainer}
 
 -- why the script in a text isn't linked: its first error, or a failed allocation
 abbrev pub RefusesText : List ℕ → Fault → Type 0
@@ -23,7 +25,7 @@ abbrev pub LinksText : List ℕ → Result LinkedContainer Fault → Type 0
 LinksText text (Ok l) = (script : DescribedScript) × (script_of text ≡ Ok script) × IsLinked script l
 LinksText text (Err fault) = RefusesText text fault
 
--- .. with certificates
-abbrev pub CertifiesText : List ℕ → Result CertifiedContainer Fault → Type 0
-CertifiesText text (Ok l) = (script : DescribedScript) × (script_of text ≡ Ok script) × IsCertifiedLink script l
+-- .. or its certificates
+abbrev pub CertifiesText : List ℕ → Result (Vec Certified Global) Fault → Type 0
+CertifiesText text (Ok certificates) = (script : DescribedScript) × (script_of text ≡ Ok script) × AreLinkCertificates script certificates.items
 CertifiesText text (Err fault) = RefusesText text fault

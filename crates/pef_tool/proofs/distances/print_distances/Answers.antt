@@ -22,11 +22,11 @@ returns-in-Err-certify_text g c =
 pub invariant_of-deliver : goal.invariant_of-deliver
 invariant_of-deliver g c =
     let certified = c.in-Ok-certify_text.ensures in
-    record { printable = certificates_print certified.0 c.in-Ok-certify_text.linked certified.2 }
+    record { printable = certificates_print certified.0 _ certified.2.certified }
 
 pub returns : goal.returns
 returns g c =
     let certified = c.in-Ok-certify_text.ensures in
-    let certificates = c.in-Ok-certify_text.linked.certificates in
-    let file = file_certified c.as_slice.result.now certified.0 c.in-Ok.ensures.read c.as_slice.ensures.value certified.1 certified.2 in
+    let certificates = c.in-Ok-certify_text.certificates.items in
+    let file = file_certified c.as_slice.result.now certified.0 c.in-Ok.ensures.read c.as_slice.ensures.value certified.1 certified.2.certified in
     (answer_done (certificates_text certificates), (certifies certificates, file, refl), c.deliver-2.ensures)
