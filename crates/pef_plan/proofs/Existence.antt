@@ -1,15 +1,16 @@
--- There is a valid certificate whose labels are least lengths.
+-- There is a valid certificate whose labels are least lengths, also for each least program.
 use Rattle.std.proofs.Common.{◌≡◌, ℕ, zero, suc, ◌+◌, Bool, true, false, List, [], ◌∷◌, ◌++◌, length, refl, subst, arith}
 use Rattle.pef_reloc.specs.declared.fixup.Fixup.{Fixup}
+use Rattle.pef_reloc.specs.declared.instr.Instr.{Instr}
 use Rattle.pef_reloc.specs.Deliveries.{uses_section}
 use Rattle.pef_reloc.specs.Fixups.{fixups_fit}
 use Rattle.pef_reloc.specs.Limits.{most_sections}
-use Rattle.pef_reloc.specs.Steps.{start}
+use Rattle.pef_reloc.specs.Steps.{Least, start}
 use Rattle.pef_reloc.proofs.Laws.{each_fits}
 use Rattle.pef_cert.specs.Certified.{Certified}
 use Rattle.pef_cert.specs.Feasible.{Feasible}
 use Rattle.pef_cert.specs.Valid.{RegistersOf, Valid, labels_in, labels_of}
-use Rattle.pef_cert.proofs.Laws.{all_registered, numbers}
+use Rattle.pef_cert.proofs.Laws.{all_registered, numbers, valid-least}
 use Rattle.pef_plan.specs.Exact.{Exact}
 use Rattle.pef_plan.proofs.Reaching.{reached-exact, reached-least}
 use Rattle.pef_plan.proofs.RegisterLemmas.{UsedBelow, used_all, used_more, used_none, used_passed}
@@ -57,4 +58,26 @@ some_certificate fixups section fit =
         length_is = shortest.length_is;
       },
       reached-exact l fixups fit right feasible each.reached,
+    )
+
+pub program_certificate : (fixups : List Fixup) (section : ℕ) (program : List Instr) → fixups_fit fixups ≡ true → Least fixups program → (c : Certified) × (c.section ≡ section) × (c.program ≡ program) × Valid fixups c × Exact (labels_of c (length fixups)) fixups
+program_certificate fixups section program fit least =
+    let some = some_certificate fixups section fit in
+    let valid = some.2 in
+    let low = least.shortest some.0.program valid.flat valid.makes in
+    let high = (valid-least fixups some.0 fit valid).shortest program least.flat least.makes in
+    let is = valid.length_is in (
+      record { section = some.0.section; program = program; registers = some.0.registers; labels = some.0.labels },
+      some.1,
+      refl,
+      record {
+        registers = valid.registers;
+        rows = valid.rows;
+        row = valid.row;
+        feasible = valid.feasible;
+        flat = least.flat;
+        makes = least.makes;
+        length_is = omega (arith, low, high, is);
+      },
+      some.3,
     )

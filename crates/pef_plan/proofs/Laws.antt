@@ -6,3 +6,5 @@ pub use Rattle.pef_plan.proofs.Reaching.{least-short}
 pub use Rattle.pef_plan.proofs.NameFacts.{least-names}
 -- there is a valid certificate for fixups that fit, and its labels are least lengths
 pub use Rattle.pef_plan.proofs.Existence.{some_certificate}
+-- also for each least program
+pub use Rattle.pef_plan.proofs.Existence.{program_certificate}

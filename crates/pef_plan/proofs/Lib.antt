@@ -7,6 +7,7 @@ mod ImportLemmas
 mod LineLemmas
 mod LoweredLines
 mod ClimbedTests
+mod CloseLabels
 mod ClosedLabels
 mod CrossLemmas
 mod DirectLemmas

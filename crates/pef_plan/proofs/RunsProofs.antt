@@ -3,5 +3,4 @@ pub mod EndLemmas
 pub mod EndsKept
 pub mod KnownLemmas
 pub mod PlaceLemmas
-pub mod PlaceOfRow
 pub mod RunFacts

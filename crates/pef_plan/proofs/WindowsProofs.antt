@@ -1,2 +1,3 @@
+pub mod CloseLemmas
 pub mod TableLemmas
 pub mod WindowLemmas

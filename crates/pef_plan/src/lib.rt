@@ -17,7 +17,7 @@ mod theorems;
 mod windows;
 
 pub use fault::PlanFault;
-pub use planner::{counted_plan, plan};
+pub use planner::{counted_plan, least_program, plan};
 pub use theorems::{
     certificates_exist, least_programs_are_short, least_programs_name_what_is_used,
     reached_labels_are_least,

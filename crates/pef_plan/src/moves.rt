@@ -1,24 +1,11 @@
-ghost use Rattle.std.specs.Prelude.{◌≡◌, ◌+◌, ◌*◌, ◌<◌, ◌≤◌, length};
+ghost use Rattle.std.specs.Prelude.{◌≡◌, ◌+◌, ◌<◌, ◌≤◌, length};
 ghost use Rattle.pef_cert.specs.Extension.{extension};
 ghost use Rattle.pef_cert.specs.Labels.{class_of};
 ghost use Rattle.pef_plan.specs.Runs.Places.{extension_in};
 ghost use Rattle.pef_plan.specs.Kept.Steps.{FallsOn, Sections, Tracked, TrackedHere, labels_tabled};
-ghost use Rattle.pef_plan.specs.Runs.Tables.{number_in};
-ghost use Rattle.pef_reloc.specs.Limits.{most_sections};
 
 use crate::runs::{OpenState, PlanState, SolvedSuffix, Step};
 use pef_reloc::{Instr, MAX_SECTIONS};
-
-/// Returns a row's label for the classes of the two registers.
-pub(crate) fn label_of(known: SolvedSuffix<'_>, row: &[u32], c: usize, d: usize) -> u64
-    requires few { length known.registers.now ≤ most_sections }
-    requires row { length row.now ≡ (length known.registers.now + 1) * (length known.registers.now + 1) }
-    requires c { c < length known.registers.now + 1 }
-    requires d { d < length known.registers.now + 1 }
-    ensures { result ≡ number_in (length known.entry.registers.now + 1) row.now c d }
-{
-    u64::from(row[known.place(c, d)])
-}
 
 /// Returns a section of a class.
 #[tactic(auto, using(crate::proofs::StepFacts::section_is, crate::proofs::StepFacts::section_small, crate::proofs::StepFacts::section_last))]

@@ -1,38 +1,31 @@
-ghost use Rattle.std.specs.Prelude.{◌≡◌, ◌≢◌, ◌-◌, ◌/◌, length};
-ghost use Rattle.pef_plan.specs.Kept.Steps.{FallsOn, RowsAt, SkipsTo, TrackedHere};
-ghost use Rattle.pef_plan.specs.Runs.Tables.{IsRow};
+ghost use Rattle.std.specs.Prelude.{◌≡◌, ◌≢◌, ◌-◌, ◌/◌};
+ghost use Rattle.pef_plan.specs.Kept.Steps.{FallsOn, SkipsTo, TrackedHere};
 ghost use Rattle.pef_reloc.specs.declared.fixup.Base.TheVariants.{Section};
 
 use crate::direct::direct;
-use crate::moves::{increment, label_of, set_c, set_d, set_position};
-use crate::runs::{LabelledSuffix, NearRows, OpenState, PlanState, SolvedSuffix, Step};
+use crate::moves::{increment, set_c, set_d, set_position};
+use crate::runs::{OpenState, PlanState, SolvedSuffix, Step};
 use crate::skips::best_skip;
 use pef_cert::{REACH, SKIP_REACH, WORD, class_of};
 use pef_reloc::Base;
 
 /// Returns the next step of a least program from a position at the next fixup.
-pub(crate) fn step_at<'a>(
-    known: SolvedSuffix<'a>,
-    here: OpenState<'a>,
-    rows: NearRows<'a>,
-) -> Step<'a>
+pub(crate) fn step_at<'a>(known: SolvedSuffix<'a>, here: OpenState<'a>) -> Step<'a>
     requires here { TrackedHere known here }
-    requires rows { RowsAt known (length here.place.left.now) rows }
     requires at { here.place.position ≡ here.first.offset }
     ensures { FallsOn known.entry here.entry.place result }
 {
-    let PlanState { c, d, .. } = here.place;
-    let row = rows.here;
-    let label = label_of(known, row, c, d);
-    let best = direct(known, here, rows.after, label);
-    if best.value <= label {
+    let PlanState { left, c, d, .. } = here.place;
+    let label = known.label(left.len(), c, d);
+    let best = direct(known, here, u64::from(label));
+    if best.value <= u64::from(label) {
         return best.step;
     }
     for class in 0..known.classes() {
-        if label_of(known, row, class, d) < label {
+        if known.label(left.len(), class, d) < label {
             return set_c(known, here.place, class);
         }
-        if label_of(known, row, c, class) < label {
+        if known.label(left.len(), c, class) < label {
             return set_d(known, here.place, class);
         }
     }
@@ -40,23 +33,15 @@ pub(crate) fn step_at<'a>(
 }
 
 /// Returns the next step of a least program from a position before or after the next fixup.
-///
-/// `row` has the labels at the fixup.
-pub(crate) fn step_to<'a>(known: SolvedSuffix<'a>, here: OpenState<'a>, row: &'a [u32]) -> Step<'a>
+pub(crate) fn step_to<'a>(known: SolvedSuffix<'a>, here: OpenState<'a>) -> Step<'a>
     requires here { TrackedHere known here }
-    requires row { IsRow known (length here.place.left.now) row.now }
     requires away { here.place.position ≢ here.first.offset }
     ensures { FallsOn known.entry here.entry.place result }
 {
     let place = here.place;
     let ahead = u64::from(here.first.offset).saturating_sub(place.position);
-    let label = label_of(known, row, place.c, place.d);
-    let at = LabelledSuffix {
-        row,
-        rest: place.left,
-        position: place.position,
-    };
-    let value = known.value_in(at, place.c, place.d);
+    let label = u64::from(known.label(place.left.len(), place.c, place.d));
+    let value = known.value(place.left, place.position, place.c, place.d);
     if value == 2 + label {
         return set_position(known, here);
     }

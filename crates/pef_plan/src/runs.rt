@@ -5,14 +5,12 @@
 
 mod ahead;
 mod ends;
-mod near;
 mod run;
 mod state;
 mod suffix;
 
 pub use ends::RunEnds;
 pub(crate) use ends::line_of;
-pub use near::PlacedRow;
 pub use run::Run;
-pub use state::{Choice, FixupState, NearRows, OpenState, PlanState, Sought, Step};
-pub use suffix::{LabelledSuffix, SolvedSuffix};
+pub use state::{Choice, FixupState, OpenState, PlanState, Sought, Step};
+pub use suffix::SolvedSuffix;

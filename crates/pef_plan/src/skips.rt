@@ -69,11 +69,7 @@ pub(crate) fn best_skip<'a>(
     ensures small { result.value ≤ 4 * length here.entry.others.now + 4 }
 {
     let choice = single_skip(known, here, words, section);
-    let one = Sought {
-        choice,
-        label: 0,
-        near: 0,
-    };
+    let one = Sought { choice, label: 0 };
     let from = u64::from(here.first.offset);
     known.best_of_run(here, Run::Skip { words, section }, from, one)
 }

@@ -7,8 +7,7 @@ ghost use Rattle.pef_reloc.specs.Fixups.{fixups_fit};
 use crate::rows::fill_labels;
 use crate::runs::{FixupState, RunEnds, SolvedSuffix};
 use crate::skips::fill_skips;
-use crate::windows::{Looks, Table, zeros};
-use pef_cert::LabelRows;
+use crate::windows::{CloseRows, Looks, Table, zeros};
 use pef_reloc::{Base, Fixup};
 use std::alloc::{AllocError, Global};
 
@@ -16,7 +15,7 @@ use std::alloc::{AllocError, Global};
 #[derive(Drop)]
 pub(crate) struct Tables {
     /// Rows are ordered by the class of register C, then by that of D.
-    pub(crate) labels: LabelRows,
+    pub(crate) labels: CloseRows,
     /// Rows are ordered by the class of register C.
     pub(crate) skips: Table,
 }
@@ -62,7 +61,7 @@ fn fill_counted<const N: usize>(
     let registers = counted::<N>(registers);
     let classes = registers.len() + 1;
     let indices = import_indices(alloc, fixups)?;
-    let mut labels = LabelRows::new(alloc, classes * classes);
+    let mut labels = CloseRows::with_capacity(alloc, classes * classes, fixups.len() + 1)?;
     let mut skips = Table::new(alloc, classes);
     let mut row = zeros(alloc, classes * classes)?;
     let mut line = zeros(alloc, classes)?;

@@ -51,21 +51,20 @@ offer-ahead l k f rest c d (Section s) agrees under_c under_d base =
 offer-ahead l k f rest c d (Import i) agrees under_c under_d base =
     offer-import_kept l k f rest (length (f ∷ rest)) c d i refl agrees under_c under_d base
 
--- the extension, from the next fixup's table rows
-value-before : (l : Labels) (k : SolvedSuffix) (f : Fixup) (rest : List Fixup) (p c d : ℕ) (a : NextFixup) → a.bytes ≡ f.offset - p → a.row.now ≡ slice_index_or k.labels.now.rows (length (f ∷ rest)) [] → a.skips.now ≡ slice_index_or k.skips.now.rows (length (f ∷ rest)) [] → a.class ≡ class_ahead k.registers.now f.base → begin_at p (f ∷ rest) ≡ false → Agrees l k (f ∷ rest) → c < length k.registers.now + 1 → d < length k.registers.now + 1 → value_ahead (length k.registers.now + 1) a c d ≡ extension l (f ∷ rest) p c d
-value-before l k f rest p c d a bytes row skips class away agrees under_c under_d =
-    let r : ℕ = length k.registers.now + 1 in
+-- the extension, from the label and the least skips at the next fixup
+value-before : (l : Labels) (k : SolvedSuffix) (f : Fixup) (rest : List Fixup) (p c d label : ℕ) (a : NextFixup) → a.bytes ≡ f.offset - p → label ≡ label_in (length k.registers.now + 1) k.labels.now.rows (length (f ∷ rest)) c d → a.skips.now ≡ slice_index_or k.skips.now.rows (length (f ∷ rest)) [] → a.class ≡ class_ahead k.registers.now f.base → begin_at p (f ∷ rest) ≡ false → Agrees l k (f ∷ rest) → c < length k.registers.now + 1 → d < length k.registers.now + 1 → value_ahead a label c d ≡ extension l (f ∷ rest) p c d
+value-before l k f rest p c d label a bytes is skips class away agrees under_c under_d =
     let offer : offer_ahead a.class a.skips.now c d ≡ offer_at l f rest c d = ap₂ (λ x line. offer_ahead x line c d) class skips ∙ offer-ahead l k f rest c d f.base agrees under_c under_d refl in
-    value-away l k f rest (length (f ∷ rest)) p c d (number_in r a.row.now c d) (value_ahead r a c d) (offer_ahead a.class a.skips.now c d) refl agrees under_c under_d
+    value-away l k f rest (length (f ∷ rest)) p c d label (value_ahead a label c d) (offer_ahead a.class a.skips.now c d) refl agrees under_c under_d
     (λ same. eqb-false f.offset p away (sym same))
-    (ap (λ line. number_in r line c d) row) offer
-    (ap (λ n. moved_value n (number_in r a.row.now c d) (offer_ahead a.class a.skips.now c d)) bytes)
+    is offer
+    (ap (λ n. moved_value n label (offer_ahead a.class a.skips.now c d)) bytes)
 
-pub value-ahead : (l : Labels) (k : SolvedSuffix) (fixups : List Fixup) (p c d : ℕ) (a : NextFixup) → IsAhead k fixups p a → begin_at p fixups ≡ false → Agrees l k fixups → c < length k.registers.now + 1 → d < length k.registers.now + 1 → value_ahead (length k.registers.now + 1) a c d ≡ extension l fixups p c d
-value-ahead l k fixups p c d a is away agrees under_c under_d =
-    subst (λ (fs : List Fixup). value_ahead (length k.registers.now + 1) a c d ≡ extension l fs p c d) (sym is.parts)
-    (value-before l k is.first is.others p c d a is.bytes
-    (is.row.is ∙ ap (λ (fs : List Fixup). slice_index_or k.labels.now.rows (length fs) []) is.parts)
+pub value-ahead : (l : Labels) (k : SolvedSuffix) (fixups : List Fixup) (p c d label : ℕ) (a : NextFixup) → IsAhead k fixups p a → label ≡ label_in (length k.registers.now + 1) k.labels.now.rows (length fixups) c d → begin_at p fixups ≡ false → Agrees l k fixups → c < length k.registers.now + 1 → d < length k.registers.now + 1 → value_ahead a label c d ≡ extension l fixups p c d
+value-ahead l k fixups p c d label a is label_is away agrees under_c under_d =
+    subst (λ (fs : List Fixup). value_ahead a label c d ≡ extension l fs p c d) (sym is.parts)
+    (value-before l k is.first is.others p c d label a is.bytes
+    (label_is ∙ ap (λ (fs : List Fixup). label_in (length k.registers.now + 1) k.labels.now.rows (length fs) c d) is.parts)
     (is.skips ∙ ap (λ (fs : List Fixup). slice_index_or k.skips.now.rows (length fs) []) is.parts)
     is.class (subst (λ (fs : List Fixup). begin_at p fs ≡ false) is.parts away) (subst (λ (fs : List Fixup). Agrees l k fs) is.parts agrees) under_c under_d)
 
@@ -118,10 +117,15 @@ shaped_fewer k most m s low = record {
   skip_small = λ left c under. s.skip_small left c (omega (arith, under, low));
 }
 
+-- a label is the extension at the position of its fixup
+pub value-label : (l : Labels) (k : SolvedSuffix) (fixups : List Fixup) (p c d label : ℕ) → begin_at p fixups ≡ true → Agrees l k fixups → label ≡ label_in (length k.registers.now + 1) k.labels.now.rows (length fixups) c d → c < length k.registers.now + 1 → d < length k.registers.now + 1 → label ≡ extension l fixups p c d
+value-label l k [] p c d label at agrees is under_c under_d = absurd (cc)
+value-label l k (g ∷ rest) p c d label at agrees is under_c under_d =
+    value-here l k g rest (length (g ∷ rest)) p c d label refl agrees under_c under_d (sym (eqb-true g.offset p at)) is
+
 -- a row of labels is the extension right after a fixup, if the next one is there
 pub near_copied : (l : Labels) (k : SolvedSuffix) (others : List Fixup) (p c d : ℕ) (row : List ℕ) → begin_at p others ≡ true → Agrees l k others → IsRow k (length others) row → c < classes l → d < classes l → slice_index row (place_of (classes l) c d) ≡ extension l others p c d
-near_copied l k [] p c d row at agrees is under_c under_d = absurd (cc)
-near_copied l k (g ∷ rest) p c d row at agrees is under_c under_d =
+near_copied l k others p c d row at agrees is under_c under_d =
     let same : classes l ≡ length k.registers.now + 1 = ap (λ rs. length rs + 1) agrees.same.registers_are in
-    value-here l k g rest (length (g ∷ rest)) p c d (slice_index row (place_of (classes l) c d)) refl agrees (omega (arith, under_c, same)) (omega (arith, under_d, same)) (sym (eqb-true g.offset p at))
-    (ap₂ (λ r n. number_in n r c d) is.is same)
+    value-label l k others p c d (slice_index row (place_of (classes l) c d)) at agrees
+    (ap₂ (λ r n. number_in n r c d) is.is same) (omega (arith, under_c, same)) (omega (arith, under_d, same))

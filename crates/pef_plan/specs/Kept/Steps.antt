@@ -14,9 +14,8 @@ use Rattle.pef_plan.specs.declared.runs.suffix.SolvedSuffix.{SolvedSuffix}
 use Rattle.pef_plan.specs.declared.runs.state.PlanState.{PlanState}
 use Rattle.pef_plan.specs.declared.runs.state.OpenState.{OpenState}
 use Rattle.pef_plan.specs.declared.runs.state.Step.{Step}
-use Rattle.pef_plan.specs.declared.runs.state.NearRows.{NearRows}
 use Rattle.pef_plan.specs.Runs.Places.{Counts, Goes, InPlace, extension_in}
-use Rattle.pef_plan.specs.Runs.Tables.{Agrees, IsRow, Shaped, label_in}
+use Rattle.pef_plan.specs.Runs.Tables.{Agrees, Shaped, label_in}
 use Rattle.pef_plan.specs.Reached.{ReachedFrom}
 use Rattle.pef_reloc.specs.Limits.{most_fixups, most_imports, most_sections}
 
@@ -54,12 +53,6 @@ pub record Tracked (k : SolvedSuffix) (p : PlanState) : Type 0 where
 pub record TrackedHere (k : SolvedSuffix) (h : OpenState) : Type 0 where
   pub at : Tracked k h.place
   pub parts : h.place.left.now ≡ h.first ∷ h.others.now
-
--- the labels for a number of fixups left, and for one fixup fewer
-pub record RowsAt (k : SolvedSuffix) (count : ℕ) (r : NearRows) : Type 0 where
-  pub left : r.left ≡ count
-  pub here : IsRow k count r.here.now
-  pub after : IsRow k (count - 1) r.after.labels.now
 
 -- a step from a state in a place; the extension falls by at least the instruction's halfwords
 pub record Falls (k : SolvedSuffix) (p : PlanState) (x : Step) (s : State) : Type 0 where

@@ -1,6 +1,5 @@
-ghost use Rattle.std.specs.Prelude.{◌≡◌, ◌+◌, ◌<◌, ◌≤◌, length, slice_index};
-ghost use Rattle.pef_cert.specs.Extension.{moved_value};
-ghost use Rattle.pef_plan.specs.Runs.Kept.Ahead.{offer_ahead};
+ghost use Rattle.std.specs.Prelude.{◌≡◌, ◌+◌, ◌<◌, ◌≤◌, length};
+ghost use Rattle.pef_plan.specs.Runs.Kept.Ahead.{value_ahead};
 
 use pef_cert::{change, moved_value};
 
@@ -9,8 +8,6 @@ use pef_cert::{change, moved_value};
 pub(crate) struct NextFixup<'a> {
     /// How many bytes ahead it is, or 0 if the position is past it.
     pub(crate) bytes: u64,
-    /// The labels at the next fixup.
-    pub(crate) row: &'a [u32],
     /// The least skips at the next fixup, by the class of register C.
     pub(crate) skips: &'a [u32],
     /// The class of its section. An import has none.
@@ -18,18 +15,18 @@ pub(crate) struct NextFixup<'a> {
 }
 
 impl NextFixup<'_> {
-    /// Returns the extension with the registers in the classes `c` and `d`. Their place in the row is `place`.
+    /// Returns the extension with the registers in the classes `c` and `d`. The label there at the next fixup is
+    /// `label`.
     #[inline(always)]
-    pub(crate) fn value(self, place: usize, c: usize, d: usize) -> u64
-        requires place { place < length self.row.now }
+    pub(crate) fn value(self, label: u32, c: usize, d: usize) -> u64
         requires c { c < length self.skips.now }
-        ensures is { result ≡ moved_value self.entry.bytes (slice_index self.entry.row.now place) (offer_ahead self.entry.class self.entry.skips.now c d) }
-        ensures small { result ≤ 2 + slice_index self.entry.row.now place }
+        ensures is { result ≡ value_ahead self.entry label c d }
+        ensures small { result ≤ 2 + label }
     {
         let offer = match self.class {
             Some(class) => Some(change(d, class) + u64::from(self.skips[c])),
             None => None,
         };
-        moved_value(self.bytes, self.row[place], offer)
+        moved_value(self.bytes, label, offer)
     }
 }

@@ -11,7 +11,7 @@ ghost use Rattle.pef_reloc.specs.declared.fixup.Base.TheVariants.{Section};
 ghost use Rattle.pef_reloc.specs.declared.fixup.Fixup.{Fixup};
 
 use crate::runs::state::{Choice, OpenState, PlanState, Sought, Step};
-use crate::runs::suffix::{LabelledSuffix, SolvedSuffix};
+use crate::runs::suffix::SolvedSuffix;
 use pef_cert::{WORD, after_first, after_import};
 use pef_reloc::{Base, Fixup, Instr};
 
@@ -167,11 +167,7 @@ impl<'a> SolvedSuffix<'a> {
         ensures attained { (l : Labels) → Agrees l self.entry here.entry.others.now → (result.value ≡ first.entry.choice.value) ⊎ EndOf l run here.entry from result.value }
         ensures ends { (l : Labels) (value : ℕ) → Agrees l self.entry here.entry.others.now → value ≤ result.value → first.entry.label < result.value → Ends l run here.entry from value }
     {
-        let Sought {
-            choice,
-            label,
-            mut near,
-        } = first;
+        let Sought { choice, label } = first;
         let mut best = choice;
         let mut next = PlanState {
             position: from,
@@ -185,14 +181,7 @@ impl<'a> SolvedSuffix<'a> {
                 Some(next) => next,
                 None => return best,
             };
-            let row = self.row_near(next.left.len(), near);
-            near = row.place;
-            let at = LabelledSuffix {
-                row: row.labels,
-                rest: next.left,
-                position: next.position,
-            };
-            let value = 1 + self.value_in(at, next.c, next.d);
+            let value = 1 + self.value(next.left, next.position, next.c, next.d);
             if value < best.value {
                 let instr = run.instr(done + 1);
                 let step = Step { instr, next };

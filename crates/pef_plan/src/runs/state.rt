@@ -1,4 +1,3 @@
-use crate::runs::near::PlacedRow;
 use pef_reloc::{Fixup, Instr};
 
 /// A state, and the fixups that are left to make from there.
@@ -53,14 +52,4 @@ pub struct Choice<'a> {
 pub struct Sought<'a> {
     pub choice: Choice<'a>,
     pub label: u64,
-    /// A place among the kept rows of labels. The search for those after a run begins there.
-    pub near: usize,
-}
-
-/// The labels for a number of fixups left, and those for one fixup fewer.
-#[derive(Clone, Copy)]
-pub struct NearRows<'a> {
-    pub left: usize,
-    pub here: &'a [u32],
-    pub after: PlacedRow<'a>,
 }

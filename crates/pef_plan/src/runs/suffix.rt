@@ -4,14 +4,14 @@ ghost use Rattle.pef_cert.specs.Labels.{Labels};
 ghost use Rattle.pef_plan.specs.Runs.Ends.{FarAt, NearKept, NearSmall};
 ghost use Rattle.pef_plan.specs.Runs.Kept.Ahead.{IsAhead, class_ahead, value_ahead};
 ghost use Rattle.pef_plan.specs.Runs.Places.{AtOf};
-ghost use Rattle.pef_plan.specs.Runs.Tables.{Agrees, IsRow, Shaped, ValueIs, begin_at, number_in, place_of};
+ghost use Rattle.pef_plan.specs.Runs.Tables.{Agrees, IsRow, Shaped, ValueIs, begin_at, label_in, number_in, place_of};
 ghost use Rattle.pef_reloc.specs.declared.fixup.Base.TheVariants.{Section};
 ghost use Rattle.pef_reloc.specs.Limits.{most_sections};
 
 use crate::runs::ahead::NextFixup;
 use crate::runs::state::FixupState;
-use crate::windows::{Looks, Table};
-use pef_cert::{LabelRows, WORD, class_of};
+use crate::windows::{CloseRows, Looks, Table};
+use pef_cert::{WORD, class_of};
 use pef_reloc::{Base, Fixup};
 
 /// Tables of the values at the fixups that are solved so far. They are filled from the last fixup to the first.
@@ -23,20 +23,12 @@ pub struct SolvedSuffix<'a> {
     pub registers: &'a [u32],
     /// The labels, in one row for each number of fixups left. A row is ordered by the class of register C, then
     /// by that of D.
-    pub labels: &'a LabelRows,
+    pub labels: &'a CloseRows,
     /// The least value of a skip to the next fixup, by the number of fixups left and by the class of register
     /// C.
     pub skips: &'a Table,
     /// The counter of value reads.
     pub looks: Looks<'a>,
-}
-
-/// The fixups that are left, their labels, and a position in bytes.
-#[derive(Clone, Copy)]
-pub struct LabelledSuffix<'a> {
-    pub row: &'a [u32],
-    pub rest: &'a [Fixup],
-    pub position: u64,
 }
 
 impl<'a> SolvedSuffix<'a> {
@@ -61,13 +53,16 @@ impl<'a> SolvedSuffix<'a> {
         c * self.classes() + d
     }
 
-    /// Returns the labels for a number of fixups left.
+    /// Returns the label for a number of fixups left and the classes of the two registers.
     #[inline(always)]
-    pub fn row(self, left: usize) -> &'a [u32]
-        requires { Shaped self left }
-        ensures { IsRow self.entry left result.now }
+    pub fn label(self, left: usize, c: usize, d: usize) -> u32
+        requires shaped { Shaped self left }
+        requires c { c < length self.registers.now + 1 }
+        requires d { d < length self.registers.now + 1 }
+        ensures is { result ≡ label_in (length self.entry.registers.now + 1) self.entry.labels.now.rows left c d }
+        ensures small { result ≤ 4 * left }
     {
-        self.labels.row(left)
+        self.labels.number(left, self.place(c, d))
     }
 
     /// Returns the extension, in halfwords, for the fixups that are left, a position in bytes and the
@@ -80,48 +75,27 @@ impl<'a> SolvedSuffix<'a> {
         ensures is { (l : Labels) → Agrees l self.entry rest.entry.now → result ≡ extension l rest.entry.now position c d }
         ensures small { result ≤ 4 * length rest.entry.now + 2 }
     {
-        let row = self.row(rest.len());
-        let at = LabelledSuffix {
-            row,
-            rest,
-            position,
-        };
-        self.value_in(at, c, d)
-    }
-
-    /// Returns the same from the labels for these fixups.
-    #[inline(always)]
-    pub fn value_in(self, at: LabelledSuffix<'a>, c: usize, d: usize) -> u64
-        requires row { IsRow self (length at.rest.now) at.row.now }
-        requires shaped { Shaped self (length at.rest.now) }
-        requires c { c < length self.registers.now + 1 }
-        requires d { d < length self.registers.now + 1 }
-        ensures is { (l : Labels) → Agrees l self.entry at.entry.rest.now → result ≡ extension l at.entry.rest.now at.entry.position c d }
-        ensures small { result ≤ 4 * length at.entry.rest.now + 2 }
-    {
         self.looks.add(1);
-        let place = self.place(c, d);
-        if begin_at(at.rest, at.position) {
-            return u64::from(at.row[place]);
+        let label = self.label(rest.len(), c, d);
+        if begin_at(rest, position) {
+            return u64::from(label);
         }
-        match self.ahead(at) {
-            Some(ahead) => ahead.value(place, c, d),
+        match self.ahead(rest, position) {
+            Some(ahead) => ahead.value(label, c, d),
             None => 0,
         }
     }
 
-    /// Returns the first of these fixups, seen from a position.
+    /// Returns the first of some fixups, seen from a position.
     #[inline(always)]
-    fn ahead(self, at: LabelledSuffix<'a>) -> Option<NextFixup<'a>>
-        requires row { IsRow self (length at.rest.now) at.row.now }
-        requires shaped { Shaped self (length at.rest.now) }
-        ensures { MatchOption result (at.entry.rest.now ≡ []) (λ ahead. IsAhead self.entry at.entry.rest.now at.entry.position ahead) }
+    fn ahead(self, rest: &'a [Fixup], position: u64) -> Option<NextFixup<'a>>
+        requires shaped { Shaped self (length rest.now) }
+        ensures { MatchOption result (rest.entry.now ≡ []) (λ ahead. IsAhead self.entry rest.entry.now position ahead) }
     {
-        let first = at.rest.first()?;
+        let first = rest.first()?;
         Some(NextFixup {
-            bytes: u64::from(first.offset).saturating_sub(at.position),
-            row: at.row,
-            skips: self.skips.row(at.rest.len()),
+            bytes: u64::from(first.offset).saturating_sub(position),
+            skips: self.skips.row(rest.len()),
             class: self.class_ahead(first.base),
         })
     }
@@ -147,33 +121,23 @@ impl<'a> SolvedSuffix<'a> {
         ensures small { NearSmall (length self.entry.registers.now + 1) (at.entry.first ∷ at.entry.others.now) near.new }
     {
         let position = u64::from(at.first.offset) + WORD;
-        let row = self.row(at.others.len());
-        if begin_at(at.others, position) {
-            near.copy_from_slice(row);
-        } else {
-            self.fill_values(
-                LabelledSuffix {
-                    row,
-                    rest: at.others,
-                    position,
-                },
-                near,
-            );
+        self.labels.copy_row(at.others.len(), near);
+        if !begin_at(at.others, position) {
+            self.move_row(at.others, position, near);
         }
     }
 
-    /// Fills in the extension at a position that has none of these fixups, for each pair of classes.
+    /// Replaces a row of labels at some fixups by the extensions at a position where none of them is.
     #[inline(always)]
-    fn fill_values(self, at: LabelledSuffix<'a>, values: &mut [u32])
-        requires row { IsRow self (length at.rest.now) at.row.now }
-        requires shaped { Shaped self (length at.rest.now) }
-        requires away { begin_at at.position at.rest.now ≡ false }
-        requires len { length values.old ≡ (length self.registers.now + 1) * (length self.registers.now + 1) }
+    fn move_row(self, rest: &'a [Fixup], position: u64, values: &mut [u32])
+        requires row { IsRow self (length rest.now) values.old }
+        requires shaped { Shaped self (length rest.now) }
+        requires away { begin_at position rest.now ≡ false }
         ensures len { length values.new ≡ length values.old }
-        ensures are { (c d : ℕ) → c < length self.entry.registers.now + 1 → d < length self.entry.registers.now + 1 → ValueIs self.entry at.entry.rest.now at.entry.position c d (number_in (length self.entry.registers.now + 1) values.new c d) }
+        ensures are { (c d : ℕ) → c < length self.entry.registers.now + 1 → d < length self.entry.registers.now + 1 → ValueIs self.entry rest.entry.now position c d (number_in (length self.entry.registers.now + 1) values.new c d) }
     {
-        match self.ahead(at) {
-            Some(ahead) => fill_ahead(ahead, self.classes(), values),
+        match self.ahead(rest, position) {
+            Some(ahead) => move_all(ahead, self.classes(), values),
             None => values.fill(0),
         }
     }
@@ -188,37 +152,41 @@ impl<'a> SolvedSuffix<'a> {
         ensures is { (l : Labels) → Agrees l self.entry at.entry.others.now → FarAt l at.entry.first.offset at.entry.others.now far.new (Section section) }
     {
         let position = u64::from(at.first.offset) + 2 * WORD;
-        let row = self.row(at.others.len());
         let class = class_of(self.registers, section);
-        if begin_at(at.others, position) {
-            self.copy_column(row, class, far);
-        } else {
-            self.fill_column(
-                LabelledSuffix {
-                    row,
-                    rest: at.others,
-                    position,
-                },
-                class,
-                far,
-            );
+        self.copy_labels(at.others.len(), class, far);
+        if !begin_at(at.others, position) {
+            self.move_column(at.others, position, class, far);
         }
     }
 
-    /// Fills in the extension at a position that has none of these fixups. Register D is in a class, and the
-    /// numbers are by the class of C.
+    /// Copies the labels with register D in a class, by the class of C.
     #[inline(always)]
-    fn fill_column(self, at: LabelledSuffix<'a>, class: usize, values: &mut [u32])
-        requires row { IsRow self (length at.rest.now) at.row.now }
-        requires shaped { Shaped self (length at.rest.now) }
-        requires away { begin_at at.position at.rest.now ≡ false }
+    fn copy_labels(self, left: usize, class: usize, column: &mut [u32])
+        requires shaped { Shaped self left }
+        requires class { class < length self.registers.now + 1 }
+        requires len { length column.old ≡ length self.registers.now + 1 }
+        ensures len { length column.new ≡ length column.old }
+        ensures are { (c : ℕ) → c < length self.entry.registers.now + 1 → slice_index column.new c ≡ label_in (length self.entry.registers.now + 1) self.entry.labels.now.rows left c class }
+    {
+        'classes: for c in 0..column.len() {
+            column[c] = self.label(left, c, class);
+        }
+    }
+
+    /// Replaces labels at some fixups by the extensions at a position where none of them is. Register D is in a class,
+    /// and the numbers are by the class of C.
+    #[inline(always)]
+    fn move_column(self, rest: &'a [Fixup], position: u64, class: usize, values: &mut [u32])
+        requires labels { (c : ℕ) → c < length self.registers.now + 1 → slice_index values.old c ≡ label_in (length self.registers.now + 1) self.labels.now.rows (length rest.now) c class }
+        requires shaped { Shaped self (length rest.now) }
+        requires away { begin_at position rest.now ≡ false }
         requires class { class < length self.registers.now + 1 }
         requires len { length values.old ≡ length self.registers.now + 1 }
         ensures len { length values.new ≡ length values.old }
-        ensures are { (c : ℕ) → c < length self.entry.registers.now + 1 → (l : Labels) → Agrees l self.entry at.entry.rest.now → slice_index values.new c ≡ extension l at.entry.rest.now at.entry.position c class }
+        ensures are { (c : ℕ) → c < length self.entry.registers.now + 1 → (l : Labels) → Agrees l self.entry rest.entry.now → slice_index values.new c ≡ extension l rest.entry.now position c class }
     {
-        match self.ahead(at) {
-            Some(ahead) => fill_column_ahead(ahead, class, values),
+        match self.ahead(rest, position) {
+            Some(ahead) => move_in_class(ahead, class, values),
             None => values.fill(0),
         }
     }
@@ -239,22 +207,21 @@ impl<'a> SolvedSuffix<'a> {
     }
 }
 
-/// Fills in the extension for each pair of `classes` classes.
+/// Replaces the label of each pair of `classes` classes by the extension.
 #[inline(always)]
-fn fill_ahead(ahead: NextFixup<'_>, classes: usize, values: &mut [u32])
+fn move_all(ahead: NextFixup<'_>, classes: usize, values: &mut [u32])
     requires some { 0 < classes }
     requires few { classes ≤ most_sections + 1 }
-    requires row { length ahead.row.now ≡ classes * classes }
     requires skips { length ahead.skips.now ≡ classes }
-    requires small { (c d : ℕ) → c < classes → d < classes → number_in classes ahead.row.now c d + 2 < 2 ^ 32 }
+    requires small { (c d : ℕ) → c < classes → d < classes → number_in classes values.old c d + 2 < 2 ^ 32 }
     requires len { length values.old ≡ classes * classes }
     ensures len { length values.new ≡ length values.old }
-    ensures are { (c d : ℕ) → c < classes → d < classes → number_in classes values.new c d ≡ value_ahead classes ahead.entry c d }
-    ensures small { (c d : ℕ) → c < classes → d < classes → number_in classes values.new c d ≤ 2 + number_in classes ahead.entry.row.now c d }
+    ensures are { (c d : ℕ) → c < classes → d < classes → number_in classes values.new c d ≡ value_ahead ahead.entry (number_in classes values.old c d) c d }
+    ensures small { (c d : ℕ) → c < classes → d < classes → number_in classes values.new c d ≤ 2 + number_in classes values.old c d }
 {
     let (mut c, mut d) = (0, 0);
     'places: for place in 0..values.len() {
-        values[place] = ahead.value(place, c, d) as u32;
+        values[place] = ahead.value(values[place], c, d) as u32;
         d += 1;
         if d == classes {
             (c, d) = (c + 1, 0);
@@ -262,19 +229,16 @@ fn fill_ahead(ahead: NextFixup<'_>, classes: usize, values: &mut [u32])
     }
 }
 
-/// Fills in the extension with register D in a class, by the class of C.
+/// Replaces labels by the extensions. Register D is in a class, and the numbers are by the class of C.
 #[inline(always)]
-fn fill_column_ahead(ahead: NextFixup<'_>, class: usize, values: &mut [u32])
-    requires few { length values.old ≤ most_sections + 1 }
-    requires class { class < length values.old }
-    requires row { length ahead.row.now ≡ length values.old * length values.old }
+fn move_in_class(ahead: NextFixup<'_>, class: usize, values: &mut [u32])
     requires skips { length ahead.skips.now ≡ length values.old }
-    requires small { (c d : ℕ) → c < length values.old → d < length values.old → number_in (length values.old) ahead.row.now c d + 2 < 2 ^ 32 }
+    requires small { (c : ℕ) → c < length values.old → slice_index values.old c + 2 < 2 ^ 32 }
     ensures len { length values.new ≡ length values.old }
-    ensures are { (c : ℕ) → c < length values.old → slice_index values.new c ≡ value_ahead (length values.old) ahead.entry c class }
+    ensures are { (c : ℕ) → c < length values.old → slice_index values.new c ≡ value_ahead ahead.entry (slice_index values.old c) c class }
 {
     'classes: for c in 0..values.len() {
-        values[c] = ahead.value(c * values.len() + class, c, class) as u32;
+        values[c] = ahead.value(values[c], c, class) as u32;
     }
 }
 

@@ -1,18 +1,12 @@
-use Rattle.std.proofs.Common.{ℕ, ◌+◌, ◌∙◌, ap, arith, length, subst}
-use Rattle.pef_plan.specs.Runs.Tables.{IsRow, number_in}
+use Rattle.std.proofs.Common.{arith}
 use Rattle.pef_plan.specs.Kept.Steps.{labels_tabled}
 use Rattle.pef_plan.proofs.StepFacts.{agrees_others, best_falls, chosen_falls, extension_label}
 use Rattle.pef_plan.proofs.reading.step_at.Goals as goal
 
-pub direct-best-requires-clause-after : goal.direct-best-requires-clause-after
-direct-best-requires-clause-after c =
-    let count = ap length c.requires.here.parts in
-    subst (λ (n : ℕ). IsRow c.args.known n c.args.rows.after.labels.now) (omega (arith, count)) c.requires.rows.after
-
-pub returns-then-best-label : goal.returns-then-best-label
-returns-then-best-label c =
-    let low = c.if-best-label.true in
-    let is = c.label_of-label.ensures ∙ ap (λ q. number_in (length c.args.known.registers.now + 1) q c.args.here.place.c c.args.here.place.d) c.requires.rows.here.is in
+pub returns-then-best-from : goal.returns-then-best-from
+returns-then-best-from c =
+    let low = c.if-best-from.true in
+    let is = c.label-label.ensures.is in
     chosen_falls c.args.known c.args.here c.direct-best.result c.requires.here c.requires.at c.direct-best.ensures.chosen (omega (arith, low, is))
 
 pub set_c-requires-clause-low : goal.set_c-requires-clause-low
@@ -20,9 +14,9 @@ set_c-requires-clause-low c =
     let p = c.args.here.place in
     let there = extension_label c.args.known c.args.here c.loop-class.class p.d c.requires.here c.requires.at in
     let mine = extension_label c.args.known c.args.here p.c p.d c.requires.here c.requires.at in
-    let low = c.if-label_of-label.true in
-    let one = c.label_of.ensures ∙ ap (λ q. number_in (length c.args.known.registers.now + 1) q c.loop-class.class p.d) c.requires.rows.here.is in
-    let two = c.label_of-label.ensures ∙ ap (λ q. number_in (length c.args.known.registers.now + 1) q p.c p.d) c.requires.rows.here.is in
+    let low = c.if-label.true in
+    let one = c.label.ensures.is in
+    let two = c.label-label.ensures.is in
     omega (arith, there, mine, low, one, two)
 
 pub set_d-requires-clause-low : goal.set_d-requires-clause-low
@@ -30,9 +24,9 @@ set_d-requires-clause-low c =
     let p = c.args.here.place in
     let there = extension_label c.args.known c.args.here p.c c.loop-class.class c.requires.here c.requires.at in
     let mine = extension_label c.args.known c.args.here p.c p.d c.requires.here c.requires.at in
-    let low = c.if-label_of-label-2.true in
-    let one = c.label_of-in-loop-class.ensures ∙ ap (λ q. number_in (length c.args.known.registers.now + 1) q p.c c.loop-class.class) c.requires.rows.here.is in
-    let two = c.label_of-label.ensures ∙ ap (λ q. number_in (length c.args.known.registers.now + 1) q p.c p.d) c.requires.rows.here.is in
+    let low = c.if-label-2.true in
+    let one = c.label-in-loop-class.ensures.is in
+    let two = c.label-label.ensures.is in
     omega (arith, there, mine, low, one, two)
 
 pub returns : goal.returns
@@ -41,10 +35,10 @@ returns c = λ s in_place.
     let h = c.args.here in
     let end = c.classes-class-end.ensures in
     let past = c.loop-class-test.false in
-    let is = c.label_of-label.ensures ∙ ap (λ q. number_in (length c.args.known.registers.now + 1) q c.args.here.place.c c.args.here.place.d) c.requires.rows.here.is in
-    let above = c.if-best-label.false in
+    let is = c.label-label.ensures.is in
+    let above = c.if-best-from.false in
     let met = c.direct-best.ensures.least (labels_tabled k) c.direct-best.result.value (agrees_others k h c.requires.here) (omega arith) (omega (arith, above)) in
-    let low = best_falls k h s c.direct-best.result.value c.label_of-label.result c.requires.here c.requires.at in_place met is
+    let low = best_falls k h s c.direct-best.result.value c.label-label.result c.requires.here c.requires.at in_place met is
     (λ e under. c.loop-class.invariant.by_c e (omega (arith, under, end, past)))
     (λ e under. c.loop-class.invariant.by_d e (omega (arith, under, end, past))) in
     chosen_falls k h c.direct-best.result c.requires.here c.requires.at c.direct-best.ensures.chosen (omega (arith, low, is)) s in_place

@@ -1,5 +1,4 @@
 use Rattle.std.proofs.Common.{◌≢◌, ◌+◌, ◌-◌, ◌∙◌, ap, arith, refl, sym}
-use Rattle.pef_plan.specs.Runs.Tables.{number_in}
 use Rattle.pef_plan.specs.Runs.Places.{extension_in}
 use Rattle.pef_plan.specs.Kept.Steps.{labels_tabled}
 use Rattle.pef_plan.specs.Runs.Tables.{label_in}
@@ -14,8 +13,8 @@ set_position-requires-clause-low c =
     let k = c.args.known in
     let h = c.args.here in
     let there = label-there k h h.first.offset c.requires.here refl in
-    let value = c.value_in-value.ensures.is (labels_tabled k) c.requires.here.at.agrees in
-    let label = c.label_of-label.ensures ∙ ap (λ q. number_in (length c.args.known.registers.now + 1) q h.place.c h.place.d) c.requires.row.is in
+    let value = c.value-value.ensures.is (labels_tabled k) c.requires.here.at.agrees in
+    let label = c.from-label.ensures ∙ c.label.ensures.is in
     let two = c.if-value-label.true in
     omega (arith, there, value, label, two)
 
@@ -27,8 +26,8 @@ increment-requires-clause-low c =
     let ahead = c.saturating_sub-ahead.ensures in
     let some = c.if-ahead-ge1.true in
     let there = label-there k h (h.place.position + c.saturating_sub-ahead.result) c.requires.here (omega (arith, from, ahead, some)) in
-    let value = c.value_in-value.ensures.is (labels_tabled k) c.requires.here.at.agrees in
-    let label = c.label_of-label.ensures ∙ ap (λ q. number_in (length c.args.known.registers.now + 1) q h.place.c h.place.d) c.requires.row.is in
+    let value = c.value-value.ensures.is (labels_tabled k) c.requires.here.at.agrees in
+    let label = c.from-label.ensures ∙ c.label.ensures.is in
     let one = c.if-value-label-2.true in
     omega (arith, there, value, label, one)
 
@@ -37,8 +36,8 @@ increment-requires-then-ahead-gt-REACH-clause-few c =
     let k = c.args.known in
     let h = c.args.here in
     let is = c.saturating_sub-ahead.ensures ∙ ap (λ n. n - h.place.position) c.from.ensures in
-    let value = c.value_in-value.ensures.is (labels_tabled k) c.requires.here.at.agrees in
-    let other : extension_in (labels_tabled k) h.place ≢ 2 + label_in (length k.registers.now + 1) k.labels.now.rows (length h.place.left.now) h.place.c h.place.d = λ e. c.if-value-label.false (value ∙ (e ∙ ap (λ n. 2 + n) (sym (c.label_of-label.ensures ∙ ap (λ q. number_in (length c.args.known.registers.now + 1) q h.place.c h.place.d) c.requires.row.is)))) in
+    let value = c.value-value.ensures.is (labels_tabled k) c.requires.here.at.agrees in
+    let other : extension_in (labels_tabled k) h.place ≢ 2 + label_in (length k.registers.now + 1) k.labels.now.rows (length h.place.left.now) h.place.c h.place.d = λ e. c.if-value-label.false (value ∙ (e ∙ ap (λ n. 2 + n) (sym (c.from-label.ensures ∙ c.label.ensures.is)))) in
     let beyond = c.if-ahead-gt-REACH.true in
     let most = (short_move k h c.requires.here c.requires.away (omega (arith, is, beyond)) other).1 in
     omega (arith, is, most)
@@ -48,8 +47,8 @@ increment-requires-then-ahead-gt-REACH-clause-low c =
     let k = c.args.known in
     let h = c.args.here in
     let is = c.saturating_sub-ahead.ensures ∙ ap (λ n. n - h.place.position) c.from.ensures in
-    let value = c.value_in-value.ensures.is (labels_tabled k) c.requires.here.at.agrees in
-    let other : extension_in (labels_tabled k) h.place ≢ 2 + label_in (length k.registers.now + 1) k.labels.now.rows (length h.place.left.now) h.place.c h.place.d = λ e. c.if-value-label.false (value ∙ (e ∙ ap (λ n. 2 + n) (sym (c.label_of-label.ensures ∙ ap (λ q. number_in (length c.args.known.registers.now + 1) q h.place.c h.place.d) c.requires.row.is)))) in
+    let value = c.value-value.ensures.is (labels_tabled k) c.requires.here.at.agrees in
+    let other : extension_in (labels_tabled k) h.place ≢ 2 + label_in (length k.registers.now + 1) k.labels.now.rows (length h.place.left.now) h.place.c h.place.d = λ e. c.if-value-label.false (value ∙ (e ∙ ap (λ n. 2 + n) (sym (c.from-label.ensures ∙ c.label.ensures.is)))) in
     let beyond = c.if-ahead-gt-REACH.true in
     let low = (short_move k h c.requires.here c.requires.away (omega (arith, is, beyond)) other).0 in
     let same = ap (λ n. extension (labels_tabled k) h.place.left.now (h.place.position + (n - 1020)) h.place.c h.place.d) is in
@@ -60,12 +59,12 @@ skip_to-requires-clause-near c =
     let k = c.args.known in
     let h = c.args.here in
     let is = c.saturating_sub-ahead.ensures ∙ ap (λ n. n - h.place.position) c.from.ensures in
-    let value = c.value_in-value.ensures.is (labels_tabled k) c.requires.here.at.agrees in
+    let value = c.value-value.ensures.is (labels_tabled k) c.requires.here.at.agrees in
     let within = c.if-ahead-gt-REACH.false in
     skips_to k h c.requires.here c.requires.away (omega (arith, is, within))
-    (λ e. c.if-value-label.false (value ∙ (e ∙ ap (λ n. 2 + n) (sym (c.label_of-label.ensures ∙ ap (λ q. number_in (length c.args.known.registers.now + 1) q h.place.c h.place.d) c.requires.row.is)))))
+    (λ e. c.if-value-label.false (value ∙ (e ∙ ap (λ n. 2 + n) (sym (c.from-label.ensures ∙ c.label.ensures.is)))))
     (λ some e. elim c.else-ahead-ge1.branch [
-      | else-ahead-ge1-via-then-ahead-ge1+then-ahead-le-REACH+else-value-label-2 w ↦ w.if-value-label-2.false (value ∙ (e ∙ ap (λ n. 1 + n) (sym (c.label_of-label.ensures ∙ ap (λ q. number_in (length c.args.known.registers.now + 1) q h.place.c h.place.d) c.requires.row.is))))
+      | else-ahead-ge1-via-then-ahead-ge1+then-ahead-le-REACH+else-value-label-2 w ↦ w.if-value-label-2.false (value ∙ (e ∙ ap (λ n. 1 + n) (sym (c.from-label.ensures ∙ c.label.ensures.is))))
       | else-ahead-ge1-via-then-ahead-ge1+else-ahead-le-REACH w ↦ (let far = w.if-ahead-le-REACH.false in absurd (omega (arith, far, within)))
       | else-ahead-ge1-via-else-ahead-ge1 w ↦ (let none = w.if-ahead-ge1.false in absurd (omega (arith, none, some, is)))
     ])

@@ -7,7 +7,6 @@ use Rattle.pef_cert.specs.Labels.{class_of}
 use Rattle.pef_cert.specs.Extension.{change, moved_value}
 use Rattle.pef_plan.specs.declared.runs.ahead.NextFixup.{NextFixup}
 use Rattle.pef_plan.specs.declared.runs.suffix.SolvedSuffix.{SolvedSuffix}
-use Rattle.pef_plan.specs.Runs.Tables.{IsRow, number_in}
 
 -- the class of a base's section
 abbrev pub class_ahead : List ℕ → Base → Option ℕ
@@ -19,9 +18,9 @@ abbrev pub offer_ahead : Option ℕ → List ℕ → ℕ → ℕ → Option ℕ
 offer_ahead None skips c d = None
 offer_ahead (Some class) skips c d = Some (change d class + slice_index skips c)
 
--- the extension in two of so many classes
-abbrev pub value_ahead : ℕ → NextFixup → ℕ → ℕ → ℕ
-value_ahead classes a c d = moved_value a.bytes (number_in classes a.row.now c d) (offer_ahead a.class a.skips.now c d)
+-- the extension in two classes, from their label at the next fixup
+abbrev pub value_ahead : NextFixup → ℕ → ℕ → ℕ → ℕ
+value_ahead a label c d = moved_value a.bytes label (offer_ahead a.class a.skips.now c d)
 
 -- the next fixup, seen from a position with fixups left
 pub record IsAhead (k : SolvedSuffix) (fixups : List Fixup) (p : ℕ) (a : NextFixup) : Type 0 where
@@ -29,7 +28,6 @@ pub record IsAhead (k : SolvedSuffix) (fixups : List Fixup) (p : ℕ) (a : NextF
   pub others : List Fixup
   pub parts : fixups ≡ first ∷ others
   pub bytes : a.bytes ≡ first.offset - p
-  pub row : IsRow k (length fixups) a.row.now
   pub skips : a.skips.now ≡ slice_index_or k.skips.now.rows (length fixups) []
   pub skips_wide : length a.skips.now ≡ length k.registers.now + 1
   pub class : a.class ≡ class_ahead k.registers.now first.base

@@ -11,8 +11,8 @@ returns-in-None-clause-ends c = λ l value agrees low above.
     let a = c.args in
     so_far-stop a.self a.here a.run a.from c.ends.done c.ends.next a.first.choice c.ends.best c.ends.invariant c.in-None.ensures l value agrees low
 
-pub value_in-value-requires-clause-shaped : goal.value_in-value-requires-clause-shaped
-value_in-value-requires-clause-shaped c =
+pub value-value-requires-clause-shaped : goal.value-value-requires-clause-shaped
+value-value-requires-clause-shaped c =
     let a = c.args in
     after-shaped a.self a.here a.run a.from (c.ends.done + 1) c.in-Some.next c.requires.here
     (along-after a.self a.here a.run a.from c.ends.done c.in-Some.next c.requires.here (along-next a.run a.here.place c.ends.next c.in-Some.next a.from c.ends.done c.ends.invariant.along c.in-Some.ensures))
@@ -24,15 +24,9 @@ ends-preserved c =
     elim c.if-value-best.branch [
       | then-value-best w ↦ (let low = w.if-value-best in
           subst (λ (best : Choice). SoFar a.self a.here a.run a.from (c.ends.done + 1) c.in-Some.next a.first.choice best)
-          (ap (λ x. record { step = record { instr = x; next = c.in-Some.next }; value = 1 + c.value_in-value.result }) (sym w.instr-instr.ensures) ∙ sym w.best-is)
-          (so_far-better a.self a.here a.run a.from c.ends.done c.ends.next c.in-Some.next a.first.choice c.ends.best c.value_in-value.result c.requires.here c.requires.run c.ends.invariant under c.in-Some.ensures c.value_in-value.ensures.is (omega (arith, low))))
+          (ap (λ x. record { step = record { instr = x; next = c.in-Some.next }; value = 1 + c.value-value.result }) (sym w.instr-instr.ensures) ∙ sym w.best-is)
+          (so_far-better a.self a.here a.run a.from c.ends.done c.ends.next c.in-Some.next a.first.choice c.ends.best c.value-value.result c.requires.here c.requires.run c.ends.invariant under c.in-Some.ensures c.value-value.ensures.is (omega (arith, low))))
       | else-value-best w ↦ (let low = w.if-value-best in
           subst (λ (best : Choice). SoFar a.self a.here a.run a.from (c.ends.done + 1) c.in-Some.next a.first.choice best) (sym w.best-is)
-          (so_far-same a.self a.here a.run a.from c.ends.done c.ends.next c.in-Some.next a.first.choice c.ends.best c.value_in-value.result c.requires.here c.ends.invariant under c.in-Some.ensures c.value_in-value.ensures.is (omega (arith, low))))
+          (so_far-same a.self a.here a.run a.from c.ends.done c.ends.next c.in-Some.next a.first.choice c.ends.best c.value-value.result c.requires.here c.ends.invariant under c.in-Some.ensures c.value-value.ensures.is (omega (arith, low))))
     ]
-
-pub row_near-row-requires : goal.row_near-row-requires
-row_near-row-requires c =
-    let a = c.args in
-    after-shaped a.self a.here a.run a.from (c.ends.done + 1) c.in-Some.next c.requires.here
-    (along-after a.self a.here a.run a.from c.ends.done c.in-Some.next c.requires.here (along-next a.run a.here.place c.ends.next c.in-Some.next a.from c.ends.done c.ends.invariant.along c.in-Some.ensures))

@@ -1,22 +1,18 @@
-use Rattle.std.proofs.Common.{◌≡◌, ◌+◌, ◌<◌, ◌≤◌, ◌∙◌, ap, arith, length, slice_index, subst, ℕ}
-use Rattle.std.proofs.lemmas.List.{length-set}
-use Rattle.pef_cert.specs.Extension.{moved_value}
-use Rattle.pef_plan.specs.Runs.Kept.Ahead.{offer_ahead, value_ahead}
+use Rattle.std.proofs.Common.{◌≡◌, ◌≢◌, ◌+◌, ◌<◌, ◌≤◌, ◌∙◌, ap, arith, slice_index, subst, ℕ}
+use Rattle.std.proofs.lemmas.List.{get_or-set_other, length-set}
+use Rattle.pef_plan.specs.Runs.Kept.Ahead.{value_ahead}
 use Rattle.pef_plan.specs.Runs.Tables.{number_in, place_of}
 use Rattle.pef_plan.proofs.RunsProofs.PlaceLemmas.{class_under, filled-set, next_along, next_line, place_under}
-use Rattle.pef_plan.proofs.runs.suffix.fill_ahead.Goals.{In-places, then-d-classes, else-d-classes}
-use Rattle.pef_plan.proofs.runs.suffix.fill_ahead.Goals as goal
+use Rattle.pef_plan.proofs.runs.suffix.move_all.Goals.{then-d-classes, else-d-classes}
+use Rattle.pef_plan.proofs.runs.suffix.move_all.Goals as goal
 
-under_classes : (c : In-places) → c.places.place < length c.args.values.now → c.places.c < c.args.classes
-under_classes c under =
+pub value-requires : goal.value-requires
+value-requires c =
     let place = c.places.invariant.place in
     let len = c.requires.len in
-    class_under c.args.classes c.places.c c.places.d (omega (arith, place, under, len))
-
-pub value-requires-clause-c : goal.value-requires-clause-c
-value-requires-clause-c c =
     let wide = c.requires.skips in
-    let low = under_classes c c.places-test.true in
+    let under = c.places-test.true in
+    let low = class_under c.args.classes c.places.c c.places.d (omega (arith, place, under, len)) in
     omega (arith, low, wide)
 
 pub places-preserved : goal.places-preserved
@@ -28,6 +24,7 @@ places-preserved c =
     let place = i.place in
     let low = i.d in
     let under = c.places-test.true in
+    let here : slice_index c.places.values c.places.place ≡ number_in r a.values.now c.places.c c.places.d = i.left c.places.place (omega arith) ∙ ap (slice_index a.values.now) place in
     let next : (c.places.place + 1 ≡ place_of r c.if-d-classes.c c.if-d-classes.d) × (c.if-d-classes.d < r) = elim c.if-d-classes.branch [
       | then-d-classes w ↦ next_line r c.places.place c.places.c c.places.d c.if-d-classes.c c.if-d-classes.d place low w.if-d-classes.true w.c-is w.d-is
       | else-d-classes w ↦ next_along r c.places.place c.places.c c.places.d c.if-d-classes.c c.if-d-classes.d place low w.if-d-classes.false w.c-is w.d-is
@@ -36,10 +33,13 @@ places-preserved c =
       len = length-set c.places.values c.places.place c.value.result ∙ len;
       place = next.0;
       d = next.1;
-      filled = filled-set r (λ x y v. (v ≡ value_ahead r a.ahead x y) × (v ≤ 2 + number_in r a.ahead.row.now x y)) c.places.values c.places.place c.places.c c.places.d c.value.result place (omega (arith, under, len)) low (
-        c.value.ensures.is ∙ ap (λ n. moved_value a.ahead.bytes (slice_index a.ahead.row.now n) (offer_ahead a.ahead.class a.ahead.skips.now c.places.c c.places.d)) place,
-        subst (λ n. c.value.result ≤ 2 + slice_index a.ahead.row.now n) place c.value.ensures.small,
+      filled = filled-set r (λ x y v. (v ≡ value_ahead a.ahead (number_in r a.values.now x y) x y) × (v ≤ 2 + number_in r a.values.now x y)) c.places.values c.places.place c.places.c c.places.d c.value.result place (omega (arith, under, len)) low (
+        c.value.ensures.is ∙ ap (λ n. value_ahead a.ahead n c.places.c c.places.d) here,
+        subst (λ n. c.value.result ≤ 2 + n) here c.value.ensures.small,
       ) i.filled;
+      left = λ j from.
+          let apart : j ≢ c.places.place = λ same. omega (arith, same, from) in
+          get_or-set_other c.places.values c.places.place j c.value.result 0 apart ∙ i.left j (omega (arith, from));
     }
 
 pub returns-clause-are : goal.returns-clause-are

@@ -1,9 +1,0 @@
-use Rattle.std.proofs.Common.{◌≡◌, ◌<◌, ℕ, length, slice_index}
-use Rattle.pef_plan.specs.Runs.Kept.Ahead.{value_ahead}
-use Rattle.pef_plan.proofs.runs.suffix.fill_column_ahead.Given as goal
-
-abbrev pub invariant-classes : goal.invariant-classes
-invariant-classes l = record {
-  len : length l.values ≡ length l.fn.values;
-  are : (c : ℕ) → c < l.c → slice_index l.values c ≡ value_ahead (length l.fn.values) l.ahead c l.class;
-}
