@@ -5,7 +5,7 @@ use Rattle.std.proofs.lemmas.Bool.{and_from, and_parts, eqb-true, lt-ltb}
 use Rattle.std.proofs.lemmas.List.{length-take-le, map-append, take_more}
 use Rattle.pef_cert.specs.Certified.{Certified}
 use Rattle.pef_cert.proofs.Laws.{valid-least}
-use Rattle.pef_plan.proofs.Laws.{least-names, least-short}
+use Rattle.pef_plan.proofs.Laws.{least-names, least-short, program_certificate}
 use Rattle.pef_reloc.specs.declared.fixup.Base.{Base}
 use Rattle.pef_reloc.specs.declared.fixup.Base.TheVariants.{Section, Import}
 use Rattle.pef_reloc.specs.declared.fixup.Fixup.{Fixup}
@@ -74,6 +74,13 @@ pub certified_short : (n j k : ℕ) (sections : List DescribedSection) (i : ℕ)
 certified_short n j k sections i s d c hold under found is =
     let holds : SectionHolds n j s = subst (SectionHolds n j) (sym found) (all-at (SectionHolds n j) sections i d hold under) in
     omega (arith, (certified_program n j k s c holds is).short, (fixups_fit-parts s.fixups holds.fixups).count)
+
+-- a least program has a certificate
+pub some_certified : (n j k : ℕ) (sections : List DescribedSection) (i : ℕ) (s d : DescribedSection) (program : List Instr) → AllByRecursion (SectionHolds n j) sections → i < length sections → s ≡ get_or sections i d → Least s.fixups program → (c : Certified) × (c.program ≡ program) × IsCertified k s.fixups c
+some_certified n j k sections i s d program hold under found least =
+    let holds : SectionHolds n j s = subst (SectionHolds n j) (sym found) (all-at (SectionHolds n j) sections i d hold under) in
+    let own = program_certificate s.fixups k program holds.fixups least in
+    (own.0, own.2, record { section = own.1; valid = own.3; exact = own.4 })
 
 -- one certificate more, for the next section
 certified_after : (k : ℕ) (sections : List DescribedSection) (certificates : List Certified) (s : DescribedSection) (c : Certified) → AreCertified k sections certificates → IsCertified (k + length sections) s.fixups c → AreCertified k (sections ++ s ∷ []) (certificates ++ c ∷ [])

@@ -5,8 +5,8 @@ ghost use Rattle.pef_reloc.specs.Instrs.{instrs_fit, program_length, spelled};
 ghost use Rattle.pef_write.specs.Kept.Encoded.{AreEncoded};
 
 use crate::fault::LinkFault;
-use pef_cert::Certificate;
-use pef_plan::plan;
+use pef_cert::{Certificate, program_length};
+use pef_plan::{least_program, plan};
 use pef_reloc::{Instr, encode};
 use pef_script::Script;
 use std::alloc::{AllocError, Global};
@@ -30,16 +30,15 @@ impl EncodedPrograms {
         Ok(EncodedPrograms { programs, lengths })
     }
 
-    /// Appends the program of the next section's certificate.
-    fn push(&mut self, alloc: Global, certificate: &Certificate) -> Result<(), AllocError>
-        requires fit { instrs_fit certificate.now.program ≡ true }
-        requires short { program_length certificate.now.program < 2 ^ 32 }
-        ensures programs { OnOk result (map (λ p. p.items) self.new.programs.items ≡ map (λ p. p.items) self.old.programs.items ++ spelled certificate.now.program ∷ []) }
-        ensures lengths { OnOk result (self.new.lengths.items ≡ self.old.lengths.items ++ program_length certificate.now.program ∷ []) }
+    /// Appends the program of the next section.
+    fn push(&mut self, alloc: Global, program: &[Instr]) -> Result<(), AllocError>
+        requires fit { instrs_fit program.now ≡ true }
+        requires short { program_length program.now < 2 ^ 32 }
+        ensures programs { OnOk result (map (λ p. p.items) self.new.programs.items ≡ map (λ p. p.items) self.old.programs.items ++ spelled program.now ∷ []) }
+        ensures lengths { OnOk result (self.new.lengths.items ≡ self.old.lengths.items ++ program_length program.now ∷ []) }
     {
-        self.programs
-            .push(program_bytes(alloc, &certificate.program)?)?;
-        self.lengths.push(certificate.program_length() as u32)?;
+        self.programs.push(program_bytes(alloc, program)?)?;
+        self.lengths.push(program_length(program) as u32)?;
         Ok(())
     }
 }
@@ -56,22 +55,21 @@ pub(crate) fn certified_programs(
     let mut encoded = EncodedPrograms::with_capacity(alloc, sections.len())?;
     for (k, section) in sections.iter().enumerate() {
         let certificate = plan(alloc, k as u32, &section.fixups)?;
-        encoded.push(alloc, &certificate)?;
+        encoded.push(alloc, &certificate.program)?;
         certificates.push(certificate)?;
     }
     Ok((certificates, encoded))
 }
 
-/// Returns the program of each section of a script.
-///
-/// It keeps one certificate at a time, since the labels of all sections would take much memory.
+/// Returns the program of each section of a script, without its certificate, which takes far more memory.
 pub(crate) fn programs(alloc: Global, script: &Script<'_>) -> Result<EncodedPrograms, LinkFault>
     ensures { IfOk result (λ encoded. (certificates : List Certified) × AreEncoded script.now certificates (map (λ p. p.items) encoded.programs.items) encoded.lengths.items) }
 {
     let sections = &script.parts().sections;
     let mut encoded = EncodedPrograms::with_capacity(alloc, sections.len())?;
-    for (k, section) in sections.iter().enumerate() {
-        encoded.push(alloc, &plan(alloc, k as u32, &section.fixups)?)?;
+    for section in sections {
+        let program = least_program(alloc, &section.fixups)?;
+        encoded.push(alloc, &program)?;
     }
     Ok(encoded)
 }
