@@ -94,19 +94,15 @@ fn rows_from_what_is_kept(rt: HostRuntime) {
     }
 }
 
-/// A width, rows of that width, and the same rows with the last first.
-type Turned = (usize, &'static [&'static [u32]], &'static [&'static [u32]]);
+/// A width, and rows of that width.
+type Rows = (usize, &'static [&'static [u32]]);
 
-const TURNED: &[Turned] = &[
-    (2, &[], &[]),
-    (2, &[&[1, 2]], &[&[1, 2]]),
-    (2, ROWS, &[&[1, 2], &[0, 0], &[1, 2], &[1, 2]]),
-    (
-        1,
-        &[&[5], &[5], &[6], &[7], &[7], &[7]],
-        &[&[7], &[7], &[7], &[6], &[5], &[5]],
-    ),
-    (0, &[&[], &[], &[]], &[&[], &[], &[]]),
+const INDEXED: &[Rows] = &[
+    (2, &[]),
+    (2, &[&[1, 2]]),
+    (2, ROWS),
+    (1, &[&[5], &[5], &[6], &[7], &[7], &[7]]),
+    (0, &[&[], &[], &[]]),
 ];
 
 /// Returns rows of this width, in this order.
@@ -128,16 +124,7 @@ fn assert_rows(rt: &impl Abort, rows: &LabelRows, want: &[&[u32]]) {
 
 #[test]
 fn rows_at_their_indices(rt: HostRuntime) {
-    for (width, rows, _) in TURNED {
+    for (width, rows) in INDEXED {
         assert_rows(&rt, &rows_of(&rt, rt.alloc(), *width, rows), rows);
-    }
-}
-
-#[test]
-fn rows_with_the_last_first(rt: HostRuntime) {
-    for (width, rows, reversed) in TURNED {
-        let turned = rows_of(&rt, rt.alloc(), *width, rows).reversed();
-        assert!(rt; turned.width() == *width);
-        assert_rows(&rt, &turned, reversed);
     }
 }

@@ -13,7 +13,6 @@ mod LabelFacts
 mod MinimaLemmas
 mod NeededTests
 mod RegisterLemmas
-mod ReversedRows
 mod RunLemmas
 mod SetLemmas
 mod SharedLemmas

@@ -17,15 +17,6 @@ unfoldable pub last_end : ℕ → List ℕ → ℕ
 last_end low [] = low
 last_end low (end ∷ ends) = last_end end ends
 
-pub last_end-above : (low : ℕ) (ends : List ℕ) → above_all low ends ≡ true → low ≤ last_end low ends
-unfolding last_end
-last_end-above low [] up = omega arith
-last_end-above low (end ∷ ends) up =
-    let both = and_parts (nat_lt low end) (above_all end ends) up in
-    let first = ltb-true low end both.0 in
-    let later = last_end-above end ends both.1 in
-    omega (arith, first, later)
-
 pub rows-count : (w low : ℕ) (ends values : List ℕ) → above_all low ends ≡ true → length (rows_from w low ends values) + low ≡ last_end low ends
 unfolding last_end
 rows-count w low [] values up = omega arith
@@ -343,34 +334,10 @@ last_end-at low (x ∷ y ∷ ends) some =
     let again : length (y ∷ ends) - 1 ≡ length ends = omega arith in
     ap (slice_index (x ∷ y ∷ ends)) same ∙ (ap (slice_index (y ∷ ends)) (sym again) ∙ last_end-at x (y ∷ ends) (omega arith))
 
--- all ends but the last are below it
-before_last : (low : ℕ) (ends : List ℕ) (k : ℕ) → above_all low ends ≡ true → k + 1 < length ends → slice_index ends k < last_end low ends
-unfolding last_end
-before_last low [] k up under = absurd (omega (arith, under))
-before_last low (x ∷ []) k up under = absurd (omega (arith, under))
-before_last low (x ∷ y ∷ ends) zero up under =
-    let both = and_parts (nat_lt x y) (above_all y ends) (and_parts (nat_lt low x) (above_all x (y ∷ ends)) up).1 in
-    let first = ltb-true x y both.0 in
-    let later = last_end-above y ends both.1 in
-    omega (arith, first, later)
-before_last low (x ∷ y ∷ ends) (suc k) up under =
-    before_last x (y ∷ ends) k (and_parts (nat_lt low x) (above_all x (y ∷ ends)) up).1 (omega (arith, under))
-
 -- if there is a row, one is kept
 pub ends_some : (w : ℕ) (ends values : List ℕ) (index : ℕ) → index < length (rows_from w 0 ends values) → 0 < length ends
 ends_some w [] values index inside = absurd (omega (arith, inside))
 ends_some w (x ∷ ends) values index inside = omega arith
-
--- the last kept row is the one at the last index
-pub newest_placed : (w : ℕ) (ends values : List ℕ) (index : ℕ) → RowsFull w ends values → index + 1 ≡ length (rows_from w 0 ends values) → PlaceOf ends index (length ends - 1)
-newest_placed w ends values index full last =
-    let some = ends_some w ends values index (omega (arith, last)) in
-    let count = last_is w ends values full in
-    record {
-      under = omega (arith, some);
-      before = λ k below. let less = before_last 0 ends k full.rising (omega (arith, below)) in omega (arith, less, last, count);
-      here = (let e = last_end-at 0 ends some in omega (arith, e, last, count));
-    }
 
 -- ends that rise don't fall
 rising-above : (low : ℕ) (ends : List ℕ) (k d : ℕ) → above_all low ends ≡ true → k < length ends → low ≤ slice_index_or ends k d

@@ -2,7 +2,8 @@
 //!
 //! [`check`] decides whether a [`Certificate`] is valid for some fixups. [`Certificate::read`] and
 //! [`Certificate::print_to`] read and print the text of certificates: a certificate for each section of a script.
-//! [`CertificateReader`] reads one after the other. [`Certificate::print`] returns the text.
+//! [`CertificateReader`] reads one after the other. [`Certificate::print`] returns the text. A [`PackedCertificate`] takes
+//! less memory, and can only be printed.
 #![tactic(auto)]
 
 mod additions;

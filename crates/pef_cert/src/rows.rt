@@ -1,5 +1,5 @@
-ghost use Rattle.std.specs.Prelude.{◌≡◌, ◌≢◌, ◌↔◌, ℕ, ◌+◌, ◌*◌, ◌^◌, ◌<◌, ◌≤◌, ◌++◌, IfSome, IsSome, List, MatchOption, OnErr, OnOk, [], ◌∷◌, drop, false, length, replicate, reverse, slice_index_or, take, true};
-ghost use Rattle.pef_cert.specs.Kept.RowsKept.{AllAtMost, EndsWith, PlaceOf, SwapsRows, rows_left, values_reversed};
+ghost use Rattle.std.specs.Prelude.{◌≡◌, ◌≢◌, ◌↔◌, ℕ, ◌+◌, ◌*◌, ◌^◌, ◌<◌, ◌≤◌, ◌++◌, IfSome, IsSome, List, MatchOption, OnErr, OnOk, [], ◌∷◌, drop, false, length, replicate, slice_index_or, take, true};
+ghost use Rattle.pef_cert.specs.Kept.RowsKept.{EndsWith, PlaceOf};
 ghost use Rattle.pef_cert.specs.Fixups.Answers.{Says};
 ghost use Rattle.pef_cert.specs.Rising.{above_all};
 ghost use Rattle.pef_cert.specs.Rows.{NeighboursDiffer, RowsFull, rows_from};
@@ -147,8 +147,7 @@ impl LabelRows {
         }
     }
 
-    /// Returns the row at an index. For the last row this takes constant time; for another, steps by the
-    /// logarithm of the number of kept rows.
+    /// Returns the row at an index. This takes steps by the logarithm of the number of kept rows.
     #[inline(always)]
     pub fn row(&self, index: usize) -> &[u32]
         requires { index < length self.now.rows }
@@ -156,32 +155,7 @@ impl LabelRows {
         ensures wide { length result.now ≡ self.now.width }
     {
         let kept = self.kept();
-        let newest = self.rows() - 1;
-        let place = if index == newest {
-            kept.ends.len() - 1
-        } else {
-            kept.place_of(index)
-        };
-        kept.row(place)
-    }
-
-    /// Returns the same rows, the last first. It allocates nothing.
-    pub fn reversed(self) -> LabelRows
-        ensures { result ≡ record { width = self.width; rows = reverse self.rows } }
-    {
-        let total = self.rows();
-        let LabelRows {
-            width,
-            mut ends,
-            mut values,
-        } = self;
-        reverse_rows(&mut values, width, ends.len());
-        reverse_ends(&mut ends, total);
-        LabelRows {
-            width,
-            ends,
-            values,
-        }
+        kept.row(kept.place_of(index))
     }
 
     /// Returns the rows in their kept form, in which no two neighbours are equal.
@@ -231,46 +205,6 @@ fn end_with(ends: &[usize], values: &[u32], row: &[u32]) -> bool
     ensures no { result ≡ false → 0 < length ends.now → (front : List ℕ) → values.now ≢ front ++ row.now }
 {
     !ends.is_empty() && values.ends_with(row)
-}
-
-/// Reverses the order of this many kept rows.
-fn reverse_rows(values: &mut [u32], width: usize, count: usize)
-    requires { length values.old ≡ width * count }
-    ensures { values.new ≡ values_reversed width count values.old }
-{
-    let mut low = 0;
-    let mut high = values.len();
-    let mut left = count;
-    'rows: while left >= 2 {
-        high -= width;
-        swap_rows(values, width, low, high);
-        low += width;
-        left -= 2;
-    }
-}
-
-/// Swaps the rows that begin at `low` and at `high`.
-fn swap_rows(values: &mut [u32], width: usize, low: usize, high: usize)
-    requires apart { low + width ≤ high }
-    requires inside { high + width ≤ length values.old }
-    ensures { SwapsRows width low high values.old values.new }
-{
-    let (front, back) = values.split_at_mut(high);
-    front[low..low + width].swap_with_slice(&mut back[..width]);
-}
-
-/// Makes the ends of kept rows those of the same rows in reverse order. There are `total` rows.
-fn reverse_ends(ends: &mut [usize], total: usize)
-    requires { AllAtMost total ends.old }
-    ensures { ends.new ≡ reverse (rows_left total 0 ends.old) }
-{
-    let mut before = 0;
-    for place in 0..ends.len() {
-        let end = ends[place];
-        ends[place] = total - before;
-        before = end;
-    }
-    ends.reverse();
 }
 
 /// Returns whether these ends and values are the kept form of rows.
