@@ -1,7 +1,7 @@
 /*
- * Tests the structs of pef.h: where each field lies, and what it holds. Sizes and offsets are written here by hand, for
- * pointers of eight bytes. The fields are read from real containers. Each has a value that no other field of its struct has,
- * so two fields that are exchanged show. What differs is printed, a line each, and the status is then 1.
+ * Tests the structs and the numbers of pef.h: where each field lies, and what it holds. Sizes, offsets and the numbers that have names
+ * are written here by hand, for pointers of eight bytes. The fields are read from real containers. Each has a value that no other field
+ * of its struct has, so two fields that are exchanged show. What differs is printed, a line each, and the status is then 1.
  */
 #include "../../include/pef.h"
 
@@ -72,6 +72,24 @@ static const struct number places[] = {
     AT(pef_member, stack_size, 88), AT(pef_member, offset, 92), AT(pef_member, length, 96), AT(pef_member, space_id, 100),
     AT(pef_member, directory_or_flags, 104), AT(pef_member, fork_instance, 106), AT(pef_member, extension_count, 108),
     AT(pef_member, size, 110), AT(pef_member, update_level, 112), AT(pef_member, usage, 113), AT(pef_member, locator, 114),
+};
+
+#define IS(name, wanted) {#name, (uint64_t)(name), (uint64_t)(wanted)}
+
+/* Numbers by whose names calls.c, listing.c, preparing.c and mac_calls.c compare. */
+static const struct number constants[] = {
+    IS(PEF_OK, 0), IS(PEF_TOO_SHORT, 1), IS(PEF_BAD_TAG, 2), IS(PEF_BAD_SECTION_KIND, 7), IS(PEF_PACKED_BAD_OPCODE, 22),
+    IS(PEF_SCRIPT_BAD_LINE, 41), IS(PEF_SCRIPT_OVERLAP, 46), IS(PEF_LIBRARY_MISSING, 61), IS(PEF_SYMBOL_MISSING, 62),
+    IS(PEF_NO_ROOM, 67), IS(PEF_BAD_CONNECTION, 68), IS(PEF_TOO_MANY_CONNECTIONS, 69), IS(PEF_TOO_MANY_STEPS_IN_ALL, 70),
+    IS(PEF_TOO_MANY_BYTES, 75), IS(PEF_NO_CONTAINER, 80), IS(PEF_APPLE_HEADER_CUT, 82), IS(PEF_RESOURCE_MAP_OUTSIDE, 87),
+    IS(PEF_FRAGMENT_TABLE_CUT, 94), IS(PEF_FRAGMENT_OUTSIDE, 98), IS(PEF_OUT_OF_MEMORY, 99), IS(PEF_NOTE_RESERVED_NOT_ZERO, 101),
+    IS(PEF_NOTE_TRAILING_BYTES, 109), IS(PEF_NOTE_WORD_RELOCATED_TWICE, 114), IS(PEF_ROOM_TOO_SMALL, 200), IS(PEF_NOT_THERE, 201),
+    IS(PEF_NOT_OPEN, 202), IS(PEF_ADDED_TOO_LATE, 203), IS(PEF_BAD_GRANULE, 205), IS(PEF_BAD_OPTIONS, 206),
+    IS(PEF_KIND_CODE, 0), IS(PEF_KIND_DATA, 1), IS(PEF_KIND_PACKED, 2), IS(PEF_KIND_LOADER, 4), IS(PEF_SHARE_GLOBAL, 4),
+    IS(PEF_SHARE_PROTECTED, 5), IS(PEF_CLASS_TVECTOR, 2), IS(PEF_CLASS_TOC, 3), IS(PEF_CLASS_GLUE, 4), IS(PEF_ABSOLUTE, -2),
+    IS(PEF_REEXPORT, -3), IS(PEF_LIBRARY_INIT_BEFORE, 0x80), IS(PEF_FIXUP_SECTION, 1), IS(PEF_NOWHERE, 0), IS(PEF_SECTION_PART, 2),
+    IS(PEF_LIBRARY_PART, 4), IS(PEF_LINE_PART, 13), IS(PEF_NO_OFFSET, UINT64_MAX), IS(PEF_FILE_OTHER, 0), IS(PEF_FILE_MAC_BINARY, 2),
+    IS(PEF_FRAGMENT_TABLE_TYPE, 0x63667267), IS(PEF_TARGET_MISSING, 0), IS(PEF_TARGET_ABSOLUTE, 1), IS(PEF_TARGET_IN_SECTION, 2),
 };
 
 static size_t compared, different;
@@ -202,7 +220,7 @@ static void test_section(void)
 
 static void test_loader(void)
 {
-    struct pef_loader it = {0};
+    struct pef_loader it = {.term_section = 7};
     uint32_t answer = pef_loader(container, LENGTH, &it);
     const struct number numbers[] = {
         {"pef_loader", answer, PEF_OK},
@@ -227,6 +245,7 @@ static void test_library(void)
     uint32_t answer = pef_libraries(container, LENGTH, 2, &it, 1, &count);
     const struct number numbers[] = {
         {"pef_libraries", answer, PEF_OK},
+        {"the count of libraries", count, 1},
         {"pef_library.name", is_named(it.name, "Other"), true},
         {"pef_library.current_version", it.current_version, 31},
         {"pef_library.old_imp_version", it.old_imp_version, 32},
@@ -244,6 +263,7 @@ static void test_imports(void)
     uint32_t answer = pef_imports(container, LENGTH, 3, it, 2, &count);
     const struct number numbers[] = {
         {"pef_imports", answer, PEF_OK},
+        {"the count of imports", count, 2},
         {"pef_import.name", is_named(it[0].name, "two"), true},
         {"pef_import.library", it[0].library, 2},
         {"pef_import.symbol_class", it[0].symbol_class, PEF_CLASS_GLUE},
@@ -261,25 +281,57 @@ static void test_relocation(void)
     uint32_t answer = pef_relocations(container, LENGTH, 0, &it, 1, &count);
     const struct number numbers[] = {
         {"pef_relocations", answer, PEF_OK},
+        {"the count of relocation headers", count, 1},
         {"pef_relocation.instructions", has(it.instructions, "\x00\x41", 2), true},
         {"pef_relocation.section", it.section, 3},
     };
     COMPARE(numbers);
 }
 
+/* The one addition of the relocation header, and none of a header that doesn't exist. */
+static void test_fixups(void)
+{
+    struct pef_fixup it[] = {{7, 7, 7}, {7, 7, 7}};
+    size_t count = 7;
+    uint32_t missing = pef_fixups(container, LENGTH, 1, 0, it, 2, &count);
+    size_t unchanged = count;
+    uint32_t answer = pef_fixups(container, LENGTH, 0, 0, it, 2, &count);
+    const struct number numbers[] = {
+        {"pef_fixups, of no header", missing, PEF_NOT_THERE},
+        {"the count of additions, of no header", unchanged, 7},
+        {"pef_fixups", answer, PEF_OK},
+        {"the count of additions", count, 1},
+        {"pef_fixup.offset", it[0].offset, 4},
+        {"pef_fixup.number", it[0].number, 1},
+        {"pef_fixup.kind", it[0].kind, PEF_FIXUP_SECTION},
+        {"pef_fixup.offset, of the next place", it[1].offset, 7},
+        {"pef_fixup.number, of the next place", it[1].number, 7},
+        {"pef_fixup.kind, of the next place", it[1].kind, 7},
+    };
+    COMPARE(numbers);
+}
+
+/* An import that is passed on, an export in a section, and a number. */
 static void test_exports(void)
 {
-    struct pef_export it[] = {{.name = PEF_NO_BYTES}, {.name = PEF_NO_BYTES}};
+    struct pef_export it[] = {{.name = PEF_NO_BYTES}, {.name = PEF_NO_BYTES}, {.name = PEF_NO_BYTES}};
     size_t count = 0;
-    uint32_t answer = pef_exports(container, LENGTH, 3, it, 2, &count);
+    uint32_t answer = pef_exports(container, LENGTH, 2, it, 3, &count);
     const struct number numbers[] = {
         {"pef_exports", answer, PEF_OK},
-        {"pef_export.name", is_named(it[0].name, "four"), true},
-        {"pef_export.section", it[0].section, 4},
-        {"pef_export.value", it[0].value, 20},
-        {"pef_export.symbol_class", it[0].symbol_class, PEF_CLASS_TOC},
-        {"pef_export.section, of the next", it[1].section == PEF_ABSOLUTE, true},
-        {"pef_export.value, of the next", it[1].value, 0x89ABCDEF},
+        {"the count of exports", count, 3},
+        {"pef_export.name, of the import", is_named(it[0].name, "three"), true},
+        {"pef_export.section, of the import", it[0].section == PEF_REEXPORT, true},
+        {"pef_export.value, of the import", it[0].value, 3},
+        {"pef_export.symbol_class, of the import", it[0].symbol_class, PEF_CLASS_GLUE},
+        {"pef_export.name", is_named(it[1].name, "four"), true},
+        {"pef_export.section", it[1].section, 4},
+        {"pef_export.value", it[1].value, 20},
+        {"pef_export.symbol_class", it[1].symbol_class, PEF_CLASS_TOC},
+        {"pef_export.name, of the number", is_named(it[2].name, "five"), true},
+        {"pef_export.section, of the number", it[2].section == PEF_ABSOLUTE, true},
+        {"pef_export.value, of the number", it[2].value, 0x89ABCDEF},
+        {"pef_export.symbol_class, of the number", it[2].symbol_class, PEF_CLASS_TVECTOR},
     };
     COMPARE(numbers);
 }
@@ -358,7 +410,7 @@ static void test_listing(void)
 static void test_entries_of(const char *text, uint32_t main, uint32_t init, uint32_t term)
 {
     struct pef_context context = {0};
-    struct pef_entries it = {0};
+    struct pef_entries it = {7, 7, 7, init == 0, main == 0, term == 0};
     uint32_t prepared = prepare_script(&context, text);
     uint32_t answer = pef_fragment_entries(&context, 0, 0, &it);
     pef_free(&context);
@@ -437,6 +489,7 @@ static void test_names(void)
 int main(void)
 {
     COMPARE(places);
+    COMPARE(constants);
     link_script();
     test_header();
     test_place();
@@ -445,6 +498,7 @@ int main(void)
     test_library();
     test_imports();
     test_relocation();
+    test_fixups();
     test_exports();
     test_fragment_section();
     test_listing();

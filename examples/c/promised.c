@@ -1,7 +1,8 @@
 /*
  * What callers do all the same, and what pef.h promises: slices of no bytes that are null, structs that come as zero bytes or
  * with any bytes, pef_free() of NULL and of a context that isn't open, and names and containers that go after pef_free().
- * With --memory it opens, fills and frees a context 100,000 times instead, and the process may not grow.
+ * With --memory it opens, fills and frees a context 100,000 times instead, and the process may not grow; and it frees contexts that have a
+ * megabyte, contexts that have nothing, and contexts by opening them again.
  */
 #include "file.h"
 
@@ -271,26 +272,61 @@ static void open_once(void)
     free(bytes);
 }
 
-/* How many bytes of memory the process has. */
-static long resident(void)
+/* How many bytes of addresses the process has, or how many of memory. */
+enum measure { ADDRESSED, RESIDENT };
+static long measure(enum measure which)
 {
-    long pages = 0;
+    long pages[2] = {0};
     FILE *file = fopen("/proc/self/statm", "r");
-    if (file == NULL || fscanf(file, "%*d %ld", &pages) != 1)
+    if (file == NULL || fscanf(file, "%ld %ld", &pages[ADDRESSED], &pages[RESIDENT]) != 2)
         exit(2);
     fclose(file);
-    return pages * sysconf(_SC_PAGESIZE);
+    return pages[which] * sysconf(_SC_PAGESIZE);
+}
+
+/* Opens a context, which may be open, and prepares a fragment in it. */
+static void open_large(struct pef_context *context, const uint8_t *bytes, size_t length)
+{
+    struct pef_names names;
+    uint32_t connection = 7;
+    expect(pef_open(context, 0x10000000) == PEF_OK && pef_add(context, (const uint8_t *)"A", 1, bytes, length) == PEF_OK, "a large context");
+    expect(pef_prepare(context, (const uint8_t *)"A", 1, &connection, &names) == PEF_OK, "a section of a megabyte");
+}
+
+/* If one of these freed nothing, the process would have 100 megabytes more. */
+static void test_large(void)
+{
+    static const char large[] = "section d data process 4 1048576\n";
+    struct pef_context context = PEF_NO_CONTEXT;
+    uint8_t bytes[512];
+    size_t length = 0, line = 0;
+    expect(pef_link((const uint8_t *)large, strlen(large), bytes, sizeof bytes, &length, &line) == PEF_OK, "the script of a megabyte");
+    long before = measure(ADDRESSED);
+    for (int i = 0; i < 200; i++) {
+        open_large(&context, bytes, length);
+        pef_free(&context);
+    }
+    for (int i = 0; i < 200; i++)
+        open_large(&context, bytes, length);
+    for (int i = 0; i < 1000000 && failures == 0; i++) {
+        expect(pef_open(&context, 0x10000000) == PEF_OK, "pef_open");
+        pef_free(&context);
+    }
+    long grown = measure(ADDRESSED) - before;
+    if (grown >= 16384 * 4096L)
+        fprintf(stderr, "promised: %ld bytes more\n", grown);
+    expect(grown < 16384 * 4096L, "large contexts, or many, keep memory");
 }
 
 static void test_memory(void)
 {
     for (int i = 0; i < 1000; i++)  // the heap has found its size
         open_once();
-    resident();
-    long before = resident();
+    measure(RESIDENT);
+    long before = measure(RESIDENT);
     for (int i = 0; i < 100000 && failures == 0; i++)
         open_once();
-    long grown = resident() - before;
+    long grown = measure(RESIDENT) - before;
     if (grown > 131072)
         fprintf(stderr, "promised: %ld bytes more\n", grown);
     expect(grown <= 131072, "100,000 contexts take more memory than one");
@@ -301,6 +337,7 @@ int main(int count, char **words)
     link_script();
     if (count == 2 && strcmp(words[1], "--memory") == 0) {
         test_memory();
+        test_large();
     } else {
         test_null_slices();
         test_null_fragment();

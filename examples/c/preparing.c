@@ -1,0 +1,380 @@
+/*
+ * Prepares fragments whose scripts are here, and compares what a context says of them with what is written by hand: sections, memory,
+ * entry points, imports and exports; what is new, present and released; addresses out of use; options; and refusals with their names.
+ * What differs is printed, a line each, and the status is then 1.
+ */
+#include "expect.h"
+
+/* A fragment that imports the address of a word of a library, and is initialized after it. */
+static const char user[] =
+    "library L 1 0 before\n"
+    "import v data strong\n"
+    "section a data global 4 8\n"
+    "fix a 0 import v\n"
+    "export own data a 4\n"
+    "main a 4\n";
+
+static const char library[] =
+    "versions 1 0 0\n"
+    "section l data process 4 4\n"
+    "bytes l 0000002A\n"
+    "export v data l 0\n";
+
+static const uint32_t limit = 0x10000000;
+
+static void add(struct pef_context *context, const char *name, const char *script)
+{
+    struct pef_bytes container = linked(script);
+    EXPECT(pef_add(context, TEXT(name), BYTES(container)) == PEF_OK);
+}
+
+/* Opens a context over the fragment, and over its library if that is wanted. */
+static void open_user(struct pef_context *context, bool with_library)
+{
+    EXPECT(pef_open(context, limit) == PEF_OK);
+    add(context, "A", user);
+    if (with_library)
+        add(context, "L", library);
+}
+
+/* Prepares a fragment, whose connection has this number. */
+static void prepare(struct pef_context *context, const char *name, uint32_t wanted)
+{
+    struct pef_names names = PEF_NO_NAMES;
+    uint32_t connection = 7;
+    EXPECT(pef_prepare(context, TEXT(name), &connection, &names) == PEF_OK && connection == wanted);
+}
+
+static bool are_three(const size_t *places, size_t first, size_t second, size_t third)
+{
+    return places[0] == first && places[1] == second && places[2] == third;
+}
+
+/* The fragments of the connection, and their names. */
+static void expect_fragments(struct pef_context *context)
+{
+    size_t places[3] = {7, 7, 7}, one[1] = {7}, count = 7;
+    struct pef_bytes name = PEF_NO_BYTES;
+    EXPECT(pef_fragments(context, 0, places, 3, &count) == PEF_OK);
+    EXPECT(are_three(places, 1, 0, 7) && count == 2);
+    EXPECT(pef_init_order(context, 0, places, 3, &count) == PEF_OK);
+    EXPECT(are_three(places, 1, 0, 7) && count == 2);
+    EXPECT(pef_fragments(context, 0, one, 1, &count) == PEF_ROOM_TOO_SMALL);
+    EXPECT(one[0] == 7 && count == 2);
+    EXPECT(pef_fragment_name(context, 1, &name) == PEF_OK && is_named(name, "L"));
+    EXPECT(pef_fragment_name(context, 2, &name) == PEF_NOT_THERE);
+}
+
+/* What the fragment has in memory: its word is the library's address. */
+static void expect_memory(struct pef_context *context)
+{
+    struct pef_fragment_section section = {7, 7, 7, 7};
+    uint8_t buffer[9] = {7, 7, 7, 7, 7, 7, 7, 7, 7};
+    size_t count = 7;
+    EXPECT(pef_fragment_sections(context, 0, &count) == PEF_OK && count == 1);
+    EXPECT(pef_fragment_section(context, 0, 0, 0, &section) == PEF_OK);
+    EXPECT(section.address == 0x00010010 && section.size == 8);
+    EXPECT(section.kind == PEF_KIND_DATA && section.share == PEF_SHARE_GLOBAL);
+    EXPECT(pef_fragment_section(context, 0, 0, 1, &section) == PEF_NOT_THERE);
+    EXPECT(pef_fragment_bytes(context, 0, 0, buffer, 9, &count) == PEF_OK && count == 8);
+    EXPECT(memcmp(buffer, "\x00\x01\x00\x00\x00\x00\x00\x00\x07", 9) == 0);
+}
+
+/* The fragment's entry points and the exports. */
+static void expect_addresses(struct pef_context *context)
+{
+    struct pef_entries entries = {7, 7, 7, true, false, true};
+    uint32_t address = 7;
+    EXPECT(pef_fragment_entries(context, 0, 0, &entries) == PEF_OK);
+    EXPECT(entries.has_main && entries.main == 0x00010014);
+    EXPECT(!entries.has_init && entries.init == 0 && !entries.has_term && entries.term == 0);
+    EXPECT(pef_fragment_symbol(context, 0, 1, TEXT("v"), &address) == PEF_OK && address == 0x00010000);
+    EXPECT(pef_fragment_symbol(context, 0, 0, TEXT("v"), &address) == PEF_NOT_THERE && address == 0x00010000);
+}
+
+/* A fragment and its library are prepared, read, and closed. */
+static void test_prepared(void)
+{
+    struct pef_context context = PEF_NO_CONTEXT;
+    size_t count = 7;
+    open_user(&context, true);
+    prepare(&context, "A", 0);
+    expect_fragments(&context);
+    expect_memory(&context);
+    expect_addresses(&context);
+    EXPECT(pef_add(&context, TEXT("B"), TEXT("")) == PEF_OK);
+    EXPECT(pef_close(&context, 0) == PEF_OK);
+    EXPECT(pef_close(&context, 0) == PEF_BAD_CONNECTION);
+    EXPECT(pef_fragment_sections(&context, 0, &count) == PEF_OK && count == 0);
+    pef_free(&context);
+}
+
+/* The second connection places what the first one lacks, and closing it releases that alone. */
+static void test_new_and_released(void)
+{
+    struct pef_context context = PEF_NO_CONTEXT;
+    size_t places[3] = {7, 7, 7}, count = 7;
+    open_user(&context, true);
+    prepare(&context, "L", 0);
+    prepare(&context, "A", 1);
+    EXPECT(pef_new_fragments(&context, 0, places, 3, &count) == PEF_OK);
+    EXPECT(are_three(places, 1, 7, 7) && count == 1);
+    EXPECT(pef_new_fragments(&context, 1, places, 3, &count) == PEF_OK);
+    EXPECT(are_three(places, 0, 7, 7) && count == 1);
+    EXPECT(pef_new_fragments(&context, 2, places, 3, &count) == PEF_NOT_THERE);
+    EXPECT(pef_released_by(&context, 0, places, 3, &count) == PEF_OK);
+    EXPECT(are_three(places, 0, 7, 7) && count == 0);
+    EXPECT(pef_close(&context, 0) == PEF_OK);
+    EXPECT(pef_released_by(&context, 0, places, 3, &count) == PEF_NOT_THERE);
+    EXPECT(pef_released_by(&context, 1, NULL, 0, &count) == PEF_ROOM_TOO_SMALL && count == 2);
+    EXPECT(pef_released_by(&context, 1, places, 3, &count) == PEF_OK);
+    EXPECT(are_three(places, 0, 1, 7) && count == 2);
+    pef_free(&context);
+    EXPECT(pef_released_by(&context, 1, places, 3, &count) == PEF_NOT_OPEN);
+    EXPECT(pef_new_fragments(&context, 1, places, 3, &count) == PEF_NOT_OPEN);
+    EXPECT(are_three(places, 0, 1, 7) && count == 2);
+}
+
+static bool has_presence(struct pef_context *context, const char *name, bool wanted)
+{
+    bool is_present = !wanted;
+    return pef_is_present(context, TEXT(name), &is_present) == PEF_OK && is_present == wanted;
+}
+
+/* The library is present until no connection needs it. A name that was not added is never that of a fragment. */
+static void test_present(void)
+{
+    struct pef_context context = PEF_NO_CONTEXT;
+    bool is_present = true;
+    open_user(&context, true);
+    EXPECT(has_presence(&context, "L", false));
+    prepare(&context, "A", 0);
+    prepare(&context, "L", 1);
+    EXPECT(has_presence(&context, "A", true));
+    EXPECT(pef_close(&context, 0) == PEF_OK);
+    EXPECT(has_presence(&context, "A", false));
+    EXPECT(has_presence(&context, "L", true));
+    EXPECT(has_presence(&context, "M", false));
+    EXPECT(has_presence(&context, "", false));
+    EXPECT(pef_close(&context, 1) == PEF_OK);
+    EXPECT(has_presence(&context, "L", false));
+    pef_free(&context);
+    EXPECT(pef_is_present(&context, TEXT("L"), &is_present) == PEF_NOT_OPEN && is_present);
+}
+
+/* Sections are placed around a range, and no range meets a section or another range. */
+static void test_reserved(void)
+{
+    struct pef_context context = PEF_NO_CONTEXT;
+    uint32_t address = 7;
+    open_user(&context, true);
+    EXPECT(pef_reserve(&context, 0x00010001, 15) == PEF_OK);
+    EXPECT(pef_reserve(&context, 0x0001000F, 1) == PEF_NO_ROOM);
+    EXPECT(pef_reserve(&context, 0x0001000F, 0) == PEF_OK);
+    EXPECT(pef_reserve(&context, 0xFFFFFFF0, 17) == PEF_NO_ROOM);
+    prepare(&context, "L", 0);
+    EXPECT(pef_export_address(&context, 0, 1, 0, &address) == PEF_OK && address == 0x00010010);
+    EXPECT(pef_reserve(&context, 0x0001001F, 1) == PEF_NO_ROOM);
+    pef_free(&context);
+    EXPECT(pef_reserve(&context, 0, 1) == PEF_NOT_OPEN);
+}
+
+/* Three imports of a library: a place, a number, and a weak one that it lacks. */
+static const char importing[] =
+    "library N 1 0 -\n"
+    "import v data strong\n"
+    "import n data strong\n"
+    "import x data weak\n"
+    "section a data process 4 4\n";
+
+static const char exporting[] =
+    "versions 1 0 0\n"
+    "section k const process 2 4\n"
+    "section l data process 4 8\n"
+    "export v data l 4\n"
+    "absolute n data 0x89ABCDEF\n";
+
+static bool is_target(struct pef_target found, struct pef_target wanted)
+{
+    return found.kind == wanted.kind && found.fragment == wanted.fragment && found.section == wanted.section
+        && found.offset == wanted.offset && found.address == wanted.address;
+}
+
+/* The library is fragment 1. Its second section is after the four bytes of the first, at the next multiple of 16. */
+static void test_meanings(void)
+{
+    static const struct pef_target unread = {7, 7, 7, 7, 7};
+    static const struct pef_target wanted[] = {
+        {PEF_TARGET_IN_SECTION, 1, 1, 4, 0x00010014},
+        {PEF_TARGET_ABSOLUTE, 0, 0, 0, 0x89ABCDEF},
+        {PEF_TARGET_MISSING, 0, 0, 0, 0},
+    };
+    struct pef_context context = PEF_NO_CONTEXT;
+    struct pef_target target;
+    uint32_t address = 7;
+    EXPECT(pef_open(&context, limit) == PEF_OK);
+    add(&context, "A", importing);
+    add(&context, "N", exporting);
+    prepare(&context, "A", 0);
+    for (size_t i = 0; i < 3; i++) {
+        target = unread;
+        EXPECT(pef_import_target(&context, 0, 0, i, &target) == PEF_OK && is_target(target, wanted[i]));
+    }
+    target = unread;
+    EXPECT(pef_import_target(&context, 0, 0, 3, &target) == PEF_NOT_THERE);
+    EXPECT(pef_import_target(&context, 0, 1, 0, &target) == PEF_NOT_THERE);
+    EXPECT(pef_import_target(&context, 1, 0, 0, &target) == PEF_NOT_THERE);
+    EXPECT(is_target(target, unread));
+    EXPECT(pef_export_address(&context, 0, 1, 2, &address) == PEF_NOT_THERE);
+    EXPECT(pef_export_address(&context, 0, 0, 0, &address) == PEF_NOT_THERE);
+    EXPECT(address == 7);
+    pef_free(&context);
+    EXPECT(pef_import_target(&context, 0, 0, 0, &target) == PEF_NOT_OPEN);
+    EXPECT(pef_export_address(&context, 0, 1, 0, &address) == PEF_NOT_OPEN);
+}
+
+/* A library isn't added while a connection is open that was prepared without it. */
+static void test_added_too_late(void)
+{
+    static const char weak[] = "library M 1 0 weak\nimport m data strong\nsection w data process 4 4\nfix w 0 import m\n";
+    struct pef_context context = PEF_NO_CONTEXT;
+    EXPECT(pef_open(&context, limit) == PEF_OK);
+    add(&context, "W", weak);
+    prepare(&context, "W", 0);
+    EXPECT(pef_add(&context, TEXT("M"), TEXT("")) == PEF_ADDED_TOO_LATE);
+    EXPECT(pef_close(&context, 0) == PEF_OK);
+    EXPECT(pef_add(&context, TEXT("M"), TEXT("")) == PEF_OK);
+    pef_free(&context);
+}
+
+/* A refusal is reported with its names. A context that isn't open is reported, also after it was freed twice. */
+static void test_refused(void)
+{
+    struct pef_context context = PEF_NO_CONTEXT;
+    struct pef_names names = PEF_NO_NAMES;
+    uint32_t connection = 7, address = 7;
+    open_user(&context, false);
+    EXPECT(pef_prepare(&context, TEXT("A"), &connection, &names) == PEF_LIBRARY_MISSING && connection == 7);
+    EXPECT(is_named(names.fragment, "A") && is_named(names.library, "L") && is_named(names.symbol, ""));
+    pef_free(&context);
+    pef_free(&context);
+    EXPECT(pef_prepare(&context, TEXT("A"), &connection, &names) == PEF_NOT_OPEN && connection == 7);
+    EXPECT(pef_add(&context, TEXT("A"), TEXT("")) == PEF_NOT_OPEN);
+    EXPECT(pef_fragment_symbol(&context, 0, 0, TEXT("v"), &address) == PEF_NOT_OPEN && address == 7);
+}
+
+/* A symbol that a library lacks is reported with all three names. */
+static void test_symbol_missing(void)
+{
+    struct pef_context context = PEF_NO_CONTEXT;
+    struct pef_names names = PEF_NO_NAMES;
+    uint32_t connection = 7;
+    EXPECT(pef_open(&context, limit) == PEF_OK);
+    add(&context, "A", "library L 1 0 -\nimport w data strong\n");
+    add(&context, "L", library);
+    EXPECT(pef_prepare(&context, TEXT("A"), &connection, &names) == PEF_SYMBOL_MISSING && connection == 7);
+    EXPECT(is_named(names.fragment, "A") && is_named(names.library, "L") && is_named(names.symbol, "w"));
+    pef_free(&context);
+}
+
+/* Two sections, which take 32 and 16 bytes, and one step of relocation each. */
+static const char two[] =
+    "versions 1 0 0\n"
+    "section a data process 4 17\n"
+    "section b data process 4 4\n"
+    "fix a 0 section a\n"
+    "fix b 0 section a\n";
+
+/* Options, the answer when a context is opened with them, then that to the preparation of the two sections, and the address of the
+ * second. */
+struct opening {
+    struct pef_options options;
+    uint32_t opened, prepared, address;
+};
+
+static const struct opening openings[] = {
+    {{.size = 32}, PEF_OK, PEF_OK, 0x00010020},
+    {{.size = 31}, PEF_BAD_OPTIONS, 0, 0},
+    {{.size = 33, .granule = 8}, PEF_BAD_OPTIONS, 0, 0},
+    {{.size = 32, .granule = 8}, PEF_BAD_GRANULE, 0, 0},
+    {{.size = 32, .granule = 48}, PEF_BAD_GRANULE, 0, 0},
+    {{.size = 32, .granule = 16}, PEF_OK, PEF_OK, 0x00010020},
+    {{.size = 32, .granule = 4096}, PEF_OK, PEF_OK, 0x00011000},
+    {{.size = 32, .limit = 0x00010030}, PEF_OK, PEF_OK, 0x00010020},
+    {{.size = 32, .limit = 0x0001002F}, PEF_OK, PEF_NO_ROOM, 0},
+    {{.size = 32, .steps = 2}, PEF_OK, PEF_OK, 0x00010020},
+    {{.size = 32, .steps = 1}, PEF_OK, PEF_TOO_MANY_STEPS_IN_ALL, 0},
+    {{.size = 32, .bytes = 48}, PEF_OK, PEF_OK, 0x00010020},
+    {{.size = 32, .bytes = 47, .steps = 1}, PEF_OK, PEF_TOO_MANY_BYTES, 0},
+    {{.size = 32, .granule = 4096, .bytes = 8191}, PEF_OK, PEF_TOO_MANY_BYTES, 0},
+};
+
+/* Prepares the fragment `A`, and returns the answer. A refusal about the fragment names it. */
+static uint32_t prepare_two(struct pef_context *context)
+{
+    struct pef_names names = PEF_NO_NAMES;
+    uint32_t connection = 7, answer = pef_prepare(context, TEXT("A"), &connection, &names);
+    EXPECT(answer == PEF_OK || answer == PEF_TOO_MANY_CONNECTIONS || is_named(names.fragment, "A"));
+    return answer;
+}
+
+/* Opens a context, and prepares the two sections in it if that is possible. Returns whether all is as the row says. */
+static bool is_opened(const struct opening *row, struct pef_bytes container)
+{
+    struct pef_context context = PEF_NO_CONTEXT;
+    struct pef_fragment_section section = {0, 0, 0, 0};
+    bool same = pef_open_with(&context, &row->options) == row->opened;
+    uint32_t added = pef_add(&context, TEXT("A"), BYTES(container));
+    if (row->opened != PEF_OK)
+        return same && added == PEF_NOT_OPEN;
+    same = same && added == PEF_OK && prepare_two(&context) == row->prepared;
+    if (row->prepared == PEF_OK)
+        same = same && pef_fragment_section(&context, 0, 0, 1, &section) == PEF_OK && section.address == row->address;
+    pef_free(&context);
+    return same;
+}
+
+static void test_options(void)
+{
+    struct pef_bytes container = linked(two);
+    for (size_t i = 0; i < sizeof openings / sizeof openings[0]; i++) {
+        bool same = is_opened(&openings[i], container);
+        EXPECT(same);
+        if (!same)
+            fprintf(stderr, "in row %zu of the options\n", i);
+    }
+}
+
+/* A context gives as many connections as was asked for, and refused options leave it open. */
+static void test_two_connections(void)
+{
+    struct pef_context context = PEF_NO_CONTEXT;
+    struct pef_options options = PEF_USUAL_OPTIONS, refused = PEF_USUAL_OPTIONS;
+    options.connections = 2;
+    refused.granule = 1;
+    EXPECT(pef_open_with(&context, &options) == PEF_OK);
+    add(&context, "A", two);
+    EXPECT(prepare_two(&context) == PEF_OK);
+    EXPECT(pef_close(&context, 0) == PEF_OK);
+    EXPECT(pef_open_with(&context, &refused) == PEF_BAD_GRANULE);
+    EXPECT(prepare_two(&context) == PEF_OK);
+    EXPECT(prepare_two(&context) == PEF_TOO_MANY_CONNECTIONS);
+    pef_free(&context);
+}
+
+int main(void)
+{
+    test_prepared();
+    test_new_and_released();
+    test_present();
+    test_reserved();
+    test_meanings();
+    test_added_too_late();
+    test_refused();
+    test_symbol_missing();
+    test_options();
+    test_two_connections();
+    EXPECT(pef_version() == 0x00000100 && PEF_VERSION_NUMBER == 0x00000100);
+    printf("%zu failures\n", failures);
+    return failures == 0 ? 0 : 1;
+}
