@@ -8,48 +8,30 @@ mod answers;
 mod connections;
 mod container;
 mod context;
-#[cfg(test)]
-mod context_tests;
 mod expand;
 mod findings;
-#[cfg(test)]
-mod findings_tests;
 mod fixups;
 mod fragments;
 mod handle;
-#[cfg(test)]
-mod large_tests;
 mod link;
 mod list;
 mod list_handle;
-#[cfg(test)]
-mod list_tests;
 mod loader;
 mod log;
 mod loose;
 mod mac_errors;
 mod mac_file;
 mod mac_structs;
-#[cfg(test)]
-mod mac_tests;
 mod members;
 mod names;
 mod options;
-#[cfg(test)]
-mod options_tests;
 mod partial;
 mod partial_rows;
 mod place;
-#[cfg(test)]
-mod place_tests;
 mod refusal_names;
 mod resources;
 mod rows;
-#[cfg(test)]
-mod struct_tests;
 mod structs;
-#[cfg(test)]
-mod tests;
 mod text;
 mod theorems;
 
