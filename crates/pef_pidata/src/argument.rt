@@ -52,6 +52,7 @@ fn ended(at: usize, value: u64, rest: &[u8]) -> Result<Argument<'_>, PackFault>
 }
 
 /// Reads the count of the instruction at `at`: that in its first byte, or an argument if that is 0.
+#[inline(always)]
 #[tactic(auto, unfolding(crate::specs::Instructions::counted))]
 pub(crate) fn read_count(at: usize, low: u8, packed: &[u8]) -> Result<Argument<'_>, PackFault>
     ensures read { result_map argument_seen result ≡ counted at low packed.now }

@@ -56,6 +56,7 @@ pub(crate) struct Decoded<'a> {
 }
 
 /// Reads the instruction at `at`, of the packed bytes from there on.
+#[inline(always)]
 #[tactic(auto, unfolding(crate::specs::Instructions::next_instruction))]
 pub(crate) fn read_instruction(at: usize, packed: &[u8]) -> Result<Decoded<'_>, PackFault>
     ensures read { result_map instruction_seen result ≡ next_instruction at packed.now }
@@ -67,6 +68,7 @@ pub(crate) fn read_instruction(at: usize, packed: &[u8]) -> Result<Decoded<'_>, 
     }
 }
 
+#[inline(always)]
 #[tactic(auto, unfolding(crate::specs::Instructions::by_opcode))]
 fn read_arguments(at: usize, opcode: u8, low: u8, packed: &[u8]) -> Result<Decoded<'_>, PackFault>
     ensures read { result_map instruction_seen result ≡ by_opcode at opcode low packed.now }

@@ -60,6 +60,9 @@ pub fn verify(packed: &[u8], len: usize) -> Result<(), PackFault>
 }
 
 /// Reads the instruction at `at`, to be written if `room` bytes are left.
+///
+/// Inlining keeps the step in registers: packed bytes have an instruction for every ten of them or so.
+#[inline(always)]
 #[tactic(auto, unfolding(crate::specs::Pattern::next_output))]
 fn next_step(at: usize, packed: &[u8], room: usize) -> Result<Step<'_>, PackFault>
     ensures step { result_map step_seen result ≡ next_output at room packed.now }
