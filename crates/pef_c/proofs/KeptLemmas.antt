@@ -1,5 +1,5 @@
 -- What a sink of findings keeps is known from what it took.
-use Rattle.std.proofs.Common.{◌≡◌, ℕ, zero, suc, Bool, true, false, List, [], ◌∷◌, ◌++◌, length, refl, ap, ap₂, ◌∙◌, arith, append_assoc}
+use Rattle.std.proofs.Common.{◌≡◌, ℕ, Bool, true, false, List, [], ◌∷◌, ◌++◌, length, refl, ap, ap₂, ◌∙◌, arith, append_assoc}
 use Rattle.std.specs.Option.{unwrap_or}
 use Rattle.pef_inspect.specs.declared.finding.Finding.{Finding}
 use Rattle.pef_c.specs.Kept.{flag, kept, numbers, places_kept}

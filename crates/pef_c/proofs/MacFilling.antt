@@ -1,6 +1,6 @@
 -- Rows of an iterator, one after another, and the places that they fill.
 use Rattle.std.proofs.Common.{◌≡◌, ℕ, zero, suc, ◌+◌, ◌-◌, ◌<◌, ◌≤◌, List, [], ◌∷◌, length, drop, slice_set, arith, refl, sym, ap, ◌∙◌, add-one}
-use Rattle.std.specs.Prelude.{Option, Some, map, option_map}
+use Rattle.std.specs.Prelude.{Some, map, option_map}
 use Rattle.std.specs.List.{slice_get}
 use Rattle.pef_c.specs.MacRows.{shown_at}
 use Rattle.pef_c.specs.Rows.{filled, fitting}

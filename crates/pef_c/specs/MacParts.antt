@@ -1,6 +1,6 @@
 -- The parts of a file of the classic Mac OS as C sees them. An error of 0 says that a part is there, and one of 201 that
 -- there is none.
-use Rattle.std.specs.Prelude.{ℕ, ℤ, pos, ◌-◌, ◌^◌, List, [], Option, None, Some, Result, Ok, Err, option_map}
+use Rattle.std.specs.Prelude.{ℕ, pos, List, [], Option, None, Some, Result, Ok, Err}
 use Rattle.std.specs.Option.{unwrap_or}
 use Rattle.mac_forks.specs.Faults.{fault_number, fault_offset}
 use Rattle.mac_forks.specs.MacFile.{MacFileIs, comment_in, fault_in, finder_of_file, name_in}

@@ -1,5 +1,5 @@
 -- What `pef_open_with` returns and changes, and the version of the library.
-use Rattle.std.specs.Prelude.{◌≡◌, ◌==◌, ℕ, List, [], Option, None, Some, Result, Ok, Err, MatchBool, if◌then◌else◌}
+use Rattle.std.specs.Prelude.{◌≡◌, ◌==◌, ℕ, [], Option, None, Some, Result, Ok, Err, MatchBool, if◌then◌else◌}
 use Rattle.cfm_memory.specs.Faults.{granule_fault_number}
 use Rattle.cfm_memory.specs.Granules.{granule_of}
 use Rattle.cfm_memory.specs.Limits.{grain}

@@ -1,8 +1,6 @@
 -- What was taken begins with what is kept.
 use Rattle.pef_inspect.specs.Errors.{errors_of}
 use Rattle.pef_inspect.specs.Oddities.{notes_of}
-use Rattle.pef_c.specs.Kept.{kept}
-use Rattle.std.proofs.Common.{◌++◌}
 use Rattle.pef_c.proofs.KeptLemmas.{took_more}
 use Rattle.pef_c.proofs.findings.Filling.find.Goals as goal
 

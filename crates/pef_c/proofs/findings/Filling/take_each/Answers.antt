@@ -1,5 +1,5 @@
 -- What was taken begins with what is kept.
-use Rattle.std.proofs.Common.{◌≡◌, ◌≤◌, arith, length, take}
+use Rattle.std.proofs.Common.{◌≡◌, arith, take}
 use Rattle.std.proofs.lemmas.List.{take_all}
 use Rattle.pef_c.proofs.KeptLemmas.{took}
 use Rattle.pef_c.proofs.findings.Filling.take_each.Goals as goal
