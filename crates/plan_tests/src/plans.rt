@@ -3,8 +3,8 @@ ghost use Rattle.std.specs.Prelude.{◌≡◌, true};
 ghost use Rattle.pef_reloc.specs.Fixups.{fixups_fit};
 
 use pef_cert::{Certificate, check};
-use pef_plan::plan;
-use pef_reloc::{Base, Fixup, fixups_fit};
+use pef_plan::{least_program, plan};
+use pef_reloc::{Base, Fixup, Instr, fixups_fit};
 use std::alloc::Global;
 use std::process::Abort;
 use test_data::lists::S1;
@@ -17,10 +17,19 @@ pub fn planned(rt: &impl Abort, alloc: Global, fixups: &[Fixup]) -> Certificate
     plan(alloc, 3, fixups).expect(rt, "a plan")
 }
 
-/// Plans fixups and compares the length of the program. The certificate is accepted.
+/// Plans fixups and compares the length of the program. The certificate is accepted, and its program is the one that is found
+/// alone.
 pub fn assert_length(rt: &impl Abort, alloc: Global, fixups: &[Fixup], length: u64) {
     let certificate = planned(rt, alloc, fixups);
     assert_certified(rt, fixups, &certificate, length);
+    assert_alone(rt, alloc, fixups, &certificate.program);
+}
+
+fn assert_alone(rt: &impl Abort, alloc: Global, fixups: &[Fixup], program: &[Instr])
+    requires { fixups_fit fixups.now ≡ true }
+{
+    let alone = least_program(alloc, fixups).expect(rt, "a program");
+    assert!(rt; alone.as_slice() == program);
 }
 
 fn assert_certified(rt: &impl Abort, fixups: &[Fixup], certificate: &Certificate, length: u64)
