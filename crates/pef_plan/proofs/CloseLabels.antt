@@ -1,6 +1,5 @@
 -- The labels at a fixup are small, and close to one another.
 use Rattle.std.proofs.Common.{◌≡◌, ℕ, ◌+◌, ◌*◌, ◌^◌, ◌<◌, ◌≤◌, List, length, slice_index, arith}
-use Rattle.std.specs.Prelude.{replicate}
 use Rattle.pef_plan.specs.declared.runs.suffix.SolvedSuffix.{SolvedSuffix}
 use Rattle.pef_plan.specs.declared.runs.state.FixupState.{FixupState}
 use Rattle.pef_plan.specs.Kept.Rows.{RowOf, SmallLine}
@@ -8,7 +7,6 @@ use Rattle.pef_plan.specs.Runs.Places.{AtOf}
 use Rattle.pef_plan.specs.Runs.Tables.{number_in}
 use Rattle.pef_plan.specs.Windows.Tables.{Close}
 use Rattle.pef_plan.proofs.DirectLemmas.{each_place}
-use Rattle.pef_plan.proofs.RunsProofs.PlaceLemmas.{zeros_at}
 use Rattle.pef_plan.proofs.WindowsProofs.TableLemmas.{mul-le}
 
 pub row_close : (k : SolvedSuffix) (a : FixupState) (row : List ℕ) → RowOf k a row → length row ≡ (length k.registers.now + 1) * (length k.registers.now + 1) → Close row
@@ -33,13 +31,6 @@ row_small k a row at r wide = λ i under.
     let most = (r.direct_is c d under_c under_d).small in
     omega (arith, low, most, few))
     i (omega (arith, under, wide))
-
--- and so are zeros
-pub zeros_close : (n : ℕ) (row : List ℕ) → row ≡ replicate n 0 → Close row
-zeros_close n row is = λ i j under_i under_j. let zero = zeros_at n i row is in omega (arith, zero)
-
-pub zeros_small : (n : ℕ) (row : List ℕ) → row ≡ replicate n 0 → SmallLine (length row) row
-zeros_small n row is = λ i under. let zero = zeros_at n i row is in omega (arith, zero)
 
 -- all rows have room
 pub table_small : (n r : ℕ) → n ≤ 65536 → r ≤ 17 → (n + 1) * (r * r) < 2 ^ 64

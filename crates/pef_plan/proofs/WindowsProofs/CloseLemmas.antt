@@ -1,10 +1,9 @@
 -- Close rows: their number, the row at an index, and one more row.
-use Rattle.std.proofs.Common.{◌≡◌, ℕ, zero, suc, ◌+◌, ◌-◌, ◌*◌, ◌<◌, ◌≤◌, List, [], ◌∷◌, ◌++◌, length, map, slice_index, take, drop, refl, ap, sym, ◌∙◌, arith}
-use Rattle.std.specs.Prelude.{reverse, slice_index_or}
+use Rattle.std.proofs.Common.{◌≡◌, ℕ, zero, suc, ◌+◌, ◌*◌, ◌<◌, ◌≤◌, List, [], ◌∷◌, ◌++◌, length, map, slice_index, take, drop, refl, ap, sym, ◌∙◌, arith}
+use Rattle.std.specs.Prelude.{slice_index_or}
 use Rattle.std.proofs.Math.Path.{ap₂}
 use Rattle.std.proofs.Math.Seq.{take-append_seam}
-use Rattle.std.proofs.lemmas.List.{drop-append-le, drop-drop, drop_more, ext_get_or, get_or-drop, get_or-map, get_or-take, length-append, length-drop, length-map, length-take-le, nil_from_length, reverse-append, take-append-le, take_all}
-use Rattle.pef_words.proofs.Laws.Lists.{all-append}
+use Rattle.std.proofs.lemmas.List.{drop-append-le, drop-drop, ext_get_or, get_or-drop, get_or-map, get_or-take, length-drop, length-map, length-take-le, nil_from_length, take-append-le, take_all}
 use Rattle.pef_plan.specs.Windows.Kept.{CloseFull}
 use Rattle.pef_plan.specs.Windows.Tables.{close_rows}
 use Rattle.pef_plan.proofs.WindowsProofs.TableLemmas.{mul-le}
@@ -54,12 +53,6 @@ close-added w low (l ∷ lows) steps new full wide =
     ap₂ (λ r rs. r ∷ rs) (ap (map (λ step. l + step)) (take-append-le w steps new all))
     (ap (close_rows w (lows ++ low ∷ [])) (drop-append-le w steps new all) ∙ close-added w low lows (drop w steps) new (omega (arith, full, left)) wide)
 
-pub full-added : (w low : ℕ) (lows steps new : List ℕ) → CloseFull w lows steps → length new ≡ w → low ≤ 1048576 → CloseFull w (lows ++ low ∷ []) (steps ++ new)
-full-added w low lows steps new full wide small = record {
-  full = (let all = full.full in let one : length (lows ++ low ∷ []) * w ≡ (length lows + 1) * w = ap (λ n. n * w) (length-append lows (low ∷ [])) in let other = length-append steps new in omega (arith, all, one, other, wide));
-  small = all-append (λ l. l ≤ 1048576) lows (low ∷ []) full.small (small, tt);
-}
-
 -- numbers that are those of a row, less a low one
 pub raised-same : (low : ℕ) (steps row : List ℕ) → length steps ≡ length row → ((i : ℕ) → i < length row → low + slice_index steps i ≡ slice_index row i) → map (λ step. low + step) steps ≡ row
 raised-same low steps row wide is =
@@ -67,13 +60,6 @@ raised-same low steps row wide is =
     (λ i under.
     let count = length-map steps (λ step. low + step) in
     get_or-map (λ step. low + step) steps i 0 0 (omega (arith, under, count)) ∙ is i (omega (arith, under, count, wide)))
-
--- the last row of some, and those before it, in reverse order
-pub reverse-next : (n : ℕ) (rows : List (List ℕ)) → 0 < n → n ≤ length rows → reverse (drop (n - 1) rows) ≡ reverse (drop n rows) ++ slice_index_or rows (n - 1) [] ∷ []
-reverse-next n rows some inside =
-    let next : n - 1 + 1 ≡ n = omega (arith, some) in
-    ap reverse (drop_more rows (n - 1) [] (omega (arith, some, inside)) ∙ ap (λ k. slice_index_or rows (n - 1) [] ∷ drop k rows) next)
-    ∙ reverse-append (slice_index_or rows (n - 1) [] ∷ []) (drop n rows)
 
 -- numbers that were lengthened begin with the old ones
 pub grown-front : (xs zs : List ℕ) (start n : ℕ) → start ≡ length xs → length xs ≤ n → take start (take n xs ++ zs) ≡ xs
