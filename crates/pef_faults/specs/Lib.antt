@@ -2,4 +2,5 @@ pub mod Faults
 -- Definitions for private contracts.
 pub mod Kept
 pub mod Names
+pub mod Notes
 pub mod Places

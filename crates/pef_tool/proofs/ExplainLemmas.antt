@@ -7,7 +7,7 @@ use Rattle.pef_refusals.specs.Help.{help_of}
 use Rattle.pef_tool.specs.Answers.Answers.{IsDelivered}
 use Rattle.pef_tool.specs.Answers.Faults.{fault_answer}
 use Rattle.pef_tool.specs.Explain.{Explains, NotesHelp}
-use Rattle.pef_tool.specs.Notes.Notes.{note_of}
+use Rattle.pef_faults.specs.Notes.Notes.{note_of}
 use Rattle.pef_tool.specs.declared.answers.outcome.Outcome.{Outcome}
 use Rattle.pef_tool.specs.declared.answers.outcome.Outcome.TheVariants.{OutputFailed}
 

@@ -2,7 +2,6 @@ mod DistancesLemmas
 mod LinkLemmas
 mod OutcomeLemmas
 mod AloneLemmas
-mod AnswersProofs
 mod CheckLemmas
 mod CompanionLemmas
 mod EndLemmas
@@ -13,6 +12,5 @@ mod InspectLemmas
 mod LoadLemmas
 mod LoadedLemmas
 mod PathLemmas
-mod RequestProofs
 mod RoomLemmas
 mod ShowLemmas

@@ -10,8 +10,8 @@ use Rattle.cfm_prepare.specs.Contexts.{ContextState, fresh_state}
 use Rattle.cfm_prepare.specs.Steps.{Prepares}
 use Rattle.pef_ports.specs.Ports.{FilesPort, Reads}
 use Rattle.pef_ports.specs.declared.ports.FileFault.TheVariants as file_fault
-use Rattle.pef_tool.specs.Request.Requests.{named_path}
-use Rattle.pef_tool.specs.declared.request.files.NamedFile.{NamedFile}
+use Rattle.pef_request.specs.Requests.{named_path}
+use Rattle.pef_request.specs.declared.files.NamedFile.{NamedFile}
 use Rattle.pef_tool.specs.Kept.Loading.{StopsReading}
 use Rattle.pef_tool.specs.Kept.Reading.{StopsFile}
 use Rattle.pef_tool.specs.Kept.Rooted.{RootEnds, RootOutcome, root_answer}

@@ -6,7 +6,7 @@ use Rattle.pef_faults.specs.declared.fault.Fault.TheVariants as fault
 use Rattle.pef_script.specs.Text.Grammar.{script_of}
 use Rattle.pef_script.specs.Text.Reads.{FailsAs}
 use Rattle.pef_script.specs.declared.text.fault.ScriptFault.{ScriptFault}
-use Rattle.pef_tool.specs.Request.Requests.{Asked, check, distances, extract, inspect, inspect_listed, inspect_pair, link, list, load, show, version}
+use Rattle.pef_request.specs.Requests.{Asked, check, distances, extract, inspect, inspect_listed, inspect_pair, link, list, load, show, version}
 use Rattle.pef_tool.specs.Answers.Faults.{fault_answer}
 use Rattle.pef_tool.specs.Load as load
 use Rattle.pef_tool.specs.Show as show

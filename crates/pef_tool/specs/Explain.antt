@@ -3,10 +3,10 @@ use Rattle.std.specs.Prelude.{◌≡◌, ℕ, List, ◌++◌, Option, None, Some
 use Rattle.pef_ports.specs.Ports.{Stream}
 use Rattle.pef_refusals.specs.Help.{help_of}
 use Rattle.pef_tool.specs.Answers.Answers.{IsDelivered, answer_done}
-use Rattle.pef_tool.specs.Notes.Notes.{note_text}
+use Rattle.pef_faults.specs.Notes.Notes.{note_text}
 use Rattle.pef_tool.specs.declared.answers.outcome.Outcome.{Outcome}
 use Rattle.pef_tool.specs.declared.answers.outcome.Outcome.TheVariants.{Done, SaidNo, Refused, Usage, OutputFailed}
-use Rattle.pef_tool.specs.declared.notes.Note.{Note}
+use Rattle.pef_faults.specs.declared.notes.Note.{Note}
 
 -- a text is written whole, or a prefix of it is written and then the output fails
 abbrev pub IsNoted : Stream → Stream → List ℕ → Type 0

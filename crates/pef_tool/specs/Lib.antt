@@ -13,8 +13,6 @@ pub mod Fragment
 pub mod Limits
 pub mod Load
 pub mod Loaded
-pub mod Request
 pub mod Show
 pub mod Version
 pub mod Explain
-pub mod Notes

@@ -1,7 +1,7 @@
 -- The answer of a run. Each command has a line here, and its answers in a file of their own.
 use Rattle.std.specs.Prelude.{◌≡◌, ◌⊎◌, Option, None, Some}
 use Rattle.pef_ports.specs.Ports.{FilesPort, Stream}
-use Rattle.pef_tool.specs.Request.Requests.{Asked, check, distances, extract, inspect, inspect_listed, inspect_pair, link, list, load, show, version}
+use Rattle.pef_request.specs.Requests.{Asked, check, distances, extract, inspect, inspect_listed, inspect_pair, link, list, load, show, version}
 use Rattle.pef_tool.specs.Answers.Answers.{Answer, answer_usage}
 use Rattle.pef_tool.specs.Load.{LoadAnswers}
 use Rattle.pef_tool.specs.Show.{ShowAnswers}

@@ -1,6 +1,6 @@
 ghost use Rattle.std.specs.Prelude.{◌≡◌, Some, map, string_bytes};
-ghost use Rattle.pef_tool.specs.Request.CommandLine.{request_by};
-ghost use Rattle.pef_tool.specs.Request.Requests.{asked_of};
+ghost use Rattle.pef_request.specs.CommandLine.{request_by};
+ghost use Rattle.pef_request.specs.Requests.{asked_of};
 ghost use Rattle.pef_tool.specs.Answers.Answers.{Answer, IsDelivered, status_of};
 ghost use Rattle.pef_tool.specs.Answers.Faults.{fault_answer};
 ghost use Rattle.pef_faults.specs.declared.fault.Fault.TheVariants.{OutOfMemory};
@@ -15,11 +15,11 @@ use crate::inspect::{Inspected, InspectedPair, inspect_files, inspect_listed, in
 use crate::link::link_files;
 use crate::list::list_file;
 use crate::load::load_files;
-use crate::request::{Request, WordsFault, read_request};
 use crate::show::show_input;
 use crate::version::print_version;
 use pef_faults::Fault;
 use pef_ports::{Files, Sink, Source};
+use pef_request::{Request, WordsFault, read_request};
 use std::alloc::Global;
 
 /// Runs the command that the words ask for, and returns the status. The first word is the program's name.

@@ -1,13 +1,13 @@
 ghost use Rattle.std.specs.Prelude.{◌++◌, ℕ, List, option_map};
 ghost use Rattle.pef_tool.specs.Answers.Answers.{answer_done};
 ghost use Rattle.pef_tool.specs.Explain.{Explains, IsNoted, NotesHelp};
-ghost use Rattle.pef_tool.specs.Notes.Notes.{note_text};
+ghost use Rattle.pef_faults.specs.Notes.Notes.{note_text};
 
 use crate::answers::{Outcome, Reply, deliver};
-use crate::notes::{Note, print_note};
-use crate::request::words_help;
+use pef_faults::{Note, print_note};
 use pef_ports::{Page, Sink, StreamFault, send};
 use pef_refusals::help;
+use pef_request::words_help;
 use std::alloc::Global;
 
 /// The text that is printed if the output failed.

@@ -1,5 +1,5 @@
 ghost use Rattle.std.specs.Prelude.{◌≡◌, ◌≤◌, IfErr, IfOk, length, map};
-ghost use Rattle.pef_tool.specs.Request.Requests.{named_path};
+ghost use Rattle.pef_request.specs.Requests.{named_path};
 ghost use Rattle.pef_tool.specs.Answers.Answers.{Answer, IsDelivered};
 ghost use Rattle.pef_tool.specs.Kept.Loading.{StopsReading};
 ghost use Rattle.pef_tool.specs.Limits.{most_files};
@@ -8,10 +8,10 @@ ghost use Rattle.pef_tool.specs.Load.{LoadAnswers, WereRead, paired};
 use crate::answers::{Outcome, Usage, deliver};
 use crate::loaded::deliver_root;
 use crate::reading::read_file;
-use crate::request::NamedFile;
 use cfm_closure::{MAX_PAIRS, Store, StoreFault};
 use pef_faults::Fault;
 use pef_ports::{Files, Sink};
+use pef_request::NamedFile;
 use std::alloc::Global;
 
 /// Prepares the first of some files and prints the memory of its closure. Libraries are found among the files by their

@@ -8,7 +8,7 @@ ghost use Rattle.pef_faults.specs.Faults.{fault_number};
 ghost use Rattle.pef_faults.specs.declared.fault.Fault.{Fault};
 ghost use Rattle.pef_tool.specs.Answers.Answers.{IsDelivered};
 ghost use Rattle.pef_tool.specs.Answers.Faults.{fault_answer};
-ghost use Rattle.pef_tool.specs.Notes.Notes.{note_of};
+ghost use Rattle.pef_faults.specs.Notes.Notes.{note_of};
 ghost use Rattle.pef_tool.specs.Explain.{Explains, NotesHelp};
 ghost use Rattle.pef_tool.specs.declared.answers.outcome.Outcome.{Outcome};
 ghost use Rattle.pef_tool.specs.declared.answers.outcome.Outcome.TheVariants.{OutputFailed};

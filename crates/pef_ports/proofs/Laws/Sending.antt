@@ -126,3 +126,13 @@ kept-all first kept text {a} {b} prints was is =
 -- or a part of it
 pub kept-part : (first kept page text : List ℕ) {a b : Stream} → StopsShort a b page text → a.bytes ≡ Some first → b.bytes ≡ Some kept → (sent : List ℕ) × (kept ≡ first ++ sent)
 kept-part first kept page text {a} {b} short was is = (short.sent, grown first kept short.sent a.bytes b.bytes was is short.out)
+
+-- an equal text
+pub same_printed : {a b : Stream} {p l t u : List ℕ} → t ≡ u → Prints a b p l t → Prints a b p l u
+same_printed {a} {b} {p} {l} {t} {u} same prints = subst (Prints a b p l) same prints
+
+pub same_short : {a b : Stream} {p t u : List ℕ} → t ≡ u → StopsShort a b p t → StopsShort a b p u
+same_short {a} {b} {p} {t} {u} same short = subst (StopsShort a b p) same short
+
+pub same_sent : {A E : Type 0} (r : Result A E) (a b : Stream) (p l : List ℕ) {t u : List ℕ} → t ≡ u → Sends r a b p l t → Sends r a b p l u
+same_sent {A} {E} r a b p l {t} {u} same sends = subst (Sends r a b p l) same sends

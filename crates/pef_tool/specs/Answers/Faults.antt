@@ -5,7 +5,7 @@ use Rattle.pef_faults.specs.Faults.{fault_line, fault_name, fault_number, fault_
 use Rattle.pef_faults.specs.Names.{Names, fault_names}
 use Rattle.pef_ports.specs.Names.{name_text}
 use Rattle.pef_tool.specs.Answers.Answers.{Answer}
-use Rattle.pef_tool.specs.Notes.Notes.{note_of}
+use Rattle.pef_faults.specs.Notes.Notes.{note_of}
 use Rattle.pef_tool.specs.declared.answers.outcome.Outcome.TheVariants.{Refused}
 
 -- the start of an error's line: its number and its name

@@ -6,8 +6,7 @@ ghost use Rattle.pef_tool.specs.Answers.Faults.{fault_answer, line_text, name_en
 
 use crate::answers::outcome::Outcome;
 use crate::answers::reply::Reply;
-use crate::notes::note_of;
-use pef_faults::Fault;
+use pef_faults::{Fault, note_of};
 use pef_ports::{Page, Piece, Sink, StreamFault, print_pieces, send};
 
 impl<'a> Reply for Fault<'a> {

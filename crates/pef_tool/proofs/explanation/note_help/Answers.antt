@@ -1,6 +1,6 @@
 -- Delivered with some outcome.
 use Rattle.std.proofs.Common.{List, ℕ, ◌++◌, subst}
-use Rattle.pef_tool.specs.Notes.Notes.{note_text}
+use Rattle.pef_faults.specs.Notes.Notes.{note_text}
 use Rattle.pef_tool.specs.Explain.{IsNoted}
 use Rattle.pef_tool.proofs.explanation.note_help.Goals as goal
 

@@ -1,8 +1,7 @@
 -- The size and then the lengths.
 use Rattle.std.proofs.Common.{List, ℕ, length, ap}
-use Rattle.pef_ports.proofs.Laws.Sending.{Sends-short, Sends-then, StopsShort-longer}
+use Rattle.pef_ports.proofs.Laws.Sending.{Sends-short, Sends-then, StopsShort-longer, same_printed, same_short}
 use Rattle.pef_tool.specs.Link.{lengths_text, size_text}
-use Rattle.pef_tool.proofs.AnswersProofs.PieceLemmas.{same_printed, same_short}
 use Rattle.pef_tool.proofs.link.print_linked.Goals as goal
 
 pub returns-in_err-print_size : goal.returns-in_err-print_size

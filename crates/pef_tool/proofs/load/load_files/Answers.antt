@@ -4,7 +4,7 @@ use Rattle.std.proofs.lemmas.List.{length-map}
 use Rattle.std.specs.declared.alloc.Global.{Global}
 use Rattle.std.specs.declared.vec.Vec.{Vec}
 use Rattle.pef_ports.specs.Ports.{FilesPort}
-use Rattle.pef_tool.specs.Request.Requests.{named_path}
+use Rattle.pef_request.specs.Requests.{named_path}
 use Rattle.pef_tool.specs.Answers.Answers.{Answer, IsDelivered}
 use Rattle.pef_tool.specs.Load.{first_name, load_answer, paired, refuses}
 use Rattle.pef_tool.specs.Answers.Faults.{fault_answer}

@@ -1,5 +1,5 @@
 use Rattle.std.proofs.Common.{map, take}
-use Rattle.pef_tool.specs.Request.Requests.{named_path}
+use Rattle.pef_request.specs.Requests.{named_path}
 use Rattle.pef_tool.specs.Load.{WereRead}
 use Rattle.pef_tool.proofs.load.read_files.Given as goal
 

@@ -1,5 +1,5 @@
 use Rattle.std.proofs.Common.{◌≡◌, ◌++◌, drop, length, map}
-use Rattle.pef_tool.specs.Request.Requests.{named_path}
+use Rattle.pef_request.specs.Requests.{named_path}
 use Rattle.pef_tool.specs.Load.{paired}
 use Rattle.pef_tool.proofs.load.store_of.Given as goal
 

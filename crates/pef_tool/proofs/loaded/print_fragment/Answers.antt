@@ -1,10 +1,9 @@
 -- The name and then the sections.
 use Rattle.std.proofs.Common.{ap}
-use Rattle.pef_ports.proofs.Laws.Sending.{Prints-then, Sends-short, Sends-then, StopsShort-longer, StopsShort-then}
+use Rattle.pef_ports.proofs.Laws.Sending.{Prints-then, Sends-short, Sends-then, StopsShort-longer, StopsShort-then, same_printed, same_short}
 use Rattle.pef_tool.specs.Fragment.{sections_text}
 use Rattle.pef_tool.specs.Loaded.{fragment_name, sections_in}
 use Rattle.pef_tool.specs.Answers.Faults.{name_end}
-use Rattle.pef_tool.proofs.AnswersProofs.PieceLemmas.{same_printed, same_short}
 use Rattle.pef_tool.proofs.loaded.print_fragment.Goals as goal
 
 pub returns-in_err-send : goal.returns-in_err-send

@@ -1,10 +1,9 @@
 -- The fragments, the initialization routines, the main entry, and the termination routines.
 use Rattle.std.proofs.Common.{List, ℕ, codes, ap, subst}
 use Rattle.pef_ports.specs.Sent.{Sends}
-use Rattle.pef_ports.proofs.Laws.Sending.{Prints-then, Sends-short, Sends-then, StopsShort-longer, StopsShort-then}
+use Rattle.pef_ports.proofs.Laws.Sending.{Prints-then, Sends-short, Sends-then, StopsShort-longer, StopsShort-then, same_printed, same_short}
 use Rattle.pef_tool.specs.Fragment.{entry_text}
 use Rattle.pef_tool.specs.Loaded.{fragments_text, init_order_in, inits_text, main_in, terms_text}
-use Rattle.pef_tool.proofs.AnswersProofs.PieceLemmas.{same_printed, same_short}
 use Rattle.pef_tool.proofs.loaded.print_loaded.Goals as goal
 
 pub returns-in_err-print_fragments : goal.returns-in_err-print_fragments

@@ -1,9 +1,8 @@
 -- One name after the other.
 use Rattle.std.proofs.Common.{codes, ap, ◌++◌}
 use Rattle.pef_faults.specs.Names.{fault_names}
-use Rattle.pef_ports.proofs.Laws.Sending.{Sends-short, Sends-then, StopsShort-longer, StopsShort-then}
+use Rattle.pef_ports.proofs.Laws.Sending.{Sends-short, Sends-then, StopsShort-longer, StopsShort-then, same_printed, same_sent, same_short}
 use Rattle.pef_tool.specs.Answers.Faults.{names_text, reported_text}
-use Rattle.pef_tool.proofs.AnswersProofs.PieceLemmas.{same_printed, same_sent, same_short}
 use Rattle.pef_tool.proofs.answers.fault.print_names.Goals as goal
 
 pub returns-in_err-print_reported : goal.returns-in_err-print_reported

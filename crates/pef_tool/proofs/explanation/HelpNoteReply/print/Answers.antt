@@ -1,6 +1,6 @@
 -- The text and then what else is known.
 use Rattle.pef_ports.proofs.Laws.Sending.{Sends-short, Sends-then, StopsShort-longer}
-use Rattle.pef_tool.specs.Notes.Notes.{note_text}
+use Rattle.pef_faults.specs.Notes.Notes.{note_text}
 use Rattle.pef_tool.proofs.explanation.HelpNoteReply.print.Goals as goal
 
 pub returns-in_err-send : goal.returns-in_err-send

@@ -2,9 +2,8 @@
 use Rattle.std.proofs.Common.{◌∷◌, [], ◌++◌, ap₂}
 use Rattle.pef_faults.specs.Faults.{fault_path}
 use Rattle.pef_faults.specs.Names.{fault_names}
-use Rattle.pef_ports.proofs.Laws.Sending.{Sends-short, Sends-then, StopsShort-longer, StopsShort-then}
+use Rattle.pef_ports.proofs.Laws.Sending.{Sends-short, Sends-then, StopsShort-longer, StopsShort-then, same_printed, same_short}
 use Rattle.pef_tool.specs.Answers.Faults.{fault_answer, names_text, path_text, refused_text, rest_text}
-use Rattle.pef_tool.proofs.AnswersProofs.PieceLemmas.{same_printed, same_short}
 use Rattle.pef_tool.proofs.answers.fault.FaultReply.print.Goals as goal
 
 pub returns-in_err-print_refused : goal.returns-in_err-print_refused

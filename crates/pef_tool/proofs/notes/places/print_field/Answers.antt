@@ -1,6 +1,0 @@
-use Rattle.pef_tool.specs.Notes.Places.{field_sentence}
-use Rattle.pef_tool.proofs.notes.places.print_field.Goals as goal
-
-pub returns-in-PackedData : goal.returns-in-PackedData
-unfolding field_sentence
-returns-in-PackedData g c = rw (c.in-PackedData.is) c.print_pieces.ensures
