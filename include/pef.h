@@ -168,6 +168,7 @@ struct pef_bytes {
 #define PEF_NOTE_OVERLAP 112
 #define PEF_NOTE_UNOWNED_BYTES 113
 #define PEF_NOTE_WORD_RELOCATED_TWICE 114
+#define PEF_NOTE_SECTIONS_OUT_OF_ORDER 116
 
 /* Only this library returns these: the caller's buffer is too small; there is no such thing; the context isn't open; a
  * fragment is added after a connection was given; the context has as many fragments as it may; the granule is none; the
@@ -374,7 +375,8 @@ uint32_t pef_script_place(const uint8_t *script, size_t script_length, struct pe
  *
  * For PEF_RELOC_WORD_OUTSIDE, PEF_RELOC_IMPORT_OUTSIDE, PEF_RELOC_SECTION_OUTSIDE, PEF_NOTE_WORD_OUTSIDE_IMAGE and
  * PEF_NOTE_WORD_RELOCATED_TWICE, `detail` is the offset of the relocated word in its section. For PEF_NOTE_TRAILING_BYTES, PEF_NOTE_OVERLAP and
- * PEF_NOTE_UNOWNED_BYTES it is a number of bytes. For the others it is 0.
+ * PEF_NOTE_UNOWNED_BYTES it is a number of bytes. For PEF_NOTE_SECTIONS_OUT_OF_ORDER it is the number of sections of a kind that may be
+ * instantiated. For the others it is 0.
  */
 struct pef_finding {
     struct pef_place place;
@@ -570,8 +572,9 @@ uint32_t pef_partial_section(const uint8_t *container, size_t container_length, 
 uint32_t pef_partial_section_name(const uint8_t *container, size_t container_length, size_t number, struct pef_bytes *name);
 
 /*
- * Reads the header of a loader section. Its counts are those that it declares, however many rows are there. Returns PEF_LOADER_SHORT if
- * there is no loader section, or it has no header, in this call and in those below.
+ * Reads the header of a loader section: the first that isn't instantiated, or if each one is, the first of all. Its counts are those that
+ * it declares, however many rows are there. Returns PEF_LOADER_SHORT if there is no loader section, or it has no header, in this call and
+ * in those below.
  */
 uint32_t pef_partial_loader(const uint8_t *container, size_t container_length, struct pef_loader *loader);
 

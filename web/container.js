@@ -340,8 +340,11 @@ function libraryOptions(options) {
     return words.length === 0 ? String(options) : `${options} ${words.join(", ")}`;
 }
 
+function counted(n, word) {
+    return `${n.toLocaleString("en")} ${word}${n === 1 ? "" : "s"}`;
+}
+
 function verdict(errors, notes) {
-    const counted = (n, word) => `${n.toLocaleString("en")} ${word}${n === 1 ? "" : "s"}`;
     return `${errors === 0 ? "No errors" : counted(errors, "error")}, ${notes === 0 ? "no notes" : counted(notes, "note")}.`;
 }
 
@@ -357,6 +360,15 @@ function partText(finding) {
 
 function meaning(reader, finding) {
     const help = reader.help(finding.number);
-    const more = finding.word !== undefined ? ` The word is at ${text.hex(finding.word, 8)}.` : finding.length !== undefined ? ` ${finding.length.toLocaleString("en")} bytes.` : "";
-    return `${help}${more}`;
+    return `${help}${detailText(finding)}`;
+}
+
+function detailText({ word, length, sections }) {
+    if (word !== undefined) {
+        return ` The word is at ${text.hex(word, 8)}.`;
+    }
+    if (length !== undefined) {
+        return ` ${length.toLocaleString("en")} bytes.`;
+    }
+    return sections === undefined ? "" : ` ${counted(sections, "section")} may be instantiated.`;
 }

@@ -373,6 +373,7 @@ export class Container {
             offset: offset === null ? null : this.offset + offset,
             ...(kind === 1 ? { word: detail } : {}),
             ...(kind === 2 ? { length: detail } : {}),
+            ...(kind === 3 ? { sections: detail } : {}),
         };
     }
 
@@ -624,5 +625,6 @@ function findingObject(finding) {
         offset: finding.offset,
         ...(finding.word === undefined ? {} : { word: finding.word }),
         ...(finding.length === undefined ? {} : { length: finding.length }),
+        ...(finding.sections === undefined ? {} : { sections: finding.sections }),
     };
 }

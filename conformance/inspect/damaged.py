@@ -67,6 +67,32 @@ WHOLE = bytes_of(WHOLE_TEXT)
 assert len(WHOLE) == 0x1EC
 
 
+# A stub library as the linker of CodeWarrior writes one: the loader section comes first and counts as instantiated, the entry points
+# are in section 0, and the names of the exports follow each other without zeros.
+STUB = bytes_of("""
+000 4A6F7921 70656666 70777063 00000001  Joy! peff pwpc, formatVersion 1
+010 00000000 00000000 00000000 00000000
+020 0002 0001 00000000                   two sections, one of them instantiated
+028 FFFFFFFF 00000000 00000000 00000000  section 0, the loader section:
+038 00000072 00000060 04 04 04 00        114 bytes at 60
+044 FFFFFFFF 00000000 0000000C 0000000C  section 1: 12 bytes
+054 0000000C 000000E0 01 01 04 00        at E0
+060 00000000 00000000 00000000 00000000  the loader header: main and init in section 0 at 0,
+070 00000000 00000000 00000000 00000000  term too, no libraries, no imports,
+080 00000000 00000000 00000038 00000044  no programs; strings at 98, the slot at A4,
+090 00000000 00000003                    power 0, three exports
+098 6F70656E 72656164 73687574           open, read, shut
+0A4 000C0000                             slot 0: three keys
+0A8 0004021C 000402A2 000402A6           the hash words of open, read, shut
+0B4 01000000 00000000 0001               open: section 1 at 0
+0BE 01000004 00000004 0001               read: section 1 at 4
+0C8 01000008 00000008 0001               shut: section 1 at 8
+0D2 0000000000000000000000000000
+0E0 000000000000000000000000             section 1
+""")
+assert len(STUB) == 0xEC
+
+
 @dataclass
 class Case:
     name: str
@@ -104,14 +130,16 @@ def container_header() -> None:
     case("architecture-and-version", "08 70777064 FFFFFFFF", """
 error 3 BadArchitecture container architecture at 00000008
 error 4 BadFormatVersion container formatVersion at 0000000C""")
-    # All five sections are instantiated, so none is the loader section.
+    # All five sections are instantiated, also the loader section, so the rows may name any of the five.
     case("six-instantiated-of-five", "22 0006", """
 error 5 BadSectionCounts container instSectionCount at 00000022
 error 10 NoLoader container at 00000000
+note 116 SectionsOutOfOrder container instSectionCount at 00000022 sections 3
 error 7 BadSectionKind section 3 sectionKind at 00000094
 error 7 BadSectionKind section 4 sectionKind at 000000B0""")
     case("loader-is-instantiated", "22 0004", """
 error 10 NoLoader container at 00000000
+note 116 SectionsOutOfOrder container instSectionCount at 00000022 sections 3
 error 7 BadSectionKind section 3 sectionKind at 00000094""")
     case("versions-below-the-oldest", "14 00000004 00000009", """
 note 104 VersionBelowOldest container oldDefVersion at 00000014
@@ -172,6 +200,50 @@ note 112 Overlap section 0 containerOffset at 0000003C length 16""")
     case("bytes-between-parts", "DB 01", "note 113 UnownedBytes container at 000000DA length 6")
     case("bytes-after-the-end", "", "note 109 TrailingBytes container at 000001EC length 5", after=b"extra")
     case("zeros-after-the-end", "", "note 109 TrailingBytes container at 000001EC length 1", after=b"\0")
+
+
+def order_of_sections() -> None:
+    def stub(name: str, changes: str, lines: str, cut: int = len(STUB)) -> None:
+        CASES.append(Case(name, changed(STUB[:cut], changes), lines.strip().splitlines()))
+
+    first = """
+error 10 NoLoader container at 00000000
+note 116 SectionsOutOfOrder container instSectionCount at 00000022 sections 1
+error 7 BadSectionKind section 0 sectionKind at 00000040
+"""
+    stub("stub-library", "", first)
+    # Section 1 is there and isn't instantiated, and there is no section 2.
+    stub("stub-entries", "60 00000001, 68 00000002, 70 FFFFFFFE", first + """
+error 16 BadEntry init initSection at 00000068
+error 16 BadEntry term termSection at 00000070""".lstrip())
+    stub("stub-exports", "BC 0002, C6 0000, D0 FFFF", first + """
+error 20 BadExportSection export 0 sectionIndex at 000000BC
+error 20 BadExportSection export 2 sectionIndex at 000000D0""".lstrip())
+    stub("stub-export-of-a-missing-import", "C6 FFFD", first + "error 20 BadExportSection export 1 sectionIndex at 000000C6")
+    # The first of two loader sections, or the one that isn't instantiated.
+    stub("two-loader-sections-instantiated", "22 0002, 5C 04", """
+error 10 NoLoader container at 00000000
+note 116 SectionsOutOfOrder container instSectionCount at 00000022 sections 0
+error 7 BadSectionKind section 0 sectionKind at 00000040
+error 7 BadSectionKind section 1 sectionKind at 0000005C""")
+    stub("loader-section-behind-another", "5C 04", """
+error 7 BadSectionKind section 0 sectionKind at 00000040
+error 11 LoaderShort loader mainSection at 000000E0""")
+    stub("stub-cut-in-the-loader-header", "", """
+error 10 NoLoader container at 00000000
+note 116 SectionsOutOfOrder container instSectionCount at 00000022 sections 1
+error 6 SectionOutside section 0 containerOffset at 0000003C
+error 7 BadSectionKind section 0 sectionKind at 00000040
+error 6 SectionOutside section 1 containerOffset at 00000058
+error 11 LoaderShort loader mainSection at 00000060""", cut=0x88)
+    # Section 4 is there and isn't instantiated, and there is no section 5.
+    instantiated = """
+error 10 NoLoader container at 00000000
+note 116 SectionsOutOfOrder container instSectionCount at 00000022 sections 3
+error 7 BadSectionKind section 3 sectionKind at 00000094
+"""
+    case("loader-instantiated-and-section-4-relocated", "22 0004, 174 0004", instantiated)
+    case("loader-instantiated-and-section-5-relocated", "22 0004, 174 0005", instantiated + "error 17 BadRelocSection reloc 0 sectionIndex at 00000174")
 
 
 def loader() -> None:
@@ -709,5 +781,5 @@ def shared_by_sections(count: int, length: int) -> bytes:
     return head + struct.pack(">iIIIIIBBBB", 0, 0, 0, 0, 0, 0, 5, 4, 4, 0) * count + b"n" * length + b"\0"
 
 
-for group in container_header, sections, loader, exports, packed_data, programs, several, truncated, limits, other_files:
+for group in container_header, sections, order_of_sections, loader, exports, packed_data, programs, several, truncated, limits, other_files:
     group()

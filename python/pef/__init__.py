@@ -494,8 +494,8 @@ def link(script: Text) -> bytes:
 
 # --- what is wrong with a container ---
 
-#: The errors and notes that have a detail: those about a relocated word, and those about a number of bytes.
-_DETAILED = {37, 38, 39, 107, 114} | {109, 112, 113}
+#: The errors and notes that have a detail: those about a relocated word, those about a number of bytes, and that about sections.
+_DETAILED = {37, 38, 39, 107, 114} | {109, 112, 113} | {116}
 
 
 @dataclasses.dataclass(frozen=True)
@@ -503,8 +503,8 @@ class Finding:
     """An error of a container, or a note on it: something odd that breaks no rule.
 
     `part` is the kind of part that it is about, `row` the number of the part among those of its kind, `field` the offset in the part,
-    and `offset` that in the container, or None. `detail` is the offset of a relocated word in its section (37 to 39, 107 and 114), or a
-    number of bytes (109, 112 and 113), or None.
+    and `offset` that in the container, or None. `detail` is the offset of a relocated word in its section (37 to 39, 107 and 114), a
+    number of bytes (109, 112 and 113), a number of sections (116), or None.
 
     >>> damaged = bytearray(link("section d data process 4 4\\nbytes d 0000002A\\n"))
     >>> damaged[15] = 2

@@ -15,13 +15,14 @@ use Rattle.pef_c.specs.Buffers.{FillsPart}
 use Rattle.pef_c.specs.Places.{place_or_nowhere}
 use Rattle.pef_c.specs.declared.structs.PefFinding.{PefFinding}
 
--- the number that a note is about: the offset of a word in its section, or a count of bytes; 0 if there is none
+-- the number that a note is about: the offset of a word in its section, or a count of bytes or of sections; 0 if there is none
 abbrev pub note_detail : Note → ℕ
 note_detail (note.WordOutsideImage word) = word
 note_detail (note.TrailingBytes len) = len
 note_detail (note.Overlap len) = len
 note_detail (note.UnownedBytes len) = len
 note_detail (note.WordRelocatedTwice word) = word
+note_detail (note.SectionsOutOfOrder sections) = sections
 note_detail other = 0
 
 -- the same of an error: only some of relocation programs have one

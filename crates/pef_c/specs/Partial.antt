@@ -6,7 +6,7 @@ use Rattle.pef_format.specs.Exports.{Export}
 use Rattle.pef_format.specs.Symbols.{Import}
 use Rattle.pef_views.specs.Container.{Contained}
 use Rattle.pef_views.specs.Faults.{fault_number}
-use Rattle.pef_views.specs.Partial.{header_in, name_of_section, partial_of}
+use Rattle.pef_views.specs.Partial.{header_in, name_of_section, partial_of, sections_allowed}
 use Rattle.pef_views.specs.Section.{raw_of}
 use Rattle.pef_views.specs.declared.fault.ViewFault.{ViewFault}
 use Rattle.pef_views.specs.declared.section.SectionHeader.{SectionHeader}
@@ -59,7 +59,7 @@ PartNameAnswers bytes i old new answer =
 
 -- what can be read of the loader section of a container, or why nothing can
 abbrev pub part_in : Contained → Result Loaded LoaderFault
-part_in c = tables.partial_of c.header.instantiated_section_count c.loader
+part_in c = tables.partial_of (sections_allowed c) c.loader
 
 -- the bytes have a loader header, and this can be read of their loader section
 abbrev pub HasPart : List ℕ → Loaded → Type 0

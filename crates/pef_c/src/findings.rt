@@ -183,6 +183,7 @@ fn note_detail(note: Note) -> u64
         Note::WordOutsideImage { word } | Note::WordRelocatedTwice { word } => word,
         Note::TrailingBytes { length } | Note::Overlap { length } | Note::UnownedBytes { length } =>
             length as u64,
+        Note::SectionsOutOfOrder { sections } => u64::from(sections),
         Note::ReservedNotZero
         | Note::UnknownKind
         | Note::UnknownShare

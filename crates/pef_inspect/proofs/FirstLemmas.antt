@@ -25,7 +25,7 @@ use Rattle.pef_inspect.specs.Findings.{loader_finding, program_finding, view_fin
 use Rattle.pef_inspect.specs.First.{IsLimit, first_of_container, first_of_loader, first_program, first_reported, program_refused}
 use Rattle.pef_inspect.specs.Limits.{checked_within, container_limits, rest_of, within}
 use Rattle.pef_inspect.specs.declared.limits.Limits.{Limits}
-use Rattle.pef_inspect.proofs.Soundness.{loader_there, tables_whole}
+use Rattle.pef_inspect.proofs.Soundness.{allowed_is, found_there, tables_whole}
 
 first-map : {F G : Type 0} (f : F → G) (xs : List F) → first_fault (map f xs) ≡ option_map f (first_fault xs)
 first-map f [] = refl
@@ -157,8 +157,8 @@ first-container limits bytes c r f opens read is =
     by (Ok d) read none is =
         let sound = view_laws.unrefused_container bytes c opens (ap result_err read) in
         let same : d ≡ c = cc (read, sound) in
-        let there = loader_there c (none-first (views.findings_in c) none) in
-        let behind : behind_errors limits c ≡ tables_errors limits c (loader.partial_of c.header.instantiated_section_count c.loader) = rw there refl in
+        let clean = none-first (views.findings_in c) none in
+        let behind : behind_errors limits c ≡ tables_errors limits c (loader.partial_of c.header.instantiated_section_count c.loader) = rw (found_there c clean, allowed_is c clean) refl in
         let first = first-tables limits c (loader.partial_of c.header.instantiated_section_count c.loader) f refl (ap (λ (k : Contained). first_of_loader k (loaded_of k.header.instantiated_section_count k.loader)) (sym same) ∙ is) in
         is-later (map view_finding (views.findings_in c)) (behind_errors limits c) f (first-map view_finding (views.findings_in c) ∙ ap (option_map view_finding) none)
         (subst (λ errors. IsFirst errors f) (sym behind) first)

@@ -1,6 +1,7 @@
 mod ExtentLemmas
 mod FirstLemmas
 pub mod Laws
+mod NoteLemmas
 mod Seeing
 mod Soundness
 mod Taking

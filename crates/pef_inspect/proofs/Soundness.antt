@@ -1,12 +1,13 @@
 -- A container without errors is sound.
 use Rattle.std.proofs.Common.{◌≡◌, ◌∙◌, ℕ, ◌<◌, ◌≤◌, Bool, true, false, cond, List, [], ◌∷◌, map, length, Option, None, Some, refl, sym, arith}
 use Rattle.std.specs.Prelude.{Result, Ok, Err, nat_lt}
-use Rattle.std.specs.Option.{is_none, option_map, option_to_list}
+use Rattle.std.specs.Option.{is_none, option_map, option_or, option_to_list}
 use Rattle.std.proofs.lemmas.Bool.{ltb-false, le-leb}
 use Rattle.pef_words.specs.Findings.{all_among, all_met, first_fault}
 use Rattle.pef_words.proofs.Laws.Findings.{none-among, none-append, none-map}
-use Rattle.pef_views.specs.Container.{Contained, container_of, loader_of}
+use Rattle.pef_views.specs.Container.{Contained, any_loader, container_of, loader_of}
 use Rattle.pef_views.specs.Partial as views
+use Rattle.pef_views.specs.Section.{raw_of}
 use Rattle.pef_views.specs.declared.fault.ViewFault.{ViewFault}
 use Rattle.pef_views.specs.declared.fault.ViewFault.TheVariants.{NoLoader}
 use Rattle.pef_views.proofs.Laws as view_laws
@@ -88,6 +89,17 @@ loader_there c clean =
     let rows = (none-append _ _ clean).1 in
     none-met (is_none (loader_of c.bytes c.header)) NoLoader (none-append (all_among (views.section_findings c) 0 c.header.section_count) (all_met (views.loader_tests c)) rows).1
 
+-- .. which is the one that can be read of it, and whose rows may name the instantiated sections
+pub found_there : (c : Contained) → views.findings_in c ≡ [] → is_none (views.found_loader c.bytes c.header) ≡ false
+found_there c clean = by (loader_of c.bytes c.header) (loader_there c clean)
+  where
+    by : (o : Option (List ℕ)) → is_none o ≡ false → is_none (option_or o (option_map (raw_of c.bytes) (any_loader c.bytes c.header))) ≡ false
+    by None there = absurd (cc there)
+    by (Some bytes) there = refl
+
+pub allowed_is : (c : Contained) → views.findings_in c ≡ [] → views.sections_allowed c ≡ c.header.instantiated_section_count
+allowed_is c clean = view_laws.sections-in-order c (loader_there c clean)
+
 -- the parts of a container without errors, within any limits
 module _ (limits : Limits) where
   -- a container whose loader section has a header
@@ -120,8 +132,7 @@ module _ (limits : Limits) where
   sound-container bytes c opens none =
       let parts = none-append (map view_finding (views.findings_in c)) (behind_errors limits c) none in
       let clean = none-map view_finding (views.findings_in c) parts.0 in
-      let there = loader_there c clean in
-      sound-tables bytes c (loader.partial_of c.header.instantiated_section_count c.loader) (container_is bytes c opens clean) refl (rw there at parts.1)
+      sound-tables bytes c (loader.partial_of c.header.instantiated_section_count c.loader) (container_is bytes c opens clean) refl (rw (found_there c clean, allowed_is c clean) at parts.1)
 
 -- if no error is found, and nothing is left unverified, the container is sound
 pub no_errors_within_sound : (limits : Limits) (bytes : List ℕ) → errors_within limits bytes ≡ [] → IsSound bytes

@@ -6,7 +6,7 @@ use Rattle.std.specs.Result.{result_err}
 use Rattle.pef_words.specs.Refusals.{◌>>=◌}
 use Rattle.pef_format.specs.Sections.{is_packed, kind_of}
 use Rattle.pef_format.specs.declared.place.Part.TheVariants as part
-use Rattle.pef_views.specs.Container.{Contained, loader_of}
+use Rattle.pef_views.specs.Container.{Contained}
 use Rattle.pef_views.specs.Partial as views
 use Rattle.pef_views.specs.Section.{raw_of}
 use Rattle.pef_views.specs.declared.fault.ViewFault.{ViewFault}
@@ -110,8 +110,8 @@ tables_errors limits c (Err f) = loader_finding c f ∷ image_errors limits c
 -- the errors behind those of the container itself
 abbrev pub behind_errors : Limits → Contained → List Finding
 behind_errors limits c =
-    if is_none (loader_of c.bytes c.header) then image_errors limits c
-    else tables_errors limits c (loader.partial_of c.header.instantiated_section_count c.loader)
+    if is_none (views.found_loader c.bytes c.header) then image_errors limits c
+    else tables_errors limits c (loader.partial_of (views.sections_allowed c) c.loader)
 
 -- the errors of a container with a header
 abbrev pub errors_in : Limits → Contained → List Finding

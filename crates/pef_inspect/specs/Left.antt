@@ -35,7 +35,7 @@ left_in_tables limits c (Ok l) = left_in_loader limits c l
 left_in_tables limits c (Err f) = record limits { packed_bytes = left_packed limits c }
 
 abbrev pub left_opened : Limits → Result Contained ViewFault → Limits
-left_opened limits (Ok c) = left_in_tables limits c (loader.partial_of c.header.instantiated_section_count c.loader)
+left_opened limits (Ok c) = left_in_tables limits c (loader.partial_of (views.sections_allowed c) c.loader)
 left_opened limits (Err f) = limits
 
 -- what is left of some limits after some bytes were verified as a container

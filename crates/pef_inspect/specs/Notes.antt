@@ -1,7 +1,7 @@
 -- The numbers and the names of notes, which are this project's own.
 use Rattle.std.specs.Prelude.{ℕ, List, codes}
 use Rattle.pef_inspect.specs.declared.note.Note.{Note}
-use Rattle.pef_inspect.specs.declared.note.Note.TheVariants.{ReservedNotZero, UnknownKind, UnknownShare, VersionBelowOldest, EntryOutside, ExportOutside, WordOutsideImage, IrregularExports, TrailingBytes, ProgramsUnverified, ImagesUnverified, Overlap, UnownedBytes, WordRelocatedTwice}
+use Rattle.pef_inspect.specs.declared.note.Note.TheVariants.{ReservedNotZero, UnknownKind, UnknownShare, VersionBelowOldest, EntryOutside, ExportOutside, WordOutsideImage, IrregularExports, TrailingBytes, ProgramsUnverified, ImagesUnverified, Overlap, UnownedBytes, WordRelocatedTwice, SectionsOutOfOrder}
 
 abbrev pub note_number : Note → ℕ
 note_number ReservedNotZero = 101
@@ -18,6 +18,7 @@ note_number ImagesUnverified = 111
 note_number (Overlap len) = 112
 note_number (UnownedBytes len) = 113
 note_number (WordRelocatedTwice word) = 114
+note_number (SectionsOutOfOrder sections) = 116
 
 abbrev pub note_name : Note → List ℕ
 note_name ReservedNotZero = codes "ReservedNotZero"
@@ -34,3 +35,4 @@ note_name ImagesUnverified = codes "ImagesUnverified"
 note_name (Overlap len) = codes "Overlap"
 note_name (UnownedBytes len) = codes "UnownedBytes"
 note_name (WordRelocatedTwice word) = codes "WordRelocatedTwice"
+note_name (SectionsOutOfOrder sections) = codes "SectionsOutOfOrder"

@@ -1,9 +1,9 @@
 -- What is odd about a container and breaks no rule. Which oddities are noted is this project's own choice.
-use Rattle.std.specs.Prelude.{◌≡◌, ◌↔◌, ℕ, ℤ, pos, negsuc, ◌+◌, ◌==◌, ◌&&◌, not, min, Bool, true, false, IsTrue, List, [], ◌∷◌, ◌++◌, Option, None, Some, Result, Ok, Err, nat_le, nat_lt, if◌then◌else◌}
+use Rattle.std.specs.Prelude.{◌≡◌, ◌↔◌, ℕ, zero, suc, ℤ, pos, negsuc, ◌+◌, ◌==◌, ◌&&◌, not, min, Bool, true, false, IsTrue, List, [], ◌∷◌, ◌++◌, Option, None, Some, Result, Ok, Err, nat_le, nat_lt, if◌then◌else◌}
 use Rattle.std.specs.Option.{option_and_then, option_map, option_map_or, option_to_list}
 use Rattle.pef_words.specs.Findings.{all_among, all_met}
 use Rattle.pef_format.specs.Exports.{value_of}
-use Rattle.pef_format.specs.Sections.{kind_of, share_of}
+use Rattle.pef_format.specs.Sections.{is_instantiable, kind_of, share_of}
 use Rattle.pef_format.specs.declared.export.ExportValue.{ExportValue}
 use Rattle.pef_format.specs.declared.export.ExportValue.TheVariants.{InSection, Absolute, Reexport}
 use Rattle.pef_format.specs.declared.place.Part.{Part}
@@ -33,17 +33,30 @@ use Rattle.pef_inspect.specs.Findings.{note_finding}
 use Rattle.pef_inspect.specs.Limits.{container_limits, within}
 use Rattle.pef_inspect.specs.declared.limits.Limits.{Limits}
 use Rattle.pef_inspect.specs.declared.note.Note.{Note}
-use Rattle.pef_inspect.specs.declared.note.Note.TheVariants.{ReservedNotZero, UnknownKind, UnknownShare, VersionBelowOldest, EntryOutside, ExportOutside, WordOutsideImage, IrregularExports}
+use Rattle.pef_inspect.specs.declared.note.Note.TheVariants.{ReservedNotZero, UnknownKind, UnknownShare, VersionBelowOldest, EntryOutside, ExportOutside, WordOutsideImage, IrregularExports, SectionsOutOfOrder}
 use Rattle.pef_inspect.specs.declared.finding.Finding.{Finding}
 
 -- a note at a field of a part
 abbrev pub note_at : Contained → Note → Part → ℕ → ℕ → Finding
 note_at c note kind row field = note_finding note (place_of c kind row field)
 
--- the tests of a container header: both oldest versions, and the reserved field
+-- 1 if section i has a kind that may be instantiated, else 0
+abbrev pub instantiable_at : Contained → ℕ → ℕ
+instantiable_at c i = option_map_or (λ (s : SectionHeader). if is_instantiable (kind_of s.section_kind) then 1 else 0) (views.header_in c i) 0
+
+-- how many of the n sections from one on have such a kind
+abbrev pub instantiable_among : Contained → ℕ → ℕ → ℕ
+instantiable_among c from zero = 0
+instantiable_among c from (suc n) = instantiable_at c from + instantiable_among c (from + 1) n
+
+abbrev pub instantiable_sections : Contained → ℕ
+instantiable_sections c = instantiable_among c 0 c.header.section_count
+
+-- the tests of a container header: both oldest versions, the order of the sections, and the reserved field
 abbrev pub header_notes : Contained → List (Bool × Finding)
 header_notes c = (nat_lt c.header.current_version c.header.old_def_version, note_at c VersionBelowOldest part.Header 0 20)
     ∷ (nat_lt c.header.current_version c.header.old_imp_version, note_at c VersionBelowOldest part.Header 0 24)
+    ∷ (views.is_out_of_order c, note_at c (SectionsOutOfOrder (instantiable_sections c)) part.Header 0 34)
     ∷ (not (c.header.reserved == 0), note_at c ReservedNotZero part.Header 0 36)
     ∷ []
 
@@ -153,7 +166,7 @@ behind_notes limits c (Err f) irregular = []
 abbrev pub notes_in : Limits → Contained → Bool → List Finding
 notes_in limits c irregular = all_met (header_notes c)
     ++ (all_among (section_row c) 0 c.header.section_count
-    ++ behind_notes limits c (loader.partial_of c.header.instantiated_section_count c.loader) irregular)
+    ++ behind_notes limits c (loader.partial_of (views.sections_allowed c) c.loader) irregular)
 
 abbrev pub opened_notes : Limits → Result Contained ViewFault → Bool → List Finding
 opened_notes limits (Ok c) irregular = notes_in limits c irregular
@@ -165,7 +178,7 @@ IrregularLoader (Ok l) = HasIrregular l.bytes l.header
 IrregularLoader (Err f) = ⊥
 
 abbrev pub IrregularContainer : Contained → Type 0
-IrregularContainer c = IrregularLoader (loader.partial_of c.header.instantiated_section_count c.loader)
+IrregularContainer c = IrregularLoader (loader.partial_of (views.sections_allowed c) c.loader)
 
 abbrev pub IrregularOpened : Result Contained ViewFault → Type 0
 IrregularOpened (Ok c) = IrregularContainer c

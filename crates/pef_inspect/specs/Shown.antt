@@ -19,7 +19,7 @@ abbrev pub shown_in_loader : Loaded → ℕ
 shown_in_loader l = within (program_cost l) (most_shown l) 0 (headers_of l)
 
 abbrev pub shown_in_container : Contained → ℕ
-shown_in_container c = option_map_or shown_in_loader (result_ok (loader.partial_of c.header.instantiated_section_count c.loader)) 0
+shown_in_container c = option_map_or shown_in_loader (result_ok (loader.partial_of (views.sections_allowed c) c.loader)) 0
 
 -- how many programs of some bytes as a container are printed
 unfoldable pub programs_shown : List ℕ → ℕ

@@ -4,6 +4,7 @@ use Rattle.std.specs.Option.{option_map, option_map_or}
 use Rattle.pef_words.specs.Findings.{all_among}
 use Rattle.pef_format.specs.declared.place.Part.TheVariants as part
 use Rattle.pef_views.specs.Container.{Contained}
+use Rattle.pef_views.specs.Partial.{sections_allowed}
 use Rattle.pef_loader.specs.Loader.{Loaded}
 use Rattle.pef_loader.specs.Partial as loader
 use Rattle.pef_loader.specs.Partial.{RelocationRow, partial_of}
@@ -70,4 +71,4 @@ loader_twice limits c (Err f) = []
 
 -- the notes on a container
 unfoldable pub twice_in : Limits → Contained → List Finding
-twice_in limits c = loader_twice limits c (partial_of c.header.instantiated_section_count c.loader)
+twice_in limits c = loader_twice limits c (partial_of (sections_allowed c) c.loader)

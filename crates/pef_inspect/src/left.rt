@@ -1,4 +1,5 @@
 ghost use Rattle.std.specs.Prelude.{◌≡◌};
+ghost use Rattle.pef_views.specs.Partial.{sections_allowed};
 ghost use Rattle.pef_views.specs.PartialViews.{partly};
 ghost use Rattle.pef_loader.specs.PartialViews.{partly_loaded};
 ghost use Rattle.pef_inspect.specs.Left.{left_after, left_in_loader, left_in_tables, left_packed, left_words};
@@ -26,7 +27,7 @@ pub fn left_after(limits: Limits, bytes: &[u8]) -> Limits
 
 /// Returns what is left after a container with a header.
 fn left_in_container(limits: Limits, container: &PartialContainer<'_>) -> Limits
-    ensures { result ≡ left_in_tables limits (partly container.now) (partial_of (partly container.now).header.instantiated_section_count (partly container.now).loader) }
+    ensures { result ≡ left_in_tables limits (partly container.now) (partial_of (sections_allowed (partly container.now)) (partly container.now).loader) }
 {
     match PartialLoader::read(container) {
         Ok(loader) => left_in_loader(limits, container, &loader),

@@ -34,10 +34,13 @@ pub enum Note {
     /// An address is added to a word to which one was added already, by the same program or by an earlier one of the section.
     /// `word` is its offset in the section. The note is at the beginning of the program, once for its first such word.
     WordRelocatedTwice { word: u64 },
+    /// The instantiated sections aren't the first ones: each loader section counts as instantiated. `sections` sections have a
+    /// kind that may be instantiated.
+    SectionsOutOfOrder { sections: u32 },
 }
 
 impl Note {
-    /// Returns the note's number, from 101. No error has it.
+    /// Returns the note's number, from 101. No error has it, and 115 is about a file.
     pub fn number(&self) -> u32
         ensures { result ≡ note_number self.now }
     {
@@ -56,6 +59,7 @@ impl Note {
             Note::Overlap { .. } => 112,
             Note::UnownedBytes { .. } => 113,
             Note::WordRelocatedTwice { .. } => 114,
+            Note::SectionsOutOfOrder { .. } => 116,
         }
     }
 
@@ -78,6 +82,7 @@ impl Note {
             Note::Overlap { .. } => "Overlap",
             Note::UnownedBytes { .. } => "UnownedBytes",
             Note::WordRelocatedTwice { .. } => "WordRelocatedTwice",
+            Note::SectionsOutOfOrder { .. } => "SectionsOutOfOrder",
         }
     }
 }

@@ -1,9 +1,10 @@
-ghost use Rattle.std.specs.Prelude.{◌≡◌, ◌++◌, OnOk, Some};
+ghost use Rattle.std.specs.Prelude.{◌≡◌, ◌≤◌, ◌++◌, OnOk, Some};
 ghost use Rattle.std.specs.Option.{option_to_list};
 ghost use Rattle.pef_words.specs.Findings.{all_met};
+ghost use Rattle.pef_views.specs.Partial.{sections_allowed};
 ghost use Rattle.pef_views.specs.PartialViews.{partly};
 ghost use Rattle.pef_loader.specs.PartialViews.{export_seen, partly_loaded};
-ghost use Rattle.pef_inspect.specs.Oddities.{Adds, HasIrregularExports, IrregularContainer, behind_notes, entry_notes, export_notes, header_notes, image_size, irregular_note, is_past, is_past_entry, is_past_value, is_unknown_kind, is_unknown_share, loader_notes, note_at, notes_in, notes_of, notes_within, section_notes, word_inside, word_note, word_outside};
+ghost use Rattle.pef_inspect.specs.Oddities.{Adds, HasIrregularExports, IrregularContainer, behind_notes, entry_notes, export_notes, header_notes, image_size, instantiable_at, instantiable_sections, irregular_note, is_past, is_past_entry, is_past_value, is_unknown_kind, is_unknown_share, loader_notes, note_at, notes_in, notes_of, notes_within, section_notes, word_inside, word_note, word_outside};
 ghost use Rattle.pef_inspect.specs.Runs.{run_seen};
 ghost use Rattle.pef_loader.specs.Partial.{partial_of};
 
@@ -13,9 +14,10 @@ use crate::note::Note;
 use crate::runs::{Run, runs_within};
 use crate::sink::{Findings, Rows, take_met, take_rows, take_some};
 use pef_format::layout::{
-    CONTAINER_RESERVED_AT, EXPORT_HASH_OFFSET_AT, EXPORT_VALUE_AT, LIBRARY_OLD_IMP_VERSION_AT,
-    LIBRARY_RESERVED_AT, MAIN_OFFSET_AT, OLD_DEF_VERSION_AT, OLD_IMP_VERSION_AT,
-    RELOCATION_RESERVED_AT, SECTION_KIND_AT, SECTION_RESERVED_AT, SHARE_KIND_AT,
+    CONTAINER_RESERVED_AT, EXPORT_HASH_OFFSET_AT, EXPORT_VALUE_AT, INSTANTIATED_SECTION_COUNT_AT,
+    LIBRARY_OLD_IMP_VERSION_AT, LIBRARY_RESERVED_AT, MAIN_OFFSET_AT, OLD_DEF_VERSION_AT,
+    OLD_IMP_VERSION_AT, RELOCATION_RESERVED_AT, SECTION_KIND_AT, SECTION_RESERVED_AT,
+    SHARE_KIND_AT,
 };
 use pef_format::{ExportValue, Part, SectionKind, Share};
 use pef_loader::{PartialExport, PartialLoader, partial_place};
@@ -75,7 +77,7 @@ fn find_behind<S: Findings>(
     limits: Limits,
     sink: &mut S,
 ) -> Result<(), S::Error>
-    ensures { OnOk result (Adds (S.taken sink.old) (S.taken sink.new) (behind_notes limits (partly container.now) (partial_of (partly container.now).header.instantiated_section_count (partly container.now).loader)) (IrregularContainer (partly container.now))) }
+    ensures { OnOk result (Adds (S.taken sink.old) (S.taken sink.new) (behind_notes limits (partly container.now) (partial_of (sections_allowed (partly container.now)) (partly container.now).loader)) (IrregularContainer (partly container.now))) }
 {
     match PartialLoader::read(container) {
         Ok(loader) => {
@@ -140,7 +142,7 @@ fn irregular_note(container: &PartialContainer<'_>, irregular: bool) -> Option<F
 }
 
 /// Returns the tests of a container header.
-fn header_notes(container: &PartialContainer<'_>) -> [(bool, Finding); 3]
+fn header_notes(container: &PartialContainer<'_>) -> [(bool, Finding); 4]
     ensures { result ≡ header_notes (partly container.now) }
 {
     let header = container.header();
@@ -166,6 +168,18 @@ fn header_notes(container: &PartialContainer<'_>) -> [(bool, Finding); 3]
             ),
         ),
         (
+            container.is_out_of_order(),
+            note_at(
+                container,
+                Note::SectionsOutOfOrder {
+                    sections: instantiable_sections(container),
+                },
+                Part::Header,
+                0,
+                INSTANTIATED_SECTION_COUNT_AT,
+            ),
+        ),
+        (
             header.reserved != 0,
             note_at(
                 container,
@@ -176,6 +190,34 @@ fn header_notes(container: &PartialContainer<'_>) -> [(bool, Finding); 3]
             ),
         ),
     ]
+}
+
+/// Returns how many sections have a kind that may be instantiated.
+fn instantiable_sections(container: &PartialContainer<'_>) -> u32
+    ensures { result ≡ instantiable_sections (partly container.now) }
+{
+    let mut count = 0;
+    for i in 0..container.header().section_count {
+        count += instantiable_at(container, i);
+    }
+    count
+}
+
+/// Returns 1 if section `i` has a kind that may be instantiated, else 0.
+fn instantiable_at(container: &PartialContainer<'_>, i: u16) -> u32
+    ensures value { result ≡ instantiable_at (partly container.now) i }
+    ensures below { result ≤ 1 }
+{
+    match container.section(usize::from(i)) {
+        Some(section) => {
+            if section.kind().is_instantiable() {
+                1
+            } else {
+                0
+            }
+        }
+        None => 0,
+    }
 }
 
 /// The sections of a container.

@@ -16,7 +16,7 @@ use Rattle.pef_loader.specs.Reloc.{reloc_in, reloc_refusal}
 use Rattle.pef_format.specs.Exports.{Export}
 use Rattle.pef_loader.specs.Export.{export_in, export_refusal, export_table, has_exports}
 
--- a loader section of a container with this number of instantiated sections: its bytes and its header
+-- a loader section of a container, rows of which may name this many sections, the instantiated ones: its bytes and its header
 pub record Loaded : Type 0 where
   pub sections : ℕ
   pub bytes : List ℕ

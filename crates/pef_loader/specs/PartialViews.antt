@@ -1,6 +1,7 @@
 -- What the views show of a loader section that may be damaged, without addresses in memory.
 use Rattle.std.specs.Prelude.{ℕ, List, option_map}
 use Rattle.std.specs.Option.{option_copied}
+use Rattle.pef_views.specs.Partial.{sections_allowed}
 use Rattle.pef_views.specs.PartialViews.{partly}
 use Rattle.pef_loader.specs.declared.cut_name.CutName as code
 use Rattle.pef_loader.specs.declared.cut_name.Names.{Names}
@@ -17,7 +18,7 @@ use Rattle.pef_loader.specs.Partial.{CutImportRow, CutLibraryRow, ExportRow, Imp
 
 -- the loader section that a view shows
 abbrev pub partly_loaded : PartialLoader → Loaded
-partly_loaded p = record { sections = (partly p.container).header.instantiated_section_count; bytes = p.tables.cut.bytes.now; header = p.tables.header }
+partly_loaded p = record { sections = sections_allowed (partly p.container); bytes = p.tables.cut.bytes.now; header = p.tables.header }
 
 abbrev pub library_seen : PartialLibrary → LibraryRow
 library_seen v = record { name = option_copied v.name; current = v.current; old_imp = v.old_imp; count = v.count; first = v.first; options = v.options }

@@ -2,6 +2,7 @@ ghost use Rattle.std.specs.Prelude.{◌≡◌, ◌<◌, ◌^◌, Some, IfOk, IsT
 ghost use Rattle.std.specs.Option.{ForSome, is_some};
 ghost use Rattle.pef_words.specs.Refusals.{result_map};
 ghost use Rattle.pef_hash.specs.Views.{table_of};
+ghost use Rattle.pef_views.specs.Partial.{sections_allowed};
 ghost use Rattle.pef_views.specs.PartialViews.{partly};
 ghost use Rattle.pef_loader.specs.Export.{HasIrregular, export_table, has_exports};
 ghost use Rattle.pef_loader.specs.Faults.{fault_place};
@@ -124,7 +125,7 @@ impl<'a> PartialLoader<'a> {
     #[tactic(auto, unfolding(crate::specs::Partial::partial_of))]
     pub fn read(container: &PartialContainer<'a>) -> Result<PartialLoader<'a>, LoaderFault>
         ensures value { result_map partly_loaded result
-            ≡ partial_of (partly container.now).header.instantiated_section_count (partly container.now).loader }
+            ≡ partial_of (sections_allowed (partly container.now)) (partly container.now).loader }
         ensures container { IfOk result (λ l. l.container ≡ container.now) }
     {
         let cut = Cut::new(container.loader_bytes());
@@ -153,11 +154,12 @@ impl<'a> PartialLoader<'a> {
         self.tables.cut.bytes()
     }
 
-    /// Returns the number of instantiated sections of the container.
+    /// Returns how many sections a row may name: the instantiated ones of the container, or all that there are, if its
+    /// instantiated sections aren't the first ones.
     pub fn sections(&self) -> u16
         ensures { result ≡ (partly_loaded self.now).sections }
     {
-        self.container.header().instantiated_section_count
+        self.container.sections_allowed()
     }
 
     /// Returns how many of the libraries are in the loader section.

@@ -13,7 +13,7 @@ use Rattle.pef_reloc.specs.Faults.{fault_word}
 use Rattle.pef_page.specs.Rows.{FillsFrom, Row, new_row, number_or_none}
 use Rattle.pef_page.specs.declared.findings.Detail.{Detail}
 
--- a number beyond the place: 1 and the offset of a word, 2 and a number of bytes, or nothing
+-- a number beyond the place: 1 and the offset of a word, 2 and a number of bytes, 3 and a number of sections, or nothing
 
 abbrev pub no_detail : Detail
 no_detail = record { kind = 0; number = 0 }
@@ -24,12 +24,16 @@ word_detail word = record { kind = 1; number = word }
 abbrev pub length_detail : ℕ → Detail
 length_detail len = record { kind = 2; number = len }
 
+abbrev pub sections_detail : ℕ → Detail
+sections_detail sections = record { kind = 3; number = sections }
+
 abbrev pub note_detail : Note → Detail
 note_detail (note.WordOutsideImage word) = word_detail word
 note_detail (note.WordRelocatedTwice word) = word_detail word
 note_detail (note.TrailingBytes len) = length_detail len
 note_detail (note.Overlap len) = length_detail len
 note_detail (note.UnownedBytes len) = length_detail len
+note_detail (note.SectionsOutOfOrder sections) = sections_detail sections
 note_detail note.ReservedNotZero = no_detail
 note_detail note.UnknownKind = no_detail
 note_detail note.UnknownShare = no_detail

@@ -20,7 +20,7 @@ loaded_or_number (Ok l) = Ok l
 loaded_or_number (Err fault) = Err (fault_number fault)
 
 abbrev pub loader_behind : Result Contained ViewFault → Result Loaded ℕ
-loader_behind (Ok c) = loaded_or_number (partial_of c.header.instantiated_section_count c.loader)
+loader_behind (Ok c) = loaded_or_number (partial_of (container.sections_allowed c) c.loader)
 loader_behind (Err fault) = Err (view.fault_number fault)
 
 abbrev pub loader_in : List ℕ → Result Loaded ℕ

@@ -12,16 +12,18 @@ use pef_inspect::{Cause, Finding, Note, find_errors, find_notes};
 /// There are more findings than can be kept.
 const TOO_MANY: u32 = 200;
 
-/// The offset of a word, or a number of bytes, comes with a note.
+/// The offset of a word, a number of bytes, or a number of sections, comes with a note.
 const WORD: u64 = 1;
 
 const LENGTH: u64 = 2;
+
+const SECTIONS: u64 = 3;
 
 const NO_DETAIL: Detail = Detail { kind: 0, number: 0 };
 
 /// Finds all errors of a container, in the order in which they are found. The name of each is that of the error. Its numbers
 /// are the number, the code of the kind of part, the row, the field, the offset in the container, or 2^64 - 1 if there is
-/// none, and then 1 and the offset of a word, 2 and a number of bytes, or 0 and 0.
+/// none, and then 1 and the offset of a word, 2 and a number of bytes, 3 and a number of sections, or 0 and 0.
 ///
 /// Returns 0, or 200 if there are more than can be kept. Then it gives the first of them.
 #[unsafe(no_mangle)]
@@ -160,6 +162,10 @@ fn note_detail(note: Note) -> Detail
                 kind: LENGTH,
                 number: length as u64,
             },
+        Note::SectionsOutOfOrder { sections } => Detail {
+            kind: SECTIONS,
+            number: u64::from(sections),
+        },
         Note::ReservedNotZero
         | Note::UnknownKind
         | Note::UnknownShare

@@ -139,6 +139,7 @@ note_name number =
     else if number == 112 then Some (codes "Overlap")
     else if number == 113 then Some (codes "UnownedBytes")
     else if number == 114 then Some (codes "WordRelocatedTwice")
+    else if number == 116 then Some (codes "SectionsOutOfOrder")
     else None
 
 -- all of them

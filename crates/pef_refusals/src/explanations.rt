@@ -362,6 +362,9 @@ fn note_help(number: u32) -> Option<&'static str>
         ),
         113 => Some("Bytes between two parts belong to none. An offset or a size may be damaged."),
         114 => Some("An address is added to a word to which one was added already."),
+        116 => Some(
+            "The loader section counts as instantiated, so the instantiated sections aren't the first ones. Rows of the loader section may name each section that is there.",
+        ),
         _ => None,
     }
 }

@@ -200,6 +200,7 @@ fn note_name(number: u32) -> Option<&'static str>
         112 => Some("Overlap"),
         113 => Some("UnownedBytes"),
         114 => Some("WordRelocatedTwice"),
+        116 => Some("SectionsOutOfOrder"),
         _ => None,
     }
 }

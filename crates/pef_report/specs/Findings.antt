@@ -182,21 +182,25 @@ at_digits (Some at) = at_text at
 abbrev pub detail_word : Detail → List ℕ
 detail_word (detail.Word n) = codes " word "
 detail_word (detail.Length n) = codes " length "
+detail_word (detail.Sections n) = codes " sections "
 detail_word detail.None = []
 
 abbrev pub detail_text : Detail → List ℕ
 detail_text (detail.Word n) = at_text n
 detail_text (detail.Length n) = decimal n
+detail_text (detail.Sections n) = decimal n
 detail_text detail.None = []
 
 abbrev pub detail_key : Detail → List ℕ
 detail_key (detail.Word n) = codes ",\"word\":"
 detail_key (detail.Length n) = codes ",\"length\":"
+detail_key (detail.Sections n) = codes ",\"sections\":"
 detail_key detail.None = []
 
 abbrev pub detail_number : Detail → List ℕ
 detail_number (detail.Word n) = decimal n
 detail_number (detail.Length n) = decimal n
+detail_number (detail.Sections n) = decimal n
 detail_number detail.None = []
 
 abbrev pub severity_word : Bool → List ℕ

@@ -14,7 +14,7 @@ use Rattle.pef_inspect.specs.declared.finding.Cause.TheVariants as cause
 use Rattle.pef_inspect.specs.declared.finding.Finding.{Finding}
 use Rattle.pef_inspect.specs.declared.limits.Limits.{Limits}
 use Rattle.pef_inspect.specs.declared.note.Note.{Note}
-use Rattle.pef_inspect.specs.declared.note.Note.TheVariants.{ReservedNotZero, UnknownKind, UnknownShare, VersionBelowOldest, EntryOutside, ExportOutside, WordOutsideImage, IrregularExports, TrailingBytes, ProgramsUnverified, ImagesUnverified, Overlap, UnownedBytes, WordRelocatedTwice}
+use Rattle.pef_inspect.specs.declared.note.Note.TheVariants.{ReservedNotZero, UnknownKind, UnknownShare, VersionBelowOldest, EntryOutside, ExportOutside, WordOutsideImage, IrregularExports, TrailingBytes, ProgramsUnverified, ImagesUnverified, Overlap, UnownedBytes, WordRelocatedTwice, SectionsOutOfOrder}
 use Rattle.pef_reloc.specs.Faults.{fault_word}
 use Rattle.pef_reloc.specs.Unrolled.{Step}
 use Rattle.pef_report.specs.Findings.{finding_line, finding_object}
@@ -72,6 +72,7 @@ note_detail (WordRelocatedTwice word) = detail.Word word
 note_detail (TrailingBytes len) = detail.Length len
 note_detail (Overlap len) = detail.Length len
 note_detail (UnownedBytes len) = detail.Length len
+note_detail (SectionsOutOfOrder sections) = detail.Sections sections
 note_detail ReservedNotZero = detail.None
 note_detail UnknownKind = detail.None
 note_detail UnknownShare = detail.None

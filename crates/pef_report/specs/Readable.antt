@@ -27,7 +27,7 @@ pub record Readable : Type 0 where
   pub programs : ℕ
 
 abbrev pub loader_in : Contained → Option Loaded
-loader_in c = result_ok (partial_of c.header.instantiated_section_count c.loader)
+loader_in c = result_ok (partial_of (views.sections_allowed c) c.loader)
 
 unfoldable pub readable_at : ℕ → List ℕ → ℕ → Readable
 readable_at base bytes programs =

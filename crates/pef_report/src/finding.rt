@@ -323,6 +323,7 @@ fn detail_word(detail: Detail) -> &'static [u8]
     match detail {
         Detail::Word(_) => b" word ",
         Detail::Length(_) => b" length ",
+        Detail::Sections(_) => b" sections ",
         Detail::None => b"",
     }
 }
@@ -333,7 +334,7 @@ fn detail_token(detail: Detail) -> Token<'static>
 {
     match detail {
         Detail::Word(word) => Token::At(word),
-        Detail::Length(length) => Token::Number(length),
+        Detail::Length(number) | Detail::Sections(number) => Token::Number(number),
         Detail::None => Token::Text(b""),
     }
 }
@@ -345,6 +346,7 @@ fn detail_key(detail: Detail) -> &'static [u8]
     match detail {
         Detail::Word(_) => b",\"word\":",
         Detail::Length(_) => b",\"length\":",
+        Detail::Sections(_) => b",\"sections\":",
         Detail::None => b"",
     }
 }
@@ -354,7 +356,7 @@ fn detail_number(detail: Detail) -> Token<'static>
     ensures { token_text result ≡ detail_number detail }
 {
     match detail {
-        Detail::Word(n) | Detail::Length(n) => Token::Number(n),
+        Detail::Word(n) | Detail::Length(n) | Detail::Sections(n) => Token::Number(n),
         Detail::None => Token::Text(b""),
     }
 }

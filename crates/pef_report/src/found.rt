@@ -169,6 +169,7 @@ fn note_detail(note: Note) -> Detail
         Note::WordOutsideImage { word } | Note::WordRelocatedTwice { word } => Detail::Word(word),
         Note::TrailingBytes { length } | Note::Overlap { length } | Note::UnownedBytes { length } =>
             { Detail::Length(length as u64) }
+        Note::SectionsOutOfOrder { sections } => Detail::Sections(u64::from(sections)),
         Note::ReservedNotZero
         | Note::UnknownKind
         | Note::UnknownShare

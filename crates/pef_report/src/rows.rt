@@ -118,5 +118,7 @@ pub enum Detail {
     Word(u64),
     /// A number of bytes.
     Length(u64),
+    /// A number of sections.
+    Sections(u64),
     None,
 }

@@ -1,7 +1,7 @@
 -- The first of all faults is the one that is reported alone.
-use Rattle.std.proofs.Common.{◌≡◌, ◌∙◌, ℕ, ◌+◌, ◌<◌, ◌≤◌, true, List, [], ◌∷◌, ◌++◌, Option, None, Some, refl, sym, ap, arith, length}
+use Rattle.std.proofs.Common.{◌≡◌, ◌∙◌, ℕ, ◌+◌, ◌<◌, ◌≤◌, false, true, List, [], ◌∷◌, ◌++◌, Option, None, Some, refl, sym, ap, arith, length}
 use Rattle.std.specs.Prelude.{Result, Ok, Err, nat_lt, not, ◌==◌, ◌&&◌}
-use Rattle.std.specs.Option.{is_none, is_some, option_or, option_map_or, unwrap_or}
+use Rattle.std.specs.Option.{is_none, is_some, option_or, option_map, option_map_or, unwrap_or}
 use Rattle.std.specs.Result.{result_err}
 use Rattle.std.proofs.lemmas.Bool.{ltb-false, le-leb, lt-ltb}
 use Rattle.pef_words.specs.Bytes.{number_at}
@@ -14,9 +14,9 @@ use Rattle.pef_views.specs.declared.section.SectionHeader.{SectionHeader}
 use Rattle.pef_views.specs.declared.fault.ViewFault.{ViewFault}
 use Rattle.pef_views.specs.declared.fault.ViewFault.TheVariants.{TooShort, NoLoader}
 use Rattle.pef_views.specs.Header.{header_of, header_tests, tag_tests, field_tests, names_from, section_header_from, joy, peff, pwpc, version_1}
-use Rattle.pef_views.specs.Section.{section_at, section_tests}
-use Rattle.pef_views.specs.Container.{Contained, container_of, judged, is_instantiated, loader_of, section_refusal, with_loader}
-use Rattle.pef_views.specs.Partial.{findings_in, findings_of, loader_tests, opened, partial_of, section_findings}
+use Rattle.pef_views.specs.Section.{raw_of, section_at, section_tests}
+use Rattle.pef_views.specs.Container.{Contained, any_loader, container_of, judged, is_instantiated, loader_of, section_refusal, with_loader}
+use Rattle.pef_views.specs.Partial.{findings_in, findings_of, is_out_of_order, loader_tests, opened, partial_of, section_findings, sections_allowed}
 use Rattle.pef_views.proofs.Headers.{tested_in_two}
 
 -- what is there
@@ -107,7 +107,7 @@ judged_opens bytes h c ok =
     let tags = neither (first_met (tag_tests h)) _ (sym (tested_in_two h (length bytes)) ∙ tested.0) in
     rw tags.0 (by (loader_of bytes h) sections.1)
   where
-    by : (loader : Option (List ℕ)) → with_loader bytes h loader ≡ Ok c → (let r : Result Contained ViewFault = Ok (record { bytes = bytes; header = h; loader = unwrap_or loader [] }) in r ≡ Ok c)
+    by : (loader : Option (List ℕ)) → with_loader bytes h loader ≡ Ok c → (let r : Result Contained ViewFault = Ok (record { bytes = bytes; header = h; loader = unwrap_or (option_or loader (option_map (raw_of bytes) (any_loader bytes h))) [] }) in r ≡ Ok c)
     by None ok = absurd (cc)
     by (Some loader) ok = ok
 
@@ -119,6 +119,11 @@ whole_container bytes c ok = by (header_of bytes) ok
     by : (h : Option Header) → option_map_or (judged bytes) h (Err TooShort) ≡ Ok c → option_map_or (λ h. unless (first_met (tag_tests h)) (Ok (opened bytes h))) h (Err TooShort) ≡ Ok c
     by None ok = absurd (cc)
     by (Some h) ok = judged_opens bytes h c ok
+
+-- with a loader section that isn't instantiated, rows may name the instantiated sections
+pub sections-in-order : (c : Contained) → is_none (loader_of c.bytes c.header) ≡ false → sections_allowed c ≡ c.header.instantiated_section_count
+unfolding is_out_of_order sections_allowed
+sections-in-order c there = rw there refl
 
 -- bytes that aren't refused are a container, namely what can be read of them
 pub unrefused_container : (bytes : List ℕ) (c : Contained) → partial_of bytes ≡ Ok c → result_err (container_of bytes) ≡ None → container_of bytes ≡ Ok c

@@ -10,3 +10,5 @@ pub use Rattle.pef_views.proofs.Written.{IsWritten, container_of-written}
 pub use Rattle.pef_views.proofs.Written.{header_tests-unmet, section_tests-unmet}
 -- the first of all faults is the one that is reported alone, and what can be read of a container is the container
 pub use Rattle.pef_views.proofs.FindingLemmas.{first_is_reported, unrefused_container, whole_container}
+-- with a loader section that isn't instantiated, rows of it may name the instantiated sections
+pub use Rattle.pef_views.proofs.FindingLemmas.{sections-in-order}

@@ -1,7 +1,7 @@
 -- Which bytes are a container and what it consists of, or the first refusal (Mac OS Runtime Architectures,
 -- "PEF Structure", container header, section headers, section name table and section contents).
 use Rattle.std.specs.Prelude.{◌≡◌, ℕ, ℤ, pos, negsuc, ◌+◌, ◌≤◌, false, Bool, List, Option, None, Some, option_map, Result, Ok, Err, IsTrue, nat_lt, length, if◌then◌else◌}
-use Rattle.std.specs.Option.{option_map_or}
+use Rattle.std.specs.Option.{option_map_or, option_or}
 use Rattle.pef_words.specs.Bytes.{name_at}
 use Rattle.pef_words.specs.Refusals.{◌>>=◌, first_met, first_among, unless}
 use Rattle.pef_format.specs.Sections.{is_instantiable, is_loader, is_packed, kind_of}
@@ -43,6 +43,14 @@ loader_offset_here bytes h i =
     if is_instantiated h i then None
     else section_at bytes i >>= (λ s. if is_loader (kind_of s.section_kind) then Some s.container_offset else None)
 
+-- the header of section i, if it is a loader section
+abbrev pub loader_header_at : List ℕ → ℕ → Option SectionHeader
+loader_header_at bytes i = section_at bytes i >>= (λ s. if is_loader (kind_of s.section_kind) then Some s else None)
+
+-- the first of all loader sections, whether they are instantiated or not
+abbrev pub any_loader : List ℕ → Header → Option SectionHeader
+any_loader bytes h = first_among (loader_header_at bytes) 0 h.section_count
+
 -- what the container consists of, if it has a loader section
 abbrev pub with_loader : List ℕ → Header → Option (List ℕ) → Result Contained ViewFault
 with_loader bytes h None = Err NoLoader
@@ -63,9 +71,10 @@ container_of bytes = option_map_or (judged bytes) (header_of bytes) (Err TooShor
 abbrev pub IsContainer : Contained → Type 0
 IsContainer c = container_of c.bytes ≡ Ok c
 
--- where the loader section begins
+-- where the loader section begins. If each one is instantiated, which no container has, it is the first of them
 unfoldable pub loader_offset_of : Contained → Option ℕ
-loader_offset_of c = first_among (loader_offset_here c.bytes c.header) 0 c.header.section_count
+loader_offset_of c = option_or (first_among (loader_offset_here c.bytes c.header) 0 c.header.section_count)
+    (option_map (λ s. s.container_offset) (any_loader c.bytes c.header))
 
 -- a section: its header and its raw bytes
 pub record Section : Type 0 where

@@ -1,6 +1,6 @@
 -- What can be read of bytes that needn't be a container, and all faults that they have.
-use Rattle.std.specs.Prelude.{ℕ, List, [], ◌∷◌, ◌++◌, Bool, Option, None, Result, Ok, Err, length, nat_lt, option_map, if◌then◌else◌}
-use Rattle.std.specs.Option.{is_none, option_map_or, unwrap_or}
+use Rattle.std.specs.Prelude.{ℕ, ◌&&◌, List, [], ◌∷◌, ◌++◌, Bool, Option, None, Result, Ok, Err, length, nat_lt, option_map, if◌then◌else◌}
+use Rattle.std.specs.Option.{is_none, is_some, option_map_or, option_or, unwrap_or}
 use Rattle.pef_words.specs.Findings.{all_among, all_met, found_in}
 use Rattle.pef_words.specs.Refusals.{◌>>=◌, first_met, unless}
 use Rattle.pef_views.specs.declared.header.Header.{Header}
@@ -8,12 +8,25 @@ use Rattle.pef_views.specs.declared.section.SectionHeader.{SectionHeader}
 use Rattle.pef_views.specs.declared.fault.ViewFault.{ViewFault}
 use Rattle.pef_views.specs.declared.fault.ViewFault.TheVariants.{TooShort, NoLoader}
 use Rattle.pef_views.specs.Header.{field_tests, header_of, tag_tests}
-use Rattle.pef_views.specs.Section.{section_at, section_tests}
-use Rattle.pef_views.specs.Container.{Contained, is_instantiated, loader_of, name_in}
+use Rattle.pef_views.specs.Section.{raw_of, section_at, section_tests}
+use Rattle.pef_views.specs.Container.{Contained, any_loader, is_instantiated, loader_of, name_in}
+
+-- the raw bytes of the loader section: the first that isn't instantiated, and if there is none, the first of all
+abbrev pub found_loader : List ℕ → Header → Option (List ℕ)
+found_loader bytes h = option_or (loader_of bytes h) (option_map (raw_of bytes) (any_loader bytes h))
 
 -- bytes with a header, whatever else is wrong. The loader section is empty if there is none
 abbrev pub opened : List ℕ → Header → Contained
-opened bytes h = record { bytes = bytes; header = h; loader = unwrap_or (loader_of bytes h) [] }
+opened bytes h = record { bytes = bytes; header = h; loader = unwrap_or (found_loader bytes h) [] }
+
+-- the loader section counts as instantiated: so the instantiated sections aren't the first ones
+unfoldable pub is_out_of_order : Contained → Bool
+is_out_of_order c = is_none (loader_of c.bytes c.header) && is_some (found_loader c.bytes c.header)
+
+-- the sections that a row of the loader section may name: the instantiated ones, and if those aren't the first ones, each
+-- that there is
+unfoldable pub sections_allowed : Contained → ℕ
+sections_allowed c = if is_out_of_order c then c.header.section_count else c.header.instantiated_section_count
 
 -- what can be read of some bytes, or why nothing can: they are too short for a header, or have another tag
 unfoldable pub partial_of : List ℕ → Result Contained ViewFault

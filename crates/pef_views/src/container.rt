@@ -1,12 +1,12 @@
 ghost use Rattle.std.specs.Prelude.{◌≡◌, ◌<◌, ◌≤◌, ◌↔◌, ◌^◌, Ok, IsSome, IfSome, option_map, length};
 ghost use Rattle.std.specs.Result.{result_err};
-ghost use Rattle.std.specs.Option.{option_copied};
+ghost use Rattle.std.specs.Option.{option_copied, option_or};
 ghost use Rattle.pef_words.specs.Refusals.{first_among, result_map};
-ghost use Rattle.pef_views.specs.Container.{IsInstantiable, container_of, loader_here, loader_of, loader_offset_here, loader_offset_of, section_refusal, section_name_of, section_of};
+ghost use Rattle.pef_views.specs.Container.{IsInstantiable, any_loader, container_of, loader_header_at, loader_here, loader_of, loader_offset_here, loader_offset_of, section_refusal, section_name_of, section_of};
 
 use crate::fault::ViewFault;
 use crate::header::{Header, names_at, read_header, test_header};
-use crate::section::{SectionView, raw_bytes, read_section, test_section};
+use crate::section::{SectionHeader, SectionView, raw_bytes, read_section, test_section};
 use pef_words::Cut;
 
 /// A container, seen in place.
@@ -165,8 +165,44 @@ fn loader_at<'a>(cut: Cut<'a>, header: Header, i: usize) -> Option<&'a [u8]>
     Some(raw_bytes(cut, section))
 }
 
-/// Returns where the first loader section that isn't instantiated begins.
+/// Returns where the loader section begins: the first that isn't instantiated, or the first of all.
 pub(crate) fn loader_offset(cut: Cut<'_>, header: Header) -> Option<usize>
+    ensures value { result ≡ option_or (first_among (loader_offset_here cut.entry.bytes.now header) 0 header.section_count) (option_map (λ s. s.container_offset) (any_loader cut.entry.bytes.now header)) }
+    ensures small { IfSome result (λ offset. offset < 2 ^ 32) }
+{
+    match behind_offset(cut, header) {
+        Some(offset) => Some(offset),
+        None => Some(any_loader(cut, header)?.container_offset as usize),
+    }
+}
+
+/// Returns the header of the first of all loader sections.
+pub(crate) fn any_loader(cut: Cut<'_>, header: Header) -> Option<SectionHeader>
+    ensures { result ≡ any_loader cut.entry.bytes.now header }
+{
+    for i in 0..usize::from(header.section_count) {
+        match loader_header_at(cut, i) {
+            Some(section) => return Some(section),
+            None => {}
+        }
+    }
+    None
+}
+
+/// Returns the header of section `i`, if it is a loader section.
+fn loader_header_at(cut: Cut<'_>, i: usize) -> Option<SectionHeader>
+    requires { i < 2 ^ 16 }
+    ensures { result ≡ loader_header_at cut.entry.bytes.now i }
+{
+    let section = read_section(cut, i)?;
+    if !section.kind().is_loader() {
+        return None;
+    }
+    Some(section)
+}
+
+/// Returns where the first loader section that isn't instantiated begins.
+fn behind_offset(cut: Cut<'_>, header: Header) -> Option<usize>
     ensures value { result ≡ first_among (loader_offset_here cut.entry.bytes.now header) 0 header.section_count }
     ensures small { IfSome result (λ offset. offset < 2 ^ 32) }
 {

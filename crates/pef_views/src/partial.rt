@@ -1,12 +1,12 @@
 ghost use Rattle.std.specs.Prelude.{◌≡◌, ◌<◌, ◌^◌, ◌∷◌, [], Some, option_map, Ok, IfSome, length};
-ghost use Rattle.std.specs.Option.{ForSome, option_copied};
+ghost use Rattle.std.specs.Option.{ForSome, is_none, option_copied};
 ghost use Rattle.pef_words.specs.Refusals.{result_map};
 ghost use Rattle.pef_views.specs.Container.{loader_of, loader_offset_of};
 ghost use Rattle.pef_views.specs.Header.{field_tests, names_from};
-ghost use Rattle.pef_views.specs.Partial.{header_in, loader_tests, name_of_section, opened, partial_of, tests_of_section};
+ghost use Rattle.pef_views.specs.Partial.{found_loader, header_in, is_out_of_order, loader_tests, name_of_section, opened, partial_of, sections_allowed, tests_of_section};
 ghost use Rattle.pef_views.specs.Section.{raw_of};
 
-use crate::container::{find_loader, loader_offset};
+use crate::container::{any_loader, find_loader, loader_offset};
 use crate::fault::ViewFault;
 use crate::header::{Header, field_table, names_at, read_header, test_tag};
 use crate::section::{SectionHeader, raw_bytes, read_section, section_table};
@@ -20,9 +20,11 @@ use pef_words::Cut;
 pub struct PartialContainer<'a> {
     cut: Cut<'a>,
     header: Header,
+    no_loader: bool,
     loader: Option<&'a [u8]>,
     loader_offset: Option<usize>,
-    ghost loads: { option_copied loader ≡ loader_of cut.bytes.now header },
+    ghost lacks: { no_loader ≡ is_none (loader_of cut.bytes.now header) },
+    ghost loads: { option_copied loader ≡ found_loader cut.bytes.now header },
     ghost begins: { loader_offset ≡ loader_offset_of (opened cut.bytes.now header) },
     ghost small: { ForSome loader_offset (λ offset. offset < 2 ^ 32) },
 }
@@ -42,10 +44,12 @@ impl<'a> PartialContainer<'a> {
         let cut = Cut::new(bytes);
         let header = read_header(cut).ok_or(ViewFault::TooShort)?;
         test_tag(header)?;
+        let behind = find_loader(cut, header);
         Ok(PartialContainer {
             cut,
             header,
-            loader: find_loader(cut, header),
+            no_loader: behind.is_none(),
+            loader: found_loader(cut, header, behind),
             loader_offset: loader_offset(cut, header),
         })
     }
@@ -100,10 +104,10 @@ impl<'a> PartialContainer<'a> {
         names_at(self.header)
     }
 
-    /// Returns the raw bytes of the loader section, as far as they are in the container, or `None` if none of the sections
-    /// that aren't instantiated is a loader section.
+    /// Returns the raw bytes of the loader section, as far as they are in the container, or `None` if there is none: of the
+    /// first that isn't instantiated, or if each one is, of the first of all.
     pub fn loader(&self) -> Option<&'a [u8]>
-        ensures { option_copied result ≡ loader_of (partly self.now).bytes (partly self.now).header }
+        ensures { option_copied result ≡ found_loader (partly self.now).bytes (partly self.now).header }
     {
         self.loader
     }
@@ -113,6 +117,27 @@ impl<'a> PartialContainer<'a> {
         ensures { result.now ≡ (partly self.now).loader }
     {
         self.loader.unwrap_or(&[])
+    }
+
+    /// Returns whether the loader section counts as instantiated: then the instantiated sections aren't the first ones.
+    #[tactic(auto, unfolding(crate::specs::Partial::is_out_of_order))]
+    pub fn is_out_of_order(&self) -> bool
+        ensures { result ≡ is_out_of_order (partly self.now) }
+    {
+        self.no_loader && self.loader.is_some()
+    }
+
+    /// Returns how many sections a row of the loader section may name: the instantiated ones, or if those aren't the first
+    /// ones, all that there are.
+    #[tactic(auto, unfolding(crate::specs::Partial::sections_allowed))]
+    pub fn sections_allowed(&self) -> u16
+        ensures { result ≡ sections_allowed (partly self.now) }
+    {
+        if self.is_out_of_order() {
+            self.header.section_count
+        } else {
+            self.header.instantiated_section_count
+        }
     }
 
     /// Returns the offset of the first byte of the loader section.
@@ -151,6 +176,18 @@ impl<'a> PartialContainer<'a> {
     pub fn loader_tests(&self) -> [(bool, ViewFault); 1]
         ensures { result ≡ loader_tests (partly self.now) }
     {
-        [(self.loader.is_none(), ViewFault::NoLoader)]
+        [(self.no_loader, ViewFault::NoLoader)]
+    }
+}
+
+/// Returns the raw bytes of the loader section: those of the first that isn't instantiated, which was looked for, or of the
+/// first of all.
+fn found_loader<'a>(cut: Cut<'a>, header: Header, behind: Option<&'a [u8]>) -> Option<&'a [u8]>
+    requires { option_copied behind ≡ loader_of cut.bytes.now header }
+    ensures { option_copied result ≡ found_loader cut.entry.bytes.now header }
+{
+    match behind {
+        Some(loader) => Some(loader),
+        None => Some(raw_bytes(cut, any_loader(cut, header)?)),
     }
 }

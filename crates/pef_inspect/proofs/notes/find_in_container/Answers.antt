@@ -2,6 +2,7 @@
 use Rattle.std.proofs.Common.{◌≡◌, ◌∙◌, ◌++◌, Bool, List, ap}
 use Rattle.pef_words.specs.Findings.{all_among, all_met}
 use Rattle.pef_views.specs.declared.header.Header.{Header}
+use Rattle.pef_views.specs.Partial.{sections_allowed}
 use Rattle.pef_views.specs.PartialViews.{partly}
 use Rattle.pef_loader.specs.Partial.{partial_of}
 use Rattle.pef_inspect.specs.declared.finding.Finding.{Finding}
@@ -20,7 +21,7 @@ returns g c =
     let behind = c.in_ok-find_behind.ensures in
     let header = all_met (header_notes p) in
     let sections = all_among (section_row p) 0 p.header.section_count in
-    let rest = behind_notes c.args.limits p (partial_of p.header.instantiated_section_count p.loader) behind.answer in
+    let rest = behind_notes c.args.limits p (partial_of (sections_allowed p) p.loader) behind.answer in
     let e1 : t1 ≡ t0 ++ header = c.in_ok-take_met.ensures ∙ ap (λ (tests : List (Bool × Finding)). t0 ++ all_met tests) c.header_notes.ensures in
     let e2 : t2 ≡ t1 ++ sections = c.in_ok-take_rows.ensures ∙ ap (λ n. t1 ++ all_among (section_row p) 0 n) (c.from-count.ensures ∙ ap (λ (h : Header). h.section_count) c.header.ensures) in
     record {

@@ -2,7 +2,7 @@
 use Rattle.std.proofs.Common.{◌≡◌, ◌-◌}
 use Rattle.pef_words.specs.Refusals.{first_among}
 use Rattle.pef_views.specs.Container.{loader_offset_here}
-use Rattle.pef_views.proofs.container.loader_offset.Given as goal
+use Rattle.pef_views.proofs.container.behind_offset.Given as goal
 
 abbrev pub invariant-loop-i : goal.invariant-loop-i
 invariant-loop-i l =
