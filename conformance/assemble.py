@@ -40,6 +40,7 @@ class Loader:
     main: Tuple[int, int] = (-1, 0)
     init: Tuple[int, int] = (-1, 0)
     term: Tuple[int, int] = (-1, 0)
+    power: Optional[int] = None  # that of the number of exports, if nothing else is said
 
 
 def hash_word(name: bytes) -> int:
@@ -55,9 +56,10 @@ def slot(word: int, power: int) -> int:
     return (word ^ word >> power) & (1 << power) - 1
 
 
-def export_table(exports, names_at: int) -> Tuple[int, bytes, bytes]:
+def export_table(exports, names_at: int, power: Optional[int] = None) -> Tuple[int, bytes, bytes]:
     """The power, the slots with keys and exports, and the names of the exports; the names begin at names_at in the strings."""
-    power = next(p for p in range(17) if p == 16 or len(exports) >> p < 10)
+    if power is None:
+        power = next(p for p in range(17) if p == 16 or len(exports) >> p < 10)
     keyed = sorted(exports, key=lambda export: slot(hash_word(export[0]), power))
     first, slots, keys, rows, names = 0, b"", b"", b"", b""
     for number in range(1 << power):
@@ -91,7 +93,7 @@ def loader_section(it: Loader) -> Tuple[bytes, Dict[str, int]]:
         at[f"relocation {number}"] = 56 + len(tables)
         tables += struct.pack(">HHII", section, 0, len(halfwords), len(instructions))
         instructions += b"".join(struct.pack(">H", halfword) for halfword in halfwords)
-    power, table, names = export_table(it.exports, len(strings))
+    power, table, names = export_table(it.exports, len(strings), it.power)
     strings += names
     at["instructions"] = 56 + len(tables)
     at["strings"] = at["instructions"] + len(instructions)

@@ -1,10 +1,10 @@
 //! Closures as texts.
 
-use cfm_closure::{BindFault, Closure, Store, Target, closure};
+use cfm_closure::{BindFault, Closure, Target, closure};
 use std::alloc::Global;
 use std::fmt::Write;
 use std::process::Abort;
-use test_links::fragments::{Fragment, add, containers, store_of};
+use test_links::fragments::{Fragment, containers, store_of};
 use test_links::tell_names;
 
 /// Returns the closure of the first fragment of a store as a text: its order, the order of
@@ -12,29 +12,8 @@ use test_links::tell_names;
 pub(crate) fn told(rt: &impl Abort, alloc: Global, fragments: &[Fragment]) -> String {
     let containers = containers(alloc, fragments).expect(rt, "containers");
     let store = store_of(alloc, fragments, &containers).expect(rt, "a store");
-    reported_of(rt, alloc, &store)
-}
-
-/// Returns the same for fragments with these names and bytes.
-pub(crate) fn reported_of_pairs(rt: &impl Abort, alloc: Global, pairs: &[(&str, &[u8])]) -> String {
-    let store = store_of_pairs(rt, alloc, pairs);
-    reported_of(rt, alloc, &store)
-}
-
-/// Returns a store of fragments with these names and bytes.
-fn store_of_pairs<'a>(rt: &impl Abort, alloc: Global, pairs: &[(&'a str, &'a [u8])]) -> Store<'a> {
-    let mut store = Store::new(alloc);
-    for pair in pairs {
-        let (name, bytes) = *pair;
-        add(&mut store, name, bytes).expect(rt, "room in the store");
-    }
-    store
-}
-
-/// Returns the same for a store.
-fn reported_of(rt: &impl Abort, alloc: Global, store: &Store<'_>) -> String {
     assert!(rt; !store.is_empty());
-    reported(rt, alloc, closure(alloc, store, 0))
+    reported(rt, alloc, closure(alloc, &store, 0))
 }
 
 /// Returns the same for the answer of a call.

@@ -1,5 +1,4 @@
-use crate::listings::VECTORS_LISTED;
-use crate::load::VECTORS_LOADED;
+use crate::worked::{VECTORS_LISTED, VECTORS_LOADED};
 use pef_ports::{InputFault, read_input};
 use pef_tool::FileFault;
 use std::alloc::Global;

@@ -1,9 +1,11 @@
 //! Runs each command with failing allocations. These tests show this if they are run with one allocation after another
 //! refused, as by `tools/refuse-memory`.
 
-use crate::listings::VECTORS_LISTED;
-use pef_tool::FileFault;
+use crate::worked::VECTORS_LISTED;
+use pef_ports::system::DiskFiles;
+use pef_tool::{FileFault, Files};
 use std::alloc::Global;
+use std::fs;
 use std::test::Fail;
 use test_bench::containers::VECTORS_LEAST;
 use test_bench::mac_files::fragment_fork;
@@ -150,4 +152,19 @@ fn inspect(rt: HostRuntime) -> Result<(), Fail> {
         b"",
         INSPECTED,
     )
+}
+
+/// A real file is read whole, or an allocation fails, which isn't a failure of the file.
+#[test]
+fn read_file(rt: HostRuntime) -> Result<(), Fail> {
+    let bytes = [7; 40_000];
+    let mut files = DiskFiles::new(&rt);
+    files.write(b"read with little memory", &bytes)?;
+    println!(rt; "begins")?;
+    let found = files.read(rt.alloc(), b"read with little memory");
+    let refused = matches!(found, Err(FileFault::OutOfMemory));
+    assert!(rt; refused || found.is_ok_and(|found| found.as_slice() == bytes.as_slice()));
+    println!(rt; "{}", if refused { "refused" } else { "answered" })?;
+    fs::remove_file(&rt, "read with little memory")?;
+    Ok(())
 }

@@ -69,7 +69,7 @@ fn tell_step(rt: &impl Abort, text: &mut String, context: &mut Context<'_>, step
 }
 
 /// Takes a step, and writes its result.
-pub(crate) fn take_step(rt: &impl Abort, text: &mut String, context: &mut Context<'_>, step: Step) {
+fn take_step(rt: &impl Abort, text: &mut String, context: &mut Context<'_>, step: Step) {
     match step {
         Step::Prepare(name) => tell_prepared(rt, text, context.prepare(name.as_bytes())),
         Step::Close(number) => tell_closed(rt, text, context.close(Connection(number))),

@@ -4,7 +4,7 @@ use cfm_closure::Store;
 use cfm_prepare::Context;
 use std::alloc::Global;
 use std::process::Abort;
-use test_data::changes::{At, Change, changed};
+use test_data::changes::{At, changed};
 use test_data::containers::VECTORS_LEAST;
 use test_data::scripts::{LIBRARY, USER};
 use test_links::fragments::{Fragment, add};
@@ -43,78 +43,6 @@ fn bad_program(rt: HostRuntime) {
         "a changed container",
     );
     take_steps_over_changed(&rt, rt.alloc(), &longer);
-}
-
-/// A library of pattern-initialized data: seven packed bytes for eight.
-const PACKED: Fragment = (
-    "L",
-    "versions 1 0 0\nsection l data process 4 8\nbytes l 620102AABB0102\nexport v data l 0\n",
-    &[(At::Front(55), &[8]), (At::Front(64), &[2])],
-);
-
-/// The same, with a byte that isn't an opcode.
-const BAD_PACKED: Fragment = (
-    "L",
-    "versions 1 0 0\nsection l data process 4 8\nbytes l A2\nexport v data l 0\n",
-    &[(At::Front(55), &[1]), (At::Front(64), &[2])],
-);
-
-const PACKED_LIBRARIES: &[Case] = &[
-    (
-        &[("A", USER, &[]), PACKED],
-        &[(
-            Prepare("A"),
-            "0, A 00010010 00010000, L 00010000 AABB01AABB02AABB",
-        )],
-    ),
-    (
-        &[("A", USER, &[]), BAD_PACKED],
-        &[(Prepare("A"), "22 BadOpcode L")],
-    ),
-];
-
-#[test]
-fn packed_library(rt: HostRuntime) {
-    for (fragments, steps) in PACKED_LIBRARIES {
-        take_steps(&rt, rt.alloc(), fragments, LIMIT, steps);
-    }
-}
-
-/// A change that makes the export of a fragment, its last, pass on import 0.
-pub(crate) const PASSED: &[Change] = &[(At::End(2), b"\xFF\xFD")];
-
-/// An import that two fragments pass on, one to the next.
-const PASSED_ON: &[Fragment] = &[
-    (
-        "A",
-        "library N 1 0 -\nimport t data strong\nsection a data process 4 4\nfix a 0 import t\n",
-        &[],
-    ),
-    (
-        "N",
-        "versions 1 0 0\nlibrary M 1 0 -\nimport u data strong\nsection n data process 4 4\nexport t data n 0\n",
-        PASSED,
-    ),
-    (
-        "M",
-        "versions 1 0 0\nlibrary L 1 0 -\nimport v data strong\nsection m data process 4 4\nexport u data m 0\n",
-        PASSED,
-    ),
-    (
-        "L",
-        "versions 1 0 0\nsection l data process 4 8\nexport v data l 4\n",
-        &[],
-    ),
-];
-
-const PASSED_ON_STEPS: &[(Step, &str)] = &[(
-    Prepare("A"),
-    "0, A 00010030 00010004, N 00010020 00000000, M 00010010 00000000, L 00010000 0000000000000000",
-)];
-
-#[test]
-fn passed_on_twice(rt: HostRuntime) {
-    take_steps(&rt, rt.alloc(), PASSED_ON, LIMIT, PASSED_ON_STEPS);
 }
 
 const WEAK_IMPORT: &str =

@@ -2,7 +2,6 @@
 
 use cfm_closure::{Closure, Store, closure};
 use std::alloc::Global;
-use std::fmt::Write;
 use std::process::Abort;
 use test_links::fragments::{add, container};
 
@@ -11,30 +10,16 @@ pub(crate) const FRAGMENTS: usize = 256;
 
 /// Which of the fragments each of them needs.
 #[derive(Clone, Copy)]
-pub(crate) enum Needs {
+enum Needs {
     /// The next one; the last needs none.
     Next,
     /// The next one, and the last needs the first.
     NextInRing,
-    /// All.
-    All,
 }
 
-/// Returns the script of a fragment that needs all.
-fn needing_all(rt: &impl Abort, alloc: Global) -> String {
-    let mut text = String::new(alloc);
-    for q in 0..FRAGMENTS {
-        write!(text, "library f{q} 0 0 -\n").expect(rt, "memory");
-    }
-    text
-}
-
-/// Returns the script of a fragment that needs another one, and whose word is the address of that fragment's word.
-/// If the store has no such fragment, the word is 0.
+/// Returns the script of a fragment that needs another one, if the store has it.
 fn needing_next(rt: &impl Abort, alloc: Global, next: usize) -> String {
-    format!(in alloc;
-        "library f{next} 0 0 weak\nimport v data strong\nsection s data process 4 4\nfix s 0 import v\nexport v data s 0\n"
-    ).expect(rt, "memory")
+    format!(in alloc; "library f{next} 0 0 weak\n").expect(rt, "memory")
 }
 
 /// Returns the script of a fragment.
@@ -43,12 +28,11 @@ fn script(rt: &impl Abort, alloc: Global, p: usize, needs: Needs) -> String {
     match needs {
         Needs::Next => needing_next(rt, alloc, next),
         Needs::NextInRing => needing_next(rt, alloc, next % FRAGMENTS),
-        Needs::All => needing_all(rt, alloc),
     }
 }
 
 /// Returns the containers of all fragments.
-pub(crate) fn containers(rt: &impl Abort, alloc: Global, needs: Needs) -> Vec<Vec<u8>> {
+fn containers(rt: &impl Abort, alloc: Global, needs: Needs) -> Vec<Vec<u8>> {
     let mut containers = Vec::new(alloc);
     for p in 0..FRAGMENTS {
         let text = script(rt, alloc, p, needs);
@@ -59,7 +43,7 @@ pub(crate) fn containers(rt: &impl Abort, alloc: Global, needs: Needs) -> Vec<Ve
 }
 
 /// Returns the names of all fragments.
-pub(crate) fn names(rt: &impl Abort, alloc: Global) -> Vec<String> {
+fn names(rt: &impl Abort, alloc: Global) -> Vec<String> {
     let mut names = Vec::new(alloc);
     for p in 0..FRAGMENTS {
         let name = format!(in alloc; "f{p}").expect(rt, "memory");
@@ -69,7 +53,7 @@ pub(crate) fn names(rt: &impl Abort, alloc: Global) -> Vec<String> {
 }
 
 /// Returns the store of these fragments.
-pub(crate) fn store_of_all<'a>(
+fn store_of_all<'a>(
     rt: &impl Abort,
     alloc: Global,
     names: &'a [String],
@@ -108,12 +92,11 @@ fn test_closure(rt: &impl Abort, alloc: Global, names: &[String], needs: Needs) 
     test_first(rt, alloc, &store);
 }
 
-/// Each fragment needs the next one, and each needs all. A ring, in which the last needs the first, gives the same
-/// result.
+/// Each fragment needs the next one. A ring, in which the last needs the first, gives the same result.
 #[test]
-fn chain_ring_and_complete_graph(rt: HostRuntime) {
+fn chain_and_ring(rt: HostRuntime) {
     let names = names(&rt, rt.alloc());
-    for needs in [Needs::Next, Needs::NextInRing, Needs::All] {
+    for needs in [Needs::Next, Needs::NextInRing] {
         test_closure(&rt, rt.alloc(), &names, needs);
     }
 }

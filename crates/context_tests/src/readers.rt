@@ -5,10 +5,9 @@ use std::fmt::Write;
 use std::process::Abort;
 use test_data::scripts::LIBRARY;
 use test_links::fragments::{Fragment, containers};
-use test_links::tell_name;
 
 /// A fragment with a main entry, an export of its own, and one of a library that is initialized before it.
-pub(crate) const A: Fragment = (
+const A: Fragment = (
     "A",
     "library L 1 0 before\nimport v data strong\nsection a data process 4 8\nfix a 0 import v\nexport own data a 4\nmain a 4\n",
     &[],
@@ -125,66 +124,27 @@ fn readers(rt: HostRuntime) {
     test_open_and_closed(&rt, rt.alloc(), &mut context);
 }
 
-/// Returns how a context prints itself, and its fragments with their sections, as a text.
-fn told_fragments(rt: &impl Abort, alloc: Global, context: &Context<'_>) -> String {
-    let mut text = String::new(alloc);
-    write!(text, "{context:?}:").expect(rt, "memory");
-    for (position, (name, _)) in context.store().pairs().iter().enumerate() {
-        tell_name(&mut text, name).expect(rt, "memory");
-        for (address, bytes) in context.sections(position) {
-            tell_memory(rt, &mut text, address, bytes);
-        }
-    }
-    text
-}
-
-fn test_fragments(rt: &impl Abort, alloc: Global, context: &Context<'_>, wanted: &str) {
-    let told = told_fragments(rt, alloc, context);
-    assert!(rt; told.as_str() == wanted);
-}
-
-/// Tests the sections of the fragments before a connection is open, while it is, and after it is closed.
-fn test_sections(rt: &impl Abort, alloc: Global, context: &mut Context<'_>) {
-    test_fragments(
-        rt,
-        alloc,
-        context,
-        "Context { fragments: 2, connections: 0 }: A L",
-    );
+/// Tests how a context prints itself, and its store and a closure. A connection that is closed counts, and has no closure.
+fn test_printed(rt: &impl Abort, alloc: Global, context: &mut Context<'_>) {
+    let told = format!(in alloc; "{context:?}").expect(rt, "memory");
+    assert!(rt; told.as_str() == "Context { fragments: 2, connections: 0 }");
     assert!(rt; context.prepare(b"A").is_ok());
-    test_fragments(
-        rt,
-        alloc,
-        context,
-        "Context { fragments: 2, connections: 1 }: A 00010010 0001000000000000 L 00010000 0000002A",
-    );
     assert!(rt; context.close(Connection(0)).is_ok());
-    test_fragments(
-        rt,
-        alloc,
-        context,
-        "Context { fragments: 2, connections: 1 }: A L",
-    );
-}
-
-/// Tests how the store and the closure of a connection that is open print themselves, and that a connection
-/// that isn't open has no closure.
-fn test_closure(rt: &impl Abort, alloc: Global, context: &mut Context<'_>) {
     assert!(rt; context.prepare(b"A") == Ok(Connection(1)));
     let (store, closure) = (context.store(), context.closure(Connection(1)));
-    let told = format!(in alloc; "{store:?}, {closure:?}").expect(rt, "memory");
+    let told = format!(in alloc; "{context:?}, {store:?}, {closure:?}").expect(rt, "memory");
     assert!(rt;
-        told.as_str() == "Store { pairs: 2 }, Some(Closure { order: [1, 0], init_order: [1, 0] })"
+        told.as_str()
+            == "Context { fragments: 2, connections: 2 }, Store { pairs: 2 }, Some(Closure { order: [1, 0], init_order: [1, 0] })"
     );
     assert!(rt; context.closure(Connection(0)).is_none());
 }
 
 #[test]
-fn sections_and_closures(rt: HostRuntime) {
+fn printed(rt: HostRuntime) {
     let containers = containers(rt.alloc(), FRAGMENTS).expect(&rt, "containers");
     let mut context = context_of(&rt, rt.alloc(), FRAGMENTS, &containers, LIMIT);
-    test_sections(&rt, rt.alloc(), &mut context);
-    test_closure(&rt, rt.alloc(), &mut context);
+    test_printed(&rt, rt.alloc(), &mut context);
 }
 
 /// Returns the number of a connection to a fragment, or that of its refusal.

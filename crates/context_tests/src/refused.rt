@@ -1,11 +1,10 @@
 //! Calls in which an allocation fails. To test this, run it with one allocation failing after another, as
 //! `tools/refuse-memory` does.
 
-use crate::added::empty;
 use crate::fixture::{LIMIT, context_of, tell_memory};
 use crate::readers::{prepared, test_reported, told};
 use cfm_memory::{Memory, MemoryFault, Place};
-use cfm_prepare::{AddFault, Connection, Context};
+use cfm_prepare::{AddFault, Connection, Context, Store};
 use std::alloc::Global;
 use std::fmt::Write;
 use std::process::Abort;
@@ -188,7 +187,7 @@ fn add_until_answered(rt: &impl Abort, context: &mut Context<'_>) -> bool {
 /// If an allocation fails in `add`, the context is unchanged.
 #[test]
 fn added_again(rt: HostRuntime) -> Result<(), Fail> {
-    let mut context = empty(rt.alloc());
+    let mut context = Context::new(rt.alloc(), Store::new(rt.alloc()), LIMIT);
     for name in FIRST_NAMES {
         assert!(rt; context.add(name, b"a").is_ok());
     }

@@ -1,7 +1,9 @@
 use crate::fixture::Step::{Close, Prepare};
-use crate::fixture::{LIMIT, Step, take_steps};
+use crate::fixture::{LIMIT, Step, context_of, take_steps};
+use crate::readers::prepared;
+use cfm_prepare::{Connection, Context};
 use test_data::scripts::{LIBRARY, USER};
-use test_links::fragments::Fragment;
+use test_links::fragments::{Fragment, containers};
 
 /// Two fragments that need a library.
 pub(crate) const USERS: &[Fragment] = &[("A", USER, &[]), ("B", USER, &[]), ("L", LIBRARY, &[])];
@@ -72,59 +74,21 @@ fn no_room(rt: HostRuntime) {
     take_steps(&rt, rt.alloc(), USERS, 0x0001_0010, NO_ROOM);
 }
 
-/// Two libraries, and a third, D, that both share.
-const SHARERS: &[Fragment] = &[
-    (
-        "B",
-        "versions 1 0 0\nlibrary D 1 0 -\nimport d data strong\nsection b data process 4 4\nfix b 0 import d\nexport b data b 0\n",
-        &[],
-    ),
-    (
-        "C",
-        "versions 1 0 0\nlibrary D 1 0 -\nimport d data strong\nsection c data process 4 4\nbytes c 00000001\nfix c 0 import d\nexport c data c 0\n",
-        &[],
-    ),
-    (
-        "D",
-        "versions 1 0 0\nsection d data process 4 4\nbytes d 000000DD\nexport d data d 0\n",
-        &[],
-    ),
-];
+/// Returns the address of a symbol of a connection.
+fn symbol(context: &Context<'_>, connection: u32) -> Option<u32> {
+    context.symbol(Connection(connection), b"v")
+}
 
-/// Twenty preparations and closings.
-const TWENTY: &[(Step, &str)] = &[
-    (Prepare("B"), "0, B 00010010 00010000, D 00010000 000000DD"),
-    (
-        Prepare("C"),
-        "1, B 00010010 00010000, C 00010020 00010001, D 00010000 000000DD",
-    ),
-    (Close(0), "closed, C 00010020 00010001, D 00010000 000000DD"),
-    (Prepare("D"), "2, C 00010020 00010001, D 00010000 000000DD"),
-    (Close(1), "closed, D 00010000 000000DD"),
-    (Prepare("C"), "3, C 00010010 00010001, D 00010000 000000DD"),
-    (Close(2), "closed, C 00010010 00010001, D 00010000 000000DD"),
-    (
-        Prepare("B"),
-        "4, B 00010020 00010000, C 00010010 00010001, D 00010000 000000DD",
-    ),
-    (Close(3), "closed, B 00010020 00010000, D 00010000 000000DD"),
-    (Prepare("B"), "5, B 00010020 00010000, D 00010000 000000DD"),
-    (Close(4), "closed, B 00010020 00010000, D 00010000 000000DD"),
-    (
-        Close(4),
-        "68 BadConnection, B 00010020 00010000, D 00010000 000000DD",
-    ),
-    (Close(5), "closed"),
-    (Prepare("D"), "6, D 00010000 000000DD"),
-    (Prepare("D"), "7, D 00010000 000000DD"),
-    (Close(6), "closed, D 00010000 000000DD"),
-    (Prepare("B"), "8, B 00010010 00010000, D 00010000 000000DD"),
-    (Close(7), "closed, B 00010010 00010000, D 00010000 000000DD"),
-    (Close(8), "closed"),
-    (Prepare("C"), "9, C 00010010 00010001, D 00010000 000000DD"),
-];
-
+/// A closed connection has no symbols, also while another one needs its fragment.
 #[test]
-fn twenty_steps(rt: HostRuntime) {
-    take_steps(&rt, rt.alloc(), SHARERS, LIMIT, TWENTY);
+fn symbols(rt: HostRuntime) {
+    let containers = containers(rt.alloc(), USERS).expect(&rt, "containers");
+    let mut context = context_of(&rt, rt.alloc(), USERS, &containers, LIMIT);
+    for number in 0..2 {
+        assert!(rt; prepared(&mut context, b"L") == Ok(number));
+        assert!(rt; symbol(&context, number) == Some(0x0001_0000));
+    }
+    assert!(rt; context.close(Connection(0)).is_ok());
+    assert!(rt; symbol(&context, 0).is_none() && symbol(&context, 2).is_none());
+    assert!(rt; symbol(&context, 1) == Some(0x0001_0000));
 }

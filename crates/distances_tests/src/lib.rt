@@ -9,5 +9,3 @@ mod check;
 mod distances;
 #[cfg(test)]
 mod large;
-#[cfg(test)]
-mod plans;

@@ -1,8 +1,7 @@
-//! Tests of the findings of containers. They go through public calls. The places of all damages were written down by hand.
+//! Tests of the findings of containers: notes, limits, and calls that no command makes. They go through public calls. The
+//! places of all notes were written down by hand. `conformance/inspect` and `cases/` have errors.
 #![tactic(auto)]
 
-#[cfg(test)]
-mod findings;
 #[cfg(test)]
 mod inspection;
 #[cfg(test)]

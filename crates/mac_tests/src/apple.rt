@@ -1,6 +1,5 @@
-use crate::fixture::{APPLE, APPLE_LEN, Written, front, is_part, part_fault, rewritten, written};
+use crate::fixture::{APPLE, APPLE_LEN, Written, is_part, part_fault, rewritten, written};
 use mac_forks::{AppleFile, ForkFault, ForkFormat, MacFile};
-use std::process::Abort;
 
 #[test]
 fn parts(rt: HostRuntime) {
@@ -53,31 +52,6 @@ fn double(rt: HostRuntime) {
     assert!(rt; mac.format() == ForkFormat::AppleDouble);
     assert!(rt; mac.data_fork().is_none());
     assert!(rt; is_part(mac.resource_fork(), 175, b"RES"));
-}
-
-/// Returns the error of a file's header.
-fn header_fault(file: &[u8]) -> Option<ForkFault> {
-    match MacFile::read(file) {
-        Ok(_) => None,
-        Err(fault) => Some(fault),
-    }
-}
-
-#[test]
-fn headers(rt: HostRuntime) {
-    let file = written(rt.alloc(), APPLE_LEN, APPLE).expect(&rt, "a file");
-    for len in 0..=30 {
-        let want = match len {
-            4..26 => Some(ForkFault::AppleHeaderCut),
-            _ => None,
-        };
-        assert!(rt;
-            header_fault(front(&file, len)) == want,
-            "the first {len} bytes"
-        );
-    }
-    let other = rewritten(rt.alloc(), APPLE_LEN, APPLE, &[(5, b"\x03")]).expect(&rt, "a file");
-    assert!(rt; header_fault(&other) == Some(ForkFault::BadAppleVersion));
 }
 
 #[test]

@@ -32,12 +32,6 @@ pub(crate) fn rewritten(
     Some(file)
 }
 
-/// Returns the first `len` bytes, or all if there are fewer.
-pub(crate) fn front(bytes: &[u8], len: usize) -> &[u8] {
-    let (front, _) = bytes.split_at(len.min(bytes.len()));
-    front
-}
-
 /// Returns whether a part is there, begins at an offset and has some bytes.
 pub(crate) fn is_part(
     part: Option<Result<Part<'_>, ForkFault>>,

@@ -5,13 +5,9 @@
 #[cfg(test)]
 mod apple;
 #[cfg(test)]
-mod faults;
-#[cfg(test)]
 mod fixture;
 #[cfg(test)]
 mod fragments;
-#[cfg(test)]
-mod kinds;
 #[cfg(test)]
 mod mac_binary;
 #[cfg(test)]

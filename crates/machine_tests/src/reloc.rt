@@ -30,24 +30,12 @@ fn apply_refusal(bytes: &[u8], memory: &mut [u8], sections: &[u32], imports: &[u
 /// The bytes of a program, the number of its refusal, 0 for none, and the offset of the instruction that is
 /// refused.
 const READ: &[(&[u8], u32, Option<usize>)] = &[
-    (&[], 0, None),
-    (&[0x42, 0x00], 0, None),
-    (&[0x42, 0x00, 0x90, 0x01], 0, None),
-    (&[0x42, 0x00, 0xB0, 0x00, 0x00, 0x00], 0, None),
     (&[0x4C, 0x00], 31, Some(0)),
     (&[0xB4, 0xC0, 0x00, 0x00], 31, Some(0)),
-    (&[0xB4, 0xC0], 31, Some(0)),
-    (&[0xC0, 0x00], 31, Some(0)),
-    (&[0x4C], 32, Some(0)),
-    (&[0x42, 0x00, 0x42], 32, Some(2)),
     (&[0xA0, 0x00], 32, Some(0)),
-    (&[0xA0, 0x00, 0x00], 32, Some(0)),
-    (&[0x90, 0x00], 33, Some(0)),
     (&[0x42, 0x00, 0x91, 0x00], 33, Some(2)),
     (&[0xA0, 0x00, 0x00, 0x00, 0x90, 0x00], 34, Some(4)),
-    (&[0x42, 0x00, 0xA0, 0x00, 0x00, 0x00, 0x92, 0x00], 0, None),
     (&[0x42, 0x00, 0x90, 0x01, 0x90, 0x01], 35, Some(4)),
-    (&[0x42, 0x00, 0x90, 0x01, 0x42, 0x00, 0x90, 0x01], 0, None),
     // Four instructions, 4,194,303 times four more, and the repeat itself: 16,777,217 steps.
     (
         &[
@@ -56,26 +44,11 @@ const READ: &[(&[u8], u32, Option<usize>)] = &[
         36,
         Some(8),
     ),
-    (
-        &[
-            0x80, 0x00, 0x80, 0x00, 0x80, 0x00, 0x80, 0x00, 0xB0, 0xFF, 0xFF, 0xFE,
-        ],
-        0,
-        None,
-    ),
-    // The offset is that of the instruction, after others of one and two halfwords.
-    (&[0x42, 0x00, 0x4C, 0x00], 31, Some(2)),
-    (
-        &[0xA0, 0x00, 0x00, 0x00, 0x42, 0x00, 0xC0, 0x00],
-        31,
-        Some(6),
-    ),
-    (&[0x42, 0x00, 0xA0, 0x00], 32, Some(2)),
-    (
-        &[0xA0, 0x00, 0x00, 0x00, 0xB0, 0x80, 0x00, 0x00],
-        33,
-        Some(4),
-    ),
+    (MOST_STEPS, 0, None),
+    // No container has a program with an odd last byte.
+    (&[0x4C], 32, Some(0)),
+    (&[0x42, 0x00, 0x42], 32, Some(2)),
+    (&[0xA0, 0x00, 0x00], 32, Some(0)),
 ];
 
 #[test]
@@ -272,7 +245,7 @@ fn instructions_walked(rt: HostRuntime) {
 const ZEROS: &[u8] = &[0; 12];
 
 /// A program's bytes, memory, the addresses of sections and of imports, and then the refusal and
-/// the memory after it.
+/// the memory after it. No preparation shows what was added before a refusal.
 const APPLIED: &[(&[u8], &[u8], &[u32], &[u32], Refusal, &[u8])] = &[
     (
         &[0x42, 0x00, 0x90, 0x01],
@@ -323,31 +296,6 @@ const APPLIED: &[(&[u8], &[u8], &[u32], &[u32], Refusal, &[u8])] = &[
         (38, Some(0), Some(4)),
         &[0, 0, 0, 7, 0, 0, 0, 0, 0, 0, 0, 0],
     ),
-    (
-        &[0x80, 0x08, 0x40, 0x00],
-        ZEROS,
-        &[0x100],
-        &[],
-        (37, Some(2), Some(9)),
-        ZEROS,
-    ),
-    // If one addition has several refusals, a missing section is reported first, then a missing import.
-    (
-        &[0x80, 0x0B, 0x66, 0x01],
-        ZEROS,
-        &[],
-        &[],
-        (39, Some(2), Some(12)),
-        ZEROS,
-    ),
-    (
-        &[0x80, 0x0B, 0x60, 0x00],
-        ZEROS,
-        &[],
-        &[],
-        (38, Some(2), Some(12)),
-        ZEROS,
-    ),
     // A register with its start value adds 0 if there is no such section.
     (
         &[0x42, 0x00, 0x40, 0x00],
@@ -356,23 +304,6 @@ const APPLIED: &[(&[u8], &[u8], &[u32], &[u32], Refusal, &[u8])] = &[
         &[],
         (0, None, None),
         &[1, 2, 3, 4, 5, 6, 7, 8, 0, 0, 0, 0],
-    ),
-    // An addition is modulo 2^32, and a word need not be aligned.
-    (
-        &[0x80, 0x00, 0x40, 0x00],
-        &[0, 0xFF, 0xFF, 0xFF, 0xFF, 9, 0, 0, 0, 0, 0, 0],
-        &[2],
-        &[],
-        (0, None, None),
-        &[0, 0, 0, 0, 1, 9, 0, 0, 0, 0, 0, 0],
-    ),
-    (
-        &[0xA0, 0x00, 0x00, 0x04, 0x66, 0x00],
-        &[0x11, 0x22, 0x33, 0x44, 0, 0, 0, 8, 1, 2, 0, 0],
-        &[0x1_0000],
-        &[],
-        (0, None, None),
-        &[0x11, 0x22, 0x33, 0x44, 0, 1, 0, 8, 1, 2, 0, 0],
     ),
     // In a repeat the instruction is the repeated one: the second of the block, at its second pass.
     (
@@ -519,26 +450,10 @@ fn test_million(rt: &impl Abort, bytes: &[u8], program: &Program<'_>) {
     assert!(rt; program.instr_at(1_000_000).is_none());
 }
 
-/// Tests sixteen million bytes of ones after a million instructions are applied to them.
-fn test_million_applied(rt: &impl Abort, memory: &[u8]) {
-    for words in memory.chunks_exact(8) {
-        assert!(rt; words == [2, 1, 1, 1, 3, 1, 1, 1].as_slice());
-    }
-    assert!(rt; memory.ends_with(&[1; 4]));
-}
-
-fn apply_million(rt: &impl Abort, alloc: Global, program: &Program<'_>) {
-    let mut memory = vec![in alloc; 1; 16_000_004].expect(rt, "memory");
-    let applied = apply(program, &mut memory, &[0x0100_0000, 0x0200_0000], &[]);
-    applied.expect(rt, "room for each addition");
-    test_million_applied(rt, &memory);
-}
-
-/// A million instructions are encoded, read, and applied to sixteen million bytes.
+/// A million instructions are encoded and read.
 #[test]
 fn a_million_instructions(rt: HostRuntime) {
     let bytes = million(&rt, rt.alloc());
     let program = Program::read(&bytes).expect(&rt, "a program");
     test_million(&rt, &bytes, &program);
-    apply_million(&rt, rt.alloc(), &program);
 }

@@ -2,8 +2,6 @@
 //! disk were made. The streams report the bytes of the reader or writer that they have, if that reports them.
 
 mod disk;
-#[cfg(test)]
-mod refused;
 mod streams;
 
 pub use disk::{Disk, DiskFiles};

@@ -1,12 +1,8 @@
-//! Tests of plans. They go through public calls. The expected values come from the definition of labels, from worked
-//! examples, from a plain method that tries each end of each run, and from a search of the machine, never from the
-//! program.
+//! Tests of plans. They go through public calls. The expected values come from the definition of labels and from worked
+//! examples, never from the program. `examples/checker/run` compares plans with a plain method, which tries each end of each
+//! run, and with a search of all programs.
 #![tactic(auto)]
 
-#[cfg(test)]
-mod compared;
-#[cfg(test)]
-mod exhaustive;
 #[cfg(test)]
 mod labels;
 #[cfg(test)]
@@ -15,11 +11,5 @@ mod lengths;
 mod looks;
 #[cfg(test)]
 mod plans;
-#[cfg(test)]
-mod random;
-#[cfg(test)]
-mod reference;
-#[cfg(test)]
-mod search;
 #[cfg(test)]
 mod worked;

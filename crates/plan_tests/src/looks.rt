@@ -3,7 +3,6 @@ ghost use Rattle.std.specs.Prelude.{◌≡◌, true};
 ghost use Rattle.pef_reloc.specs.Fixups.{fixups_fit};
 
 use crate::plans::in_a_row;
-use crate::reference::counted_plain_plan;
 use pef_plan::{Looks, counted_plan};
 use pef_reloc::{Fixup, fixups_fit};
 use std::alloc::Global;
@@ -51,14 +50,4 @@ fn plan_looks_seldom(rt: HostRuntime) {
     let (looks, labels) = looks_and_labels(&rt, rt.alloc(), &fixups);
     assert!(rt; labels == 65_540);
     assert!(rt; 65_540 < looks && looks <= 16 * 65_540, "{looks}");
-}
-
-#[test]
-fn plain_method_looks_more_often(rt: HostRuntime) {
-    let alloc = rt.alloc();
-    let fixups = in_a_row(&rt, alloc, 16_384, 4, S1);
-    let looks = Cell::new(0);
-    let plain = counted_plain_plan(&rt, alloc, &fixups, &[1], &looks);
-    assert!(rt; plain.labels.len() == 65_540);
-    assert!(rt; looks.get() > 128 * 65_540);
 }

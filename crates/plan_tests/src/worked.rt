@@ -1,6 +1,5 @@
-//! Plans of worked lists and of long runs compared with those of the plain method.
-use crate::compared::compare_with;
-use crate::plans::in_a_row;
+//! Plans of worked lists and of long runs. `examples/checker/run` compares all their labels with least ones.
+use crate::plans::{assert_length, in_a_row};
 use pef_reloc::{Base, Fixup};
 use std::alloc::Global;
 use std::process::Abort;
@@ -25,22 +24,22 @@ const WORKED: &[(Listed, u64)] = &[
 ];
 
 #[test]
-fn labels_of_worked_lists(rt: HostRuntime) {
+fn worked_lists(rt: HostRuntime) {
     for row in WORKED {
         let (listed, length) = *row;
         let fixups = fixups(rt.alloc(), listed).expect(&rt, "memory");
-        compare_with(&rt, rt.alloc(), &fixups, length);
+        assert_length(&rt, rt.alloc(), &fixups, length);
     }
 }
 
 /// 64 words, of which a skip to the first adds only 63.
 #[test]
-fn labels_of_more_words_than_a_skip_adds(rt: HostRuntime) {
+fn more_words_than_a_skip_adds(rt: HostRuntime) {
     let mut fixups = in_a_row(&rt, rt.alloc(), 64, 4, S1);
     for fixup in &mut fixups {
         fixup.offset = fixup.offset.wrapping_add(4);
     }
-    compare_with(&rt, rt.alloc(), &fixups, 2);
+    assert_length(&rt, rt.alloc(), &fixups, 2);
 }
 
 /// How many fixups, how many bytes apart, the base of each second one, and the least length.
@@ -53,11 +52,11 @@ const LONG_RUNS: &[(u32, u32, Base, u64)] = &[
 ];
 
 #[test]
-fn labels_of_long_runs(rt: HostRuntime) {
+fn long_runs(rt: HostRuntime) {
     for row in LONG_RUNS {
         let (count, step, other, length) = *row;
         let fixups = in_a_row(&rt, rt.alloc(), count, step, other);
-        compare_with(&rt, rt.alloc(), &fixups, length);
+        assert_length(&rt, rt.alloc(), &fixups, length);
     }
 }
 
@@ -73,7 +72,7 @@ fn all_in_turn(rt: &impl Abort, alloc: Global) -> Vec<Fixup> {
 }
 
 #[test]
-fn labels_of_all_sections_in_turn(rt: HostRuntime) {
+fn all_sections_in_turn(rt: HostRuntime) {
     let fixups = all_in_turn(&rt, rt.alloc());
-    compare_with(&rt, rt.alloc(), &fixups, u64::from(IN_TURN_LENGTH));
+    assert_length(&rt, rt.alloc(), &fixups, u64::from(IN_TURN_LENGTH));
 }

@@ -18,14 +18,3 @@ pub(crate) fn loader_fault(rt: &impl Abort, bytes: &[u8]) -> Option<LoaderFault>
         Err(fault) => Some(fault),
     }
 }
-
-/// Returns whether a field with these bytes is at an offset. If there is no offset, the field has no bytes.
-pub(crate) fn has_field(bytes: &[u8], offset: Option<usize>, field: &[u8]) -> bool {
-    match offset {
-        Some(at) if at <= bytes.len() && field.len() <= bytes.len() - at => {
-            &bytes[at..at + field.len()] == field
-        }
-        Some(_) => false,
-        None => field.is_empty(),
-    }
-}

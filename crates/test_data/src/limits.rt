@@ -1,6 +1,6 @@
 //! Scripts at the limits: how much a script may have of each part, and lines for as much.
 
-use std::alloc::{AllocError, Global};
+use std::alloc::AllocError;
 use std::fmt::Write;
 
 /// As many sections as a script may have, by their names.
@@ -27,13 +27,6 @@ pub const IN_TURN: Size = Size {
     sections: 8,
     fixups: 16_384,
 };
-
-impl Size {
-    /// Returns the length of a section whose fixups are at every other word.
-    pub fn every_other(self) -> u32 {
-        self.fixups.wrapping_mul(8)
-    }
-}
 
 pub const LIBRARIES: u32 = 4096;
 
@@ -79,62 +72,8 @@ pub fn push_sections(
     Ok(())
 }
 
-/// Appends lines for the fixups of a section by all sections in turn, at every other word.
-pub fn push_in_turn(text: &mut String, section: &str, size: Size) -> Result<(), AllocError> {
-    let mut base = 0usize;
-    for i in 0..size.fixups {
-        writeln!(text, "fix {section} {} section s{base}", i.wrapping_mul(8))?;
-        base = base.wrapping_add(1);
-        if base == size.sections {
-            base = 0;
-        }
-    }
-    Ok(())
-}
-
 /// How many halfwords the shortest program for `IN_TURN` of these has: one for each fixup, and one for each of the
 /// 16,383 words between two, less 2,048. That many fixups are by section 1, which is section D at the start, so they
 /// are made by an instruction that also passes a word. To set section D anew takes a halfword and saves no more, since
 /// the next fixup by the same section is eight fixups ahead.
 pub const IN_TURN_LENGTH: u32 = 30_719;
-
-/// Appends lines for the fixups of all sections at every other word: those of the first four sections by a base, given
-/// as text, those of the others by all sections in turn.
-pub fn push_every_other(text: &mut String, size: Size, base: &str) -> Result<(), AllocError> {
-    let fixups = Spaced {
-        first: 0,
-        step: 8,
-        count: size.fixups,
-    };
-    for section in SECTIONS.iter().take(4) {
-        push_fixups(text, section, fixups, base)?;
-    }
-    for section in SECTIONS.iter().take(size.sections).skip(4) {
-        push_in_turn(text, section, size)?;
-    }
-    Ok(())
-}
-
-/// Appends lines for all libraries with their imports.
-fn push_imports(text: &mut String) -> Result<(), AllocError> {
-    for import in 0..IMPORTS {
-        if import % IMPORTS_EACH == 0 {
-            writeln!(text, "library l{} 0 0 -", import / IMPORTS_EACH)?;
-        }
-        writeln!(text, "import i{import} data strong")?;
-    }
-    Ok(())
-}
-
-/// Returns a script at the limits of libraries, imports and exports, with this many sections, and with fixups that
-/// don't adjoin, by the last import and by all sections in turn.
-pub fn at_all_limits(alloc: Global, size: Size) -> Result<String, AllocError> {
-    let mut text = String::new(alloc);
-    push_imports(&mut text)?;
-    push_sections(&mut text, size.sections, 4, size.every_other())?;
-    push_every_other(&mut text, size, "import i65535")?;
-    for export in 0..EXPORTS {
-        writeln!(text, "export e{export} data s7 {export}")?;
-    }
-    Ok(text)
-}

@@ -1,4 +1,4 @@
-//! A file of the classic Mac OS with three fragments, from the tables of the formats.
+//! A resource fork with three fragments, from the tables of the formats.
 
 use crate::changes::{At, change};
 use std::alloc::Global;
@@ -6,7 +6,7 @@ use std::alloc::Global;
 /// A resource fork of 273 bytes. The data are at 16: a table of fragments of 176 bytes, and a resource `ndrv` 128 of three
 /// bytes. The table has `Calc` for CFM-68K at 52 and for PowerPC at 100, the 250 bytes from 8 of the data fork, and `Drv` at
 /// 148, the resource `ndrv` 128. The map is at 203.
-pub const FRAGMENT_FORK: &[(usize, &[u8])] = &[
+const FRAGMENT_FORK: &[(usize, &[u8])] = &[
     (
         0,
         b"\x00\x00\x00\x10\x00\x00\x00\xCB\x00\x00\x00\xBB\x00\x00\x00\x46",
@@ -30,20 +30,7 @@ pub const FRAGMENT_FORK: &[(usize, &[u8])] = &[
     (261, b"\x00\x80\xFF\xFF\x00\x00\x00\xB4\x00\x00\x00\x00"),
 ];
 
-pub const FRAGMENT_FORK_LEN: usize = 273;
-
-/// A file in MacBinary I of 785 bytes: the data fork of 264 bytes is at 128, and the resource fork of 273 bytes at 512.
-const FILE_HEADER: &[(usize, &[u8])] = &[
-    (1, b"\x04File"),
-    (83, b"\x00\x00\x01\x08\x00\x00\x01\x11"),
-];
-
-const FILE_LEN: usize = 785;
-
-/// Where the container and the resource fork are in the file.
-const CONTAINER_AT: usize = 136;
-
-const FORK_AT: usize = 512;
+const FRAGMENT_FORK_LEN: usize = 273;
 
 /// Returns the resource fork with other bytes at some offsets. `None` if an allocation fails, or an offset is outside.
 pub fn fragment_fork(alloc: Global, changes: &[(usize, &'static [u8])]) -> Option<Vec<u8>> {
@@ -51,22 +38,6 @@ pub fn fragment_fork(alloc: Global, changes: &[(usize, &'static [u8])]) -> Optio
     write(&mut fork, FRAGMENT_FORK)?;
     write(&mut fork, changes)?;
     Some(fork)
-}
-
-/// Returns the file with a container of up to 250 bytes in its data fork, and other bytes at some offsets. `None` if an
-/// allocation fails, or an offset is outside.
-pub fn fragment_file(
-    alloc: Global,
-    container: &[u8],
-    changes: &[(usize, &'static [u8])],
-) -> Option<Vec<u8>> {
-    let fork = fragment_fork(alloc, &[])?;
-    let mut file = vec![in alloc; 0u8; FILE_LEN].ok()?;
-    write(&mut file, FILE_HEADER)?;
-    change(&mut file, At::Front(CONTAINER_AT), container)?;
-    change(&mut file, At::Front(FORK_AT), &fork)?;
-    write(&mut file, changes)?;
-    Some(file)
 }
 
 /// Writes bytes at some offsets.

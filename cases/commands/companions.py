@@ -1,0 +1,97 @@
+"""`pef inspect` and `pef extract` of a data fork whose resource fork is in another file."""
+from data import mac_files
+from data.help import HELP
+from suite import Begins, Case
+
+TOTAL = b"total containers 0 errors 0 notes 0\n"
+# A data fork of 264 bytes without a container, and the report on it.
+DATA_FORK = bytes(264)
+DATA_REPORT = b"file d/a size 264 format other\n" + TOTAL
+
+FORK = mac_files.FRAGMENT_FORK
+# The report on the resource fork, after the path. None of the three fragments has a container. Those of the data fork are at offsets in
+# the data file, and `Drv` is the resource at 200.
+FORK_REPORT = b""" size 273 format resources data d/a
+00000000 fork resource size 273
+00000034 fragment 0 Calc architecture m68k usage 0 library where 1 data container 00000000 size 264 versions - - current 0 olddef 0 \
+level 0 stack 0 directory 0 place 00000000 length 0 space 0 instance 0 extensions 0
+00000064 fragment 1 Calc architecture pwpc usage 0 library where 1 data container 00000008 size 250 versions - - current 0 olddef 0 \
+level 0 stack 0 directory 0 place 00000008 length 250 space 0 instance 0 extensions 0
+00000094 fragment 2 Drv architecture pwpc usage 0 library where 2 resource container 000000C8 size 3 versions - - current 0 olddef 0 \
+level 0 stack 0 directory 0 place 6E647276 length 128 space 0 instance 0 extensions 0
+error 80 NoContainer fragment at 00000000
+error 80 NoContainer fragment at 00000008
+error 80 NoContainer fragment at 000000C8
+total containers 0 errors 3 notes 0
+"""
+
+
+def inspected(name, words, beside, printed, status):
+    return Case(name, ["inspect", *words], {"d/a": DATA_FORK, **beside}, stdout=printed, status=status)
+
+
+CASES = []
+
+# Files beside the file `d/a`, and the path of the resource fork that is reported. The first one is taken, and files without a resource
+# fork are passed over.
+CASES += [
+    inspected(f"beside {' '.join(beside)}", ["d/a"], beside, DATA_REPORT + (b"file " + place + FORK_REPORT if place else b""), 1 if place else 0)
+    for beside, place in (
+        ({"d/._a": FORK}, b"d/._a"),
+        ({"d/__MACOSX/._a": FORK}, b"d/__MACOSX/._a"),
+        ({"d/.AppleDouble/a": FORK}, b"d/.AppleDouble/a"),
+        ({"d/.rsrc/a": FORK}, b"d/.rsrc/a"),
+        ({"d/a.rsrc": FORK}, b"d/a.rsrc"),
+        ({"d/%a": FORK}, b"d/%25a"),
+        ({"d/%a": FORK, "d/a.rsrc": FORK}, b"d/a.rsrc"),
+        ({"d/._a": b"text", "d/.rsrc/a": FORK}, b"d/.rsrc/a"),
+        ({"d/._a": b"", "._a": FORK, "a.rsrc": FORK}, b""),
+    )
+]
+
+# In JSON the path of the data fork follows that of the file.
+CASES.append(inspected(
+    "two objects", ["--json", "d/a"], {"d/%a": FORK}, status=1,
+    printed=Begins(
+        b'{"file":"d/a","size":264,"format":"other","forks":[],"fragments":[],"containers":[],"errors":[],"notes":[]}\n'
+        b'{"file":"d/%25a","data":"d/a","size":273,"format":"resources","forks":[{"kind":"resource","offset":0,"length":273}],'
+        b'"fragments":[{"name":"Calc","offset":0,"size":264,'
+    ),
+))
+
+# No other file is looked for if the name is that of a companion, and the standard input has none.
+CASES += [
+    inspected(f"alone: {path}", [path], {path: b"text", beside: FORK}, f"file {path} size 4 format other\n".encode() + TOTAL, 0)
+    for path, beside in (("._b", "._._b"), ("d/._b", "d/._._b"))
+]
+CASES.append(Case(
+    "alone: the standard input", ["inspect", "-"], {"._-": FORK}, b"text",
+    stdout=b"file - size 4 format other\n" + TOTAL,
+))
+
+# The file of `--resources` is taken whatever it is, and no place is looked at. It isn't read if the data fork can't be read.
+UNREAD = b"file none\nerror 71 FileUnreadable\ntotal containers 0 errors 1 notes 0\n"
+TEXT_REPORT = b"file t size 4 format other data d/a\n" + TOTAL
+CASES += [
+    inspected("a given text", ["--resources", "t", "d/a"], {"t": b"text", "d/._a": FORK}, DATA_REPORT + TEXT_REPORT, 0),
+    inspected("a given file that is missing", ["d/a", "--resources=none"], {"d/._a": FORK}, DATA_REPORT + UNREAD, 1),
+    inspected("a given resource fork", ["--resources", "r", "d/a"], {"r": FORK, "d/._a": b"text"}, DATA_REPORT + b"file r" + FORK_REPORT, 1),
+    inspected("a given resource fork of a missing file", ["--resources", "r", "none"], {"r": FORK}, UNREAD, 1),
+]
+
+# A place of the resource fork, the name of a fragment, and the bytes of OUT. `Calc` is in the data fork from 8 on, and `Drv` is a
+# resource. A number is that of a container of the file alone.
+CASES += [
+    Case(
+        f"extract {name} by {place}", ["extract", "d/a", name, "out"], {"d/a": DATA_FORK, place: FORK},
+        stdout=b"refused 80 NoContainer\n" if out is None else b"extracted %d bytes\n" % len(out),
+        stderr=HELP[80] if out is None else b"", status=1 if out is None else 0, after={} if out is None else {"out": out},
+    )
+    for place, name, out in (
+        ("d/._a", "Calc", bytes(250)),
+        ("d/%a", "Drv", b"drv"),
+        ("d/._a", "calc", None),
+        ("._a", "Calc", None),
+        ("d/._a", "#0", None),
+    )
+]

@@ -1,0 +1,63 @@
+"""`pef extract`: containers by name and by number, and errors, after which no file has changed. Resource forks in other files are in
+companions.py."""
+from data.containers import RICH, VECTORS
+from data.mac_files import fragment_file
+from data.refusals import refused
+from suite import Case, changed
+
+# A file with fragments, with some changes; a name, and the bytes of OUT.
+FOUND = (
+    ((), "Calc", VECTORS),
+    ((), "#0", VECTORS),
+    ((), "Drv", b"drv"),
+    # `#` is part of a name if no number follows it
+    (((711, b"\x02"), (703, b"#01")), "#01", b"dr"),
+)
+
+CASES = [
+    Case(
+        f"fragment {name}", ["extract", "a", name, "out"], {"a": fragment_file(VECTORS, *changes)},
+        stdout=b"extracted %d bytes\n" % len(found), after={"out": found},
+    )
+    for changes, name, found in FOUND
+]
+
+# A container ends where its own parts end, and one with an error where the file ends. OUT may be the file itself.
+AROUND = changed(bytes(1000), (7, RICH))
+DAMAGED = changed(AROUND, (15, b"m68k"))
+CASES += [
+    Case("a container amid zeros", ["extract", "a", "#0", "a"], {"a": AROUND}, stdout=b"extracted 499 bytes\n", after={"a": RICH}),
+    Case("a damaged container amid zeros", ["extract", "a", "#0", "a"], {"a": DAMAGED}, stdout=b"extracted 993 bytes\n", after={"a": DAMAGED[7:]}),
+]
+
+# No fragment or container has these names.
+CASES += [
+    Case(f"nothing is {name}", ["extract", "a", name, "out"], {"a": fragment_file(VECTORS)}, **refused(b"80 NoContainer"))
+    for name in ("#1", "#", "#-1", "#4294967296", "calc")
+]
+
+# Files, by their errors. The resource fork is at 512, its data at 528, and its map at 715.
+FRAGMENTS = {
+    # `Calc` ends past the data fork
+    b"98 FragmentOutside": fragment_file(VECTORS, (642, b"\x01\x01")),
+    # the data begin past the map
+    b"87 ResourceMapOutside": fragment_file(VECTORS, (516, b"\x01")),
+    b"88 BadTypeList": fragment_file(VECTORS, (739, b"\xFF\xFF")),
+    # the resource `cfrg` passes the end of the data; it has a byte too few for its header; its version is 2
+    b"93 ResourceDataOutside": fragment_file(VECTORS, (528, b"\x01")),
+    b"94 FragmentTableCut": fragment_file(VECTORS, (531, b"\x1F")),
+    b"95 BadFragmentTable": fragment_file(VECTORS, (543, b"\x02")),
+    # the file begins as AppleDouble, of version 3
+    b"83 BadAppleVersion": fragment_file(VECTORS, (0, b"\x00\x05\x16\x07\x00\x03")),
+    # AppleDouble without the whole number of entries; with a resource fork of a byte that isn't there; with a row that isn't whole,
+    # which no search by an id finds
+    b"82 AppleHeaderCut": b"\x00\x05\x16\x07\x00\x02" + bytes(19),
+    b"85 AppleEntryOutside": b"\x00\x05\x16\x07\x00\x02" + bytes(18) + b"\x00\x01\x00\x00\x00\x02\x00\x00\x00\x26\x00\x00\x00\x01",
+    b"80 NoContainer": b"\x00\x05\x16\x07\x00\x02" + bytes(18) + b"\x00\x01\x00\x00\x00\x02\x00\x00\x00\x26\x00\x00\x00",
+}
+CASES += [Case(error.decode(), ["extract", "a", "Calc", "out"], {"a": file, "out": b"text"}, **refused(error)) for error, file in FRAGMENTS.items()]
+
+CASES += [
+    Case("no file", ["extract", "b", "#0", "out"], {"a": VECTORS}, **refused(b"71 FileUnreadable b")),
+    Case("no folder for the container", ["extract", "a", "#0", "d/out"], {"a": VECTORS}, **refused(b"72 FileUnwritable d/out")),
+]

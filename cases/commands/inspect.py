@@ -1,0 +1,194 @@
+"""`pef inspect` of files of each form, of lists of files, and of damaged containers. conformance/inspect has many more of those."""
+from data import mac_files
+from data.containers import VECTORS
+from suite import Begins, Case, changed
+
+OTHER = b"format other\ntotal containers 0 errors 0 notes 0\n"
+UNREADABLE = b"error 71 FileUnreadable\ntotal containers 0 errors 1 notes 0\n"
+# A header of AppleDouble that is cut, and one with version 3.
+CUT = b"\x00\x05\x16\x07\x00\x02"
+VERSION_3 = b"\x00\x05\x16\x07\x00\x03" + bytes(20)
+# Where the resource fork of the file `a` would be looked for first, and a fork that would be found there.
+BESIDE = {"._a": mac_files.FRAGMENT_FORK}
+
+CASES = [
+    Case("a file without bytes", ["inspect", "a"], {"a": b""}, stdout=b"file a size 0 " + OTHER),
+    Case(
+        "a file without containers as JSON", ["inspect", "--json", "a"], {"a": b"text"},
+        stdout=b'{"file":"a","size":4,"format":"other","forks":[],"fragments":[],"containers":[],"errors":[],"notes":[]}\n',
+    ),
+    Case(
+        "a cut header of AppleDouble", ["inspect", "a"], {"a": CUT, **BESIDE}, status=1,
+        stdout=b"file a size 6 format damaged\nerror 82 AppleHeaderCut fork\ntotal containers 0 errors 1 notes 0\n",
+    ),
+    Case(
+        "a version of AppleDouble as JSON", ["inspect", "--json", "a"], {"a": VERSION_3, **BESIDE}, status=1,
+        stdout=b'{"file":"a","size":26,"format":"damaged","forks":[],"fragments":[],"containers":[],"errors":[{"number":83,'
+        b'"name":"BadAppleVersion","part":"fork","row":null,"field":null,"offset":4}],"notes":[]}\n',
+    ),
+    Case(
+        "a missing file and one after it", ["inspect", "missing", "a"], {"a": b"text"}, status=1,
+        stdout=b"file missing\n" + UNREADABLE + b"file a size 4 " + OTHER,
+    ),
+    Case(
+        "a folder and a file after it", ["inspect", "a", "b"], {"a": None, "b": b"b"}, status=1,
+        stdout=b"file a\n" + UNREADABLE + b"file b size 1 " + OTHER,
+    ),
+    Case("the standard input", ["inspect", "-"], stdin=b"text", stdout=b"file - size 4 " + OTHER),
+]
+
+# Invalid command lines. `--resources` is for one file, which the command line names.
+CASES += [
+    Case(" ".join(["the words", *words]), words, {"a": b""}, stdout=b"usage\n", status=2,
+         stderr=Begins(b"error: ", has=(b"\n\nFor more information, try '--help'.\n",)))
+    for words in (
+        ["inspect"],
+        ["inspect", "--files0", "a"],
+        ["inspect", "--jsonl", "a"],
+        ["inspect", "--resources"],
+        ["inspect", "--resources", "a"],
+        ["inspect", "--resources", "a", "a", "a"],
+        ["inspect", "--resources", "a", "--resources", "a", "a"],
+        ["inspect", "--resources", "a", "--files0"],
+    )
+]
+
+# Lists of files on the standard input, and what is printed. The last path needs no zero byte, and an empty path is no file.
+CASES += [
+    Case(f"the list {listed}", ["inspect", "--files0"], {"a": b"text"}, listed, printed, status=status)
+    for listed, printed, status in (
+        (b"", b"", 0),
+        (b"a\0", b"file a size 4 " + OTHER, 0),
+        (b"a\0\0a", b"file a size 4 " + OTHER + b"file \n" + UNREADABLE + b"file a size 4 " + OTHER, 1),
+    )
+]
+
+# A file in MacBinary with three fragments, none of which has a container: `Calc` for CFM-68K is all of the data fork at 128, `Calc` for
+# PowerPC is at 136, and `Drv` is the resource at 712.
+CASES.append(Case(
+    "three fragments", ["inspect", "a"], {"a": mac_files.fragment_file(b""), **BESIDE}, status=1,
+    stdout=b"""file a size 785 format macbinary
+00000080 fork data size 264
+00000200 fork resource size 273
+00000234 fragment 0 Calc architecture m68k usage 0 library where 1 data container 00000080 size 264 versions - - current 0 olddef 0 \
+level 0 stack 0 directory 0 place 00000000 length 0 space 0 instance 0 extensions 0
+00000264 fragment 1 Calc architecture pwpc usage 0 library where 1 data container 00000088 size 250 versions - - current 0 olddef 0 \
+level 0 stack 0 directory 0 place 00000008 length 250 space 0 instance 0 extensions 0
+00000294 fragment 2 Drv architecture pwpc usage 0 library where 2 resource container 000002C8 size 3 versions - - current 0 olddef 0 \
+level 0 stack 0 directory 0 place 6E647276 length 128 space 0 instance 0 extensions 0
+error 80 NoContainer fragment at 00000080
+error 80 NoContainer fragment at 00000088
+error 80 NoContainer fragment at 000002C8
+total containers 0 errors 3 notes 0
+""",
+))
+
+# The container is 16 bytes into the file. The code's raw bytes end past the end, over those of the other sections, and the program's
+# section doesn't exist.
+DAMAGED = {"a": bytes(16) + changed(VECTORS, (56, b"\x00\x00\x02\x00"), (216, b"\x00\x09\x00\x00"))}
+# The loader header is cut, so its errors come after the sections, and no table is read.
+CUT_LOADER = {"a": VECTORS[:200]}
+CASES += [
+    Case("a damaged container in a file", ["inspect", "a"], DAMAGED, status=1, stdout=b"""\
+file a size 266 format other
+00000010 container current 1 olddef 0 oldimp 0 date 0 versions - - - time 1904-01-01T00:00:00 sections 3 instantiated 2
+00000038 section 0 kind 0 share 4 align 4 total 8 unpacked 8 packed 512 default 00000000 name - raw 00000090
+error 6 SectionOutside section 0 containerOffset at 0000004C
+00000054 section 1 kind 1 share 1 align 4 total 16 unpacked 16 packed 16 default 00000000 name - raw 000000A0
+note 112 Overlap section 1 containerOffset at 00000068 length 16
+00000070 section 2 kind 4 share 4 align 4 total 0 unpacked 0 packed 90 default 00000000 name - raw 000000B0
+note 112 Overlap section 2 containerOffset at 00000084 length 90
+000000B0 loader libraries 0 imports 0 relocs 1 programs 00000044 strings 00000046 hash 00000048 power 0 exports 1
+000000B0 main 1 00000000
+000000E8 reloc section 9 halfwords 1 first 0
+error 17 BadRelocSection reloc 0 sectionIndex at 000000E8
+000000F4 4601 TVector8 2
+00000100 export go class 2 section 1 value 00000000
+total containers 1 errors 2 notes 2
+"""),
+    Case("a cut loader header", ["inspect", "a"], CUT_LOADER, status=1, stdout=b"""\
+file a size 200 format container
+00000000 container current 1 olddef 0 oldimp 0 date 0 versions - - - time 1904-01-01T00:00:00 sections 3 instantiated 2
+00000028 section 0 kind 0 share 4 align 4 total 8 unpacked 8 packed 8 default 00000000 name - raw 00000080
+00000044 section 1 kind 1 share 1 align 4 total 16 unpacked 16 packed 16 default 00000000 name - raw 00000090
+00000060 section 2 kind 4 share 4 align 4 total 0 unpacked 0 packed 90 default 00000000 name - raw 000000A0
+error 6 SectionOutside section 2 containerOffset at 00000074
+error 11 LoaderShort loader mainSection at 000000A0
+total containers 1 errors 2 notes 0
+"""),
+]
+
+# The same in JSON: the file up to its containers, a container up to its sections, a section without a name, and the end of the file.
+JSON_FILE = '{"file":"a","size":%d,"format":"%s","forks":[],"fragments":[],"containers":['
+JSON_HEADER = (
+    '{"offset":%d,"header":{"architecture":"pwpc","format_version":1,"current":1,"current_text":"-","olddef":0,"olddef_text":"-","oldimp":0,'
+    '"oldimp_text":"-","date":0,"date_text":"1904-01-01T00:00:00","sections":3,"instantiated":2,"reserved":0},"sections":['
+)
+JSON_SECTION = (
+    '{"offset":%d,"kind":%d,"share":%d,"align":4,"total":%d,"unpacked":%d,"packed":%d,"default":0,"raw":%d,"name":null}'
+)
+JSON_END = '],"errors":[],"notes":[]}\n'
+CASES += [
+    Case(f"{name} as JSON", ["inspect", "--json", "a"], files, stdout="".join(text).encode(), status=1)
+    for name, files, text in (
+        ("a damaged container in a file", DAMAGED, (
+            JSON_FILE % (266, "other"), JSON_HEADER % 16,
+            JSON_SECTION % (56, 0, 4, 8, 8, 512, 144), ",",
+            JSON_SECTION % (84, 1, 1, 16, 16, 16, 160), ",",
+            JSON_SECTION % (112, 4, 4, 0, 0, 90, 176), "],",
+            '"loader":{"offset":176,"libraries":0,"imports":0,"relocations":1,"programs":68,"strings":70,"hash":72,"power":0,"exports":1},',
+            '"libraries":[],"imports":[],"relocations":[{"offset":232,"section":9,"halfwords":1,"first":0,',
+            '"instructions":[{"offset":244,"code":"4601","kind":"TVector8","numbers":[2]}]}],',
+            '"exports":[{"offset":256,"name":"go","class":2,"section":1,"value":0}],',
+            '"entries":{"main":{"offset":176,"section":1,"value":0},"init":null,"term":null},',
+            '"errors":[{"number":6,"name":"SectionOutside","part":"section","row":0,"field":20,"offset":76},',
+            '{"number":17,"name":"BadRelocSection","part":"relocation","row":0,"field":0,"offset":232}],',
+            '"notes":[{"number":112,"name":"Overlap","part":"section","row":1,"field":20,"offset":104,"length":16},',
+            '{"number":112,"name":"Overlap","part":"section","row":2,"field":20,"offset":132,"length":90}]}',
+            JSON_END,
+        )),
+        ("a cut loader header", CUT_LOADER, (
+            JSON_FILE % (200, "container"), JSON_HEADER % 0,
+            JSON_SECTION % (40, 0, 4, 8, 8, 8, 128), ",",
+            JSON_SECTION % (68, 1, 1, 16, 16, 16, 144), ",",
+            JSON_SECTION % (96, 4, 4, 0, 0, 90, 160), "],",
+            '"loader":null,"libraries":[],"imports":[],"relocations":[],"exports":[],"entries":{"main":null,"init":null,"term":null},',
+            '"errors":[{"number":6,"name":"SectionOutside","part":"section","row":2,"field":20,"offset":116},',
+            '{"number":11,"name":"LoaderShort","part":"loader","row":0,"field":0,"offset":160}],"notes":[]}',
+            JSON_END,
+        )),
+    )
+]
+
+
+def named(offset, letters, end=b""):
+    """Returns a file with letters after the container, and the offset of the name of section 0 in the section name table, at 124."""
+    return {"a": changed(VECTORS, (40, offset.to_bytes(4, "big"))) + letters * b"a" + end}
+
+
+# What is printed before the name of section 0.
+TEXT_TO_NAME = """\
+file a size %d format container
+00000000 container current 1 olddef 0 oldimp 0 date 0 versions - - - time 1904-01-01T00:00:00 sections 3 instantiated 2
+00000028 section 0 kind 0 share 4 align 4 total 8 unpacked 8 packed 8 default 00000000 name """
+JSON_TO_NAME = JSON_FILE + JSON_HEADER % 0 + (JSON_SECTION % (40, 0, 4, 8, 8, 8, 128)).removesuffix("null}")
+
+# Names with a zero byte after so many letters. Of a long one the first 1,024 are printed, and its length if it is at most 4,096.
+for letters, text, json in (
+    (1024, "", ""),
+    (1025, "%..", ',"name_length":1025'),
+    (4096, "%..", ',"name_length":4096'),
+    (4097, "%..", ',"name_length":null'),
+):
+    files, size, shown = named(126, letters, b"\0"), 250 + letters + 1, 1024 * "a"
+    begins = TEXT_TO_NAME % size + shown + text + " raw 00000080\n"
+    CASES.append(Case(f"a name of {letters} letters", ["inspect", "a"], files, stdout=Begins(begins.encode())))
+    begins = JSON_TO_NAME % (size, "container") + '"' + shown + '"' + json + "},"
+    CASES.append(Case(f"a name of {letters} letters as JSON", ["inspect", "--json", "a"], files, stdout=Begins(begins.encode())))
+
+# Names that end with no zero byte, or begin past the end, are none.
+CASES += [
+    Case(f"{letters} letters and no name at {offset}", ["inspect", "--json", "a"], named(offset, letters),
+         stdout=Begins((JSON_TO_NAME % (250 + letters, "container") + "null},").encode()))
+    for offset, letters in ((126, 1), (126, 4096), (126, 4097), (126, 5000), (200, 4), (0x7FFFFFFF, 4))
+]

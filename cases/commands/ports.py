@@ -1,0 +1,27 @@
+"""Real files, inputs and outputs: what can't be read or written, and what is kept exactly."""
+from data import containers
+from data.refusals import refused
+from data.scripts import EXAMPLE, EXAMPLE_SHOWN, VECTORS
+from suite import Case
+
+LINKED = {"stdout": b"linked 140 bytes\n"}
+OUTPUT_FAILED = b"The standard output failed, so a part of the answer may be missing.\n"
+
+CASES = [
+    # a path keeps its spaces
+    Case("spaces around a path that is written", ["link", "a", " b "], {"a": b"", "b": b"1", " b": b"2", "b ": b"3"}, after={" b ": containers.EMPTY}, **LINKED),
+    Case("spaces around a path that is read", ["link", " a ", "out"], {" a ": b"", "a": VECTORS}, after={"out": containers.EMPTY}, **LINKED),
+    *[Case(f"no file {path!r}", ["list", path], {" a ": containers.EMPTY}, **refused(b"71 FileUnreadable " + path.replace(" ", "%20").encode())) for path in ("a", " a", "a ")],
+    Case("this folder", ["list", "."], {}, **refused(b"71 FileUnreadable .")),
+    Case("a file below no folder", ["list", "no/a"], {}, **refused(b"71 FileUnreadable no/a")),
+    Case("a file that was longer", ["link", "a", "out"], {"a": b"", "out": bytes(10_000)}, after={"out": containers.EMPTY}, **LINKED),
+    Case("a full device for the container", ["link", "a", "/dev/full"], {"a": b""}, **refused(b"72 FileUnwritable /dev/full")),
+    Case("this folder for the container", ["link", "a", "."], {"a": b""}, **refused(b"72 FileUnwritable .")),
+    # the container is written, and the line about it isn't
+    Case("a full device for a short answer", ["link", "a", "out"], {"a": VECTORS}, stderr=OUTPUT_FAILED, status=1, after={"out": containers.VECTORS}, printed_to="/dev/full"),
+    Case("a full device for an error", ["list", "a"], {"a": b"Joy!"}, stderr=OUTPUT_FAILED, status=1, printed_to="/dev/full"),
+    # the memory is more than is printed at once
+    Case("a full device for a long answer", ["show"], stdin=b"section d data process 4 100000\n", stderr=OUTPUT_FAILED, status=1, printed_to="/dev/full"),
+    Case("a folder as the input", ["show"], stdin=".", **refused(b"73 InputUnreadable")),
+    Case("a file as the input", ["show"], {"a": EXAMPLE}, stdin="a", stdout=EXAMPLE_SHOWN),
+]
