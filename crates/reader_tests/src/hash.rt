@@ -56,6 +56,40 @@ fn slots(rt: HostRuntime) {
     }
 }
 
+/// Names with the hash words and the slots that another linker wrote: twenty of the 177 exports of `SDL.PPC.STUB`, a stub
+/// library by CodeWarrior of 2002, which is in the source archive of SDL_mixer 1.2.12. Its hash table has the power 7.
+const WRITTEN_ELSEWHERE: &[(&[u8], u32, u32)] = &[
+    (b"SDL_CDStatus", 0x000C_70E1, 0),
+    (b"SDL_CreateRGBSurfaceFrom", 0x0018_326E, 10),
+    (b"SDL_JoystickNumBalls", 0x0014_4B9B, 12),
+    (b"SDL_SetAlpha", 0x000C_777D, 19),
+    (b"SDL_ShowCursor", 0x000E_D5B1, 26),
+    (b"SDL_GetAudioStatus", 0x0012_7671, 29),
+    (b"SDL_CondSignal", 0x000E_F5CF, 36),
+    (b"SDL_WM_GetCaption", 0x0011_4C34, 44),
+    (b"SDL_ConvertAudio", 0x0010_D889, 56),
+    (b"SDL_putenv", 0x000A_D80E, 62),
+    (b"SDL_UnlockSurface", 0x0011_E706, 72),
+    (b"SDL_EventState", 0x000E_E00C, 76),
+    (b"SDL_GetAppState", 0x000F_EC09, 81),
+    (b"SDL_SemTryWait", 0x000E_D6FB, 86),
+    (b"SDL_LockSurface", 0x000F_DF63, 93),
+    (b"SDL_CondWaitTimeout", 0x0013_AD3B, 97),
+    (b"SDL_GetRGB", 0x000A_DF54, 106),
+    (b"SDL_CDPause", 0x000B_B89E, 111),
+    (b"SDL_FreeCursor", 0x000E_E431, 121),
+    (b"SDL_GL_LoadLibrary", 0x0012_BD85, 126),
+];
+
+#[test]
+fn written_elsewhere(rt: HostRuntime) {
+    for row in WRITTEN_ELSEWHERE {
+        let (name, word, place) = *row;
+        test_hash_word(&rt, name, word);
+        assert!(rt; slot(word, 7) == place, "name {name:?}");
+    }
+}
+
 /// How many exports, and the power.
 const POWERS: &[(u32, u32)] = &[
     (0, 0),
