@@ -5,6 +5,31 @@ from data.refusals import refused
 from data.scripts import EXAMPLE, VECTORS, VECTORS_CERTIFIED
 from suite import Begins, Case
 
+# Runs of each kind, words of one section eight apart, moves, and imports out of turn.
+EACH_KIND = b"""\
+library l 0 0 -
+import i data strong
+import j data weak
+section a data process 4 64
+section b data process 4 8192
+section c data process 4 4
+fix a 0 section a
+fix a 4 section b
+fix a 12 section a
+fix a 16 section b
+fix a 24 import i
+fix a 28 import j
+fix a 32 section c
+fix a 36 section c
+fix a 40 section c
+fix b 2 import j
+fix b 6 import i
+fix b 1024 section c
+fix b 1032 section c
+fix b 1040 section c
+fix b 8000 section a
+"""
+
 CASES = []
 
 # Scripts and their certificates.
@@ -55,29 +80,7 @@ at 1 1 1 1 1 1
 at 2 2 0 0 0 0
 end
 """,))),
-        ("runs of each kind, words eight apart, moves, and imports out of turn", b"""\
-library l 0 0 -
-import i data strong
-import j data weak
-section a data process 4 64
-section b data process 4 8192
-section c data process 4 4
-fix a 0 section a
-fix a 4 section b
-fix a 12 section a
-fix a 16 section b
-fix a 24 import i
-fix a 28 import j
-fix a 32 section c
-fix a 36 section c
-fix a 40 section c
-fix b 2 import j
-fix b 6 import i
-fix b 1024 section c
-fix b 1032 section c
-fix b 1040 section c
-fix b 8000 section a
-""", Begins(b"pefcert 2\nsection 0\nfixups 9\nlength 4\nprogram ", has=(b"""
+        ("runs of each kind", EACH_KIND, Begins(b"pefcert 2\nsection 0\nfixups 9\nlength 4\nprogram ", has=(b"""
 registers 0 1 2 *
 at 0 0 5 4 5 5 6 5 6 6 6 5 6 6 6 5 6 6
 at 1 1 6 5 6 6 7 6 7 7 6 5 6 6 7 6 7 7
@@ -135,6 +138,7 @@ THREE = b"section a data process 4 12\nsection b data process 4 4\nsection c dat
 LIBRARY = b"library k 0 0 -\nimport i data strong\n"
 CASES += [
     checked("checked: nothing", b""),
+    checked("checked: runs of each kind", EACH_KIND, 4, 9, 0),
     checked(
         "checked: an import after two sections",
         b"library l 0 0 -\nimport i data strong\n" + two_sections(12, b"0 section a", b"4 section b", b"8 import i"), 2, 0,

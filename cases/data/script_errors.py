@@ -180,7 +180,7 @@ SOUND_THIRD_LINES = [
 
 TEXTS = [
     # 41
-    Error("section d", 41, 1, 1, 9, "", None, words(2, 6)),
+    Error("section d", 41, 1, 2, 9, "", None, words(2, 6)),
     Error("section \x7f data process 4 8", 41, 1, 1, 8, "\x7f", None, BYTE),
     Error("section d data process 4 8\r\n", 41, 1, 5, 25, "8\r", None, CARRIAGE_RETURN),
     Error(" section d data process 4 8", 41, 1, 0, 0, "", None, SPACE_AT_START),

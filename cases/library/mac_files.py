@@ -375,28 +375,6 @@ SEARCHES = [
 TWO = changed(bytes(100), (3, b"Joy!peff"), (60, b"Joy!peff"))
 NUMBERED = [(0, TWO[3:]), (1, TWO[60:]), (2, 80), (2 ** (8 * ctypes.sizeof(ctypes.c_size_t)) - 1, 80)]
 
-NAMES = {
-    80: "NoContainer",
-    81: "BadMacBinaryCrc",
-    82: "AppleHeaderCut",
-    83: "BadAppleVersion",
-    84: "AppleEntryCut",
-    85: "AppleEntryOutside",
-    86: "AppleEntryShort",
-    87: "ResourceMapOutside",
-    88: "BadTypeList",
-    89: "ResourceTypeCut",
-    90: "TooManyReferences",
-    91: "ReferenceCut",
-    92: "ResourceNameCut",
-    93: "ResourceDataOutside",
-    94: "FragmentTableCut",
-    95: "BadFragmentTable",
-    96: "MemberCut",
-    97: "MemberNameCut",
-    98: "FragmentOutside",
-}
-
 
 class Reader:
     """What the calls of the library give of some bytes."""
@@ -465,8 +443,6 @@ def checks(pef):
         yield f"the containers in {length} bytes with {parts}", pef.mac._places_in(changed(bytes(length), *parts)), places
     for number, wanted in NUMBERED:
         yield f"container {number}", read.found("pef_numbered_container", TWO, len(TWO), number), wanted
-    for number, name in NAMES.items():
-        yield f"the name of {number}", pef.name_of(number), name
 
 
 def of_forks(read):
