@@ -157,6 +157,7 @@ static void test_notes(void)
     struct pef_bytes name = PEF_NO_BYTES;
     EXPECT(pef_name(PEF_NOTE_RESERVED_NOT_ZERO, &name) == PEF_OK && is_named(name, "ReservedNotZero"));
     EXPECT(pef_name(PEF_NOTE_WORD_RELOCATED_TWICE, &name) == PEF_OK && is_named(name, "WordRelocatedTwice"));
+    EXPECT(pef_name(PEF_NOTE_SECTIONS_OUT_OF_ORDER, &name) == PEF_OK && is_named(name, "SectionsOutOfOrder"));
     EXPECT(pef_help(PEF_NOTE_TRAILING_BYTES, &name) == PEF_OK && name.length > 20);
     EXPECT(pef_name(115, &name) == PEF_NOT_THERE && pef_help(199, &name) == PEF_NOT_THERE);
 }

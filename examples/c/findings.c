@@ -65,6 +65,26 @@ static void test_by_hand(void)
     expect(pef_partial_header(one_section, 39, &header) == PEF_TOO_SHORT, "39 bytes");
 }
 
+/* The same section counts as instantiated, and main is in it. */
+static void test_out_of_order(void)
+{
+    uint8_t changed[ONE_SECTION];
+    struct pef_finding found[7];
+    struct pef_loader loader = {0};
+    size_t count = 0;
+    memcpy(changed, one_section, ONE_SECTION);
+    changed[35] = 1;
+    changed[71] = 0;
+    expect(pef_findings(changed, ONE_SECTION, 0, found, 7, &count) == PEF_OK && count == 6, "six findings");
+    expect_finding(&found[0], PEF_BAD_FORMAT_VERSION, PEF_CONTAINER_HEADER_PART, 0, 12, 12, 0);
+    expect_finding(&found[1], PEF_BAD_SECTION_KIND, PEF_SECTION_PART, 0, 24, 64, 0);
+    expect_finding(&found[2], PEF_NO_LOADER, PEF_CONTAINER_HEADER_PART, 0, 0, 0, 0);
+    expect_finding(&found[3], PEF_NOTE_SECTIONS_OUT_OF_ORDER, PEF_CONTAINER_HEADER_PART, 0, 34, 34, 0);
+    expect_finding(&found[4], PEF_NOTE_RESERVED_NOT_ZERO, PEF_CONTAINER_HEADER_PART, 0, 36, 36, 0);
+    expect_finding(&found[5], PEF_NOTE_UNKNOWN_SHARE, PEF_SECTION_PART, 0, 25, 65, 0);
+    expect(pef_partial_loader(changed, ONE_SECTION, &loader) == PEF_OK && loader.main_section == 0, "its loader header");
+}
+
 /* Six bytes after the last part. */
 static void test_more_notes(void)
 {
@@ -305,6 +325,7 @@ int main(int count, char **words)
         inspect_file(words[1]);
     } else {
         test_by_hand();
+        test_out_of_order();
         test_more_notes();
         test_detail();
     }
