@@ -216,8 +216,10 @@ error 7 BadSectionKind section 0 sectionKind at 00000040
     stub("stub-entries", "60 00000001, 68 00000002, 70 FFFFFFFE", first + """
 error 16 BadEntry init initSection at 00000068
 error 16 BadEntry term termSection at 00000070""".lstrip())
+    # Section 0, which counts as instantiated, has no bytes in memory, and the value of export 1 is 4.
     stub("stub-exports", "BC 0002, C6 0000, D0 FFFF", first + """
 error 20 BadExportSection export 0 sectionIndex at 000000BC
+note 106 ExportOutside export 1 symbolValue at 000000C2
 error 20 BadExportSection export 2 sectionIndex at 000000D0""".lstrip())
     stub("stub-export-of-a-missing-import", "C6 FFFD", first + "error 20 BadExportSection export 1 sectionIndex at 000000C6")
     # The first of two loader sections, or the one that isn't instantiated.
