@@ -783,5 +783,19 @@ def shared_by_sections(count: int, length: int) -> bytes:
     return head + struct.pack(">iIIIIIBBBB", 0, 0, 0, 0, 0, 0, 5, 4, 4, 0) * count + b"n" * length + b"\0"
 
 
+def reordered(contents: bytes, order: List[int], count: int, instantiated: int) -> bytes:
+    """A container with its section headers in another order, and with these counts of sections and of instantiated ones."""
+    headers = [contents[40 + 28 * number : 68 + 28 * number] for number in order]
+    return contents[:32] + struct.pack(">HH", count, instantiated) + contents[36:40] + b"".join(headers) + contents[40 + 28 * len(order) :]
+
+
+def loader_among(count: int, place: int) -> bytes:
+    """A container of so many sections, all of them instantiated, of which one is the loader section of a stub library."""
+    other = struct.pack(">iIIIIIBBBB", -1, 0, 0, 0, 0, 0, 1, 1, 4, 0)
+    own = struct.pack(">iIIIIIBBBB", -1, 0, 0, 0, 0x72, 40 + 28 * count, 4, 4, 4, 0)
+    head = STUB[:32] + struct.pack(">HH", count, count) + STUB[36:40]
+    return head + other * place + own + other * (count - place - 1) + STUB[0x60:0xD2]
+
+
 for group in container_header, sections, order_of_sections, loader, exports, packed_data, programs, several, truncated, limits, other_files:
     group()
