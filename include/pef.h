@@ -772,8 +772,8 @@ uint32_t pef_file_container(const uint8_t *file, size_t file_length, const uint8
 uint32_t pef_fork_container(const uint8_t *data_fork, size_t data_fork_length, const uint8_t *resource_fork, size_t resource_fork_length, const uint8_t *name, size_t name_length, struct pef_bytes *container);
 
 /*
- * Gives the container with a number, from 0, among those of pef_find_containers(), with all bytes after it. Returns PEF_OK, or
- * PEF_NO_CONTAINER past the last one.
+ * Gives the container with a number, from 0, among those of pef_find_containers(), with all bytes after it up to the end of its fork,
+ * or of the bytes if it begins in no fork. Returns PEF_OK, or PEF_NO_CONTAINER past the last one.
  */
 uint32_t pef_numbered_container(const uint8_t *bytes, size_t length, size_t number, struct pef_bytes *container);
 

@@ -22,12 +22,31 @@ CASES = [
     for changes, name, found in FOUND
 ]
 
-# A container ends where its own parts end, and one with an error where the file ends. OUT may be the file itself.
+# A container ends where its own parts end, and one with an error where its fork or the file ends. OUT may be the file itself.
 AROUND = changed(bytes(1000), (7, RICH))
 DAMAGED = changed(AROUND, (15, b"m68k"))
 CASES += [
     Case("a container amid zeros", ["extract", "a", "#0", "a"], {"a": AROUND}, stdout=b"extracted 499 bytes\n", after={"a": RICH}),
     Case("a damaged container amid zeros", ["extract", "a", "#0", "a"], {"a": DAMAGED}, stdout=b"extracted 993 bytes\n", after={"a": DAMAGED[7:]}),
+]
+
+# The fork has six bytes after its container.
+M68K = changed(VECTORS, (8, b"m68k"))
+CASES += [
+    Case("a damaged container in a fork", ["extract", "a", "#0", "out"], {"a": fragment_file(M68K)}, stdout=b"extracted 256 bytes\n", after={"out": M68K + bytes(6)}),
+]
+
+# The name of section 0 is after all sections. It ends with a zero byte, or not at all; or it would begin past the end.
+NAMES = 40 + 28 * int.from_bytes(VECTORS[32:34], "big")
+LATE = changed(VECTORS, (40, (len(VECTORS) - NAMES).to_bytes(4, "big")))
+NOWHERE = changed(VECTORS, (40, (len(VECTORS) - NAMES + 5).to_bytes(4, "big")))
+CASES += [
+    Case(f"a container, {name}", ["extract", "a", "#0", "out"], {"a": file}, stdout=b"extracted %d bytes\n" % len(found), after={"out": found})
+    for name, file, found in (
+        ("with its name at the end", LATE + b"late\0more\0", LATE + b"late\0"),
+        ("with a name without an end", LATE + b"late", LATE + b"late"),
+        ("with a name past the end", NOWHERE + b"later", NOWHERE),
+    )
 ]
 
 # No fragment or container has these names.

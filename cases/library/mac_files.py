@@ -443,6 +443,9 @@ def checks(pef):
         yield f"the containers in {length} bytes with {parts}", pef.mac._places_in(changed(bytes(length), *parts)), places
     for number, wanted in NUMBERED:
         yield f"container {number}", read.found("pef_numbered_container", TWO, len(TWO), number), wanted
+    # a container in a fork reaches to the end of the fork: this one has six bytes more
+    contents = fragment_file(VECTORS)
+    yield "a container in a fork", read.found("pef_numbered_container", contents, len(contents), 0), VECTORS + bytes(6)
 
 
 def of_forks(read):

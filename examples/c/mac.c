@@ -168,7 +168,8 @@ static void find(const uint8_t *file)
     compare("outside", pef_fork_container(file, 0, file + 512, 290, (const uint8_t *)"Calc", 4, &container), PEF_FRAGMENT_OUTSIDE);
     compare_bytes("what is left", container, file, 712, 3);
     compare("pef_numbered_container", pef_numbered_container(file, FILE_LENGTH, 0, &container), PEF_OK);
-    compare_bytes("container 0", container, file, 136, FILE_LENGTH - 136);
+    /* It reaches to the end of the data fork, which has 264 bytes at 128. */
+    compare_bytes("container 0", container, file, 136, 256);
     compare("no such number", pef_numbered_container(file, FILE_LENGTH, 1, &container), PEF_NO_CONTAINER);
 }
 

@@ -97,8 +97,8 @@ static void test_containers(void)
     EXPECT(pef_file_container(file, FILE_LENGTH, TEXT("calc"), &found) == PEF_NO_CONTAINER && found.length == 40);
     EXPECT(pef_fork_container(TEXT("abcde"), fork_bytes, FORK_LENGTH, TEXT("Calc"), &found) == PEF_OK && is_named(found, "cde"));
     EXPECT(pef_fork_container(TEXT("a"), fork_bytes, FORK_LENGTH, TEXT("Calc"), &found) == PEF_FRAGMENT_OUTSIDE && is_named(found, "cde"));
-    EXPECT(pef_numbered_container(file, FILE_LENGTH, 0, &found) == PEF_OK && has(found, file + 130, 276));
-    EXPECT(pef_numbered_container(file, FILE_LENGTH, 1, &found) == PEF_NO_CONTAINER && found.length == 276);
+    EXPECT(pef_numbered_container(file, FILE_LENGTH, 0, &found) == PEF_OK && has(found, file + 130, 40));
+    EXPECT(pef_numbered_container(file, FILE_LENGTH, 1, &found) == PEF_NO_CONTAINER && found.length == 40);
 }
 
 int main(void)

@@ -1,16 +1,18 @@
 -- The container of a fragment, by its name in the table of fragments (the resource `cfrg` 0), or by its number among the
 -- containers that a search finds. Which member has a name if several have, and how errors are told, is this project's own.
-use Rattle.std.specs.Prelude.{ℕ, pos, ◌+◌, ◌==◌, ◌&&◌, ◌%◌, ◌^◌, Bool, false, List, [], ◌∷◌, Option, None, Some, option_and_then, option_map, Result, Ok, Err, not, if◌then◌else◌}
+use Rattle.std.specs.Prelude.{ℕ, pos, ◌+◌, ◌==◌, ◌&&◌, ◌%◌, ◌^◌, Bool, false, List, [], ◌∷◌, Option, None, Some, option_map, Result, Ok, Err, not, if◌then◌else◌}
 use Rattle.std.specs.Int.{cast_signed, w16}
 use Rattle.std.specs.List.{slice_get}
 use Rattle.std.specs.Option.{option_map_or, option_or}
 use Rattle.std.specs.Str.{bytes_eq}
-use Rattle.mac_forks.specs.MacFile.{MacFileIs, bare, mac_binary, apple, data_fork_in, mac_file_of, resource_fork_in}
+use Rattle.mac_forks.specs.MacFile.{MacFileIs, mac_file_of}
 use Rattle.mac_forks.specs.Parts.{Lying}
 use Rattle.mac_forks.specs.declared.fault.ForkFault.{ForkFault}
-use Rattle.mac_resources.specs.Fork.{ForkIs, fork_of, is_consistent}
+use Rattle.mac_resources.specs.Fork.{ForkIs, fork_of}
 use Rattle.mac_resources.specs.Resources.{ResourceIs, resource_with}
 use Rattle.mac_resources.specs.declared.fault.ResourceFault.{ResourceFault}
+use Rattle.cfm_members.specs.Contents.{rest_from}
+use Rattle.cfm_members.specs.Forks.{data_fork_of, resource_fork_of}
 use Rattle.cfm_members.specs.Members.{MemberIs, TableIs, all_members, lies, locator_of, table_of}
 use Rattle.cfm_members.specs.Search.{containers_in}
 use Rattle.cfm_members.specs.declared.fault.MemberFault.{MemberFault}
@@ -19,17 +21,6 @@ use Rattle.cfm_members.specs.declared.fragment_fault.FragmentFault.{FragmentFaul
 use Rattle.cfm_members.specs.declared.fragment_fault.FragmentFault.TheVariants.{Fork, Resource, Member, NoContainer}
 use Rattle.cfm_members.specs.declared.member.Locator.{Locator}
 use Rattle.cfm_members.specs.declared.member.Locator.TheVariants as locator
-
--- the forks of a file. A file in none of the formats is a resource fork if it can be one, else a data fork
-abbrev pub data_fork_of : List ℕ → MacFileIs → Option (Result Lying ForkFault)
-data_fork_of bytes (bare all) = if is_consistent bytes then None else data_fork_in (bare all)
-data_fork_of bytes (mac_binary m) = data_fork_in (mac_binary m)
-data_fork_of bytes (apple a) = data_fork_in (apple a)
-
-abbrev pub resource_fork_of : List ℕ → MacFileIs → Option (Result Lying ForkFault)
-resource_fork_of bytes (bare all) = if is_consistent bytes then data_fork_in (bare all) else None
-resource_fork_of bytes (mac_binary m) = resource_fork_in (mac_binary m)
-resource_fork_of bytes (apple a) = resource_fork_in (apple a)
 
 -- the next step, if there was no error
 abbrev pub and_then : {A B F : Type 0} → Result A F → (A → Result B F) → Result B F
@@ -122,7 +113,6 @@ container_in_pair bytes resources name = named_in_pair name bytes (mac_file_of b
 unfoldable pub container_named : List ℕ → List ℕ → Result (List ℕ) FragmentFault
 container_named bytes name = container_in_pair bytes bytes name
 
--- the container with a number, from 0, among all that begin in some bytes, and all bytes after it
+-- the container with a number, from 0, among all that begin in some bytes, and all bytes after it that it can have
 unfoldable pub container_numbered : List ℕ → ℕ → Option (List ℕ)
-container_numbered bytes number =
-    option_and_then (λ at. option_map (λ part. part.bytes) (lies bytes at 0)) (slice_get (containers_in bytes 0) number)
+container_numbered bytes number = option_map (rest_from bytes) (slice_get (containers_in bytes 0) number)

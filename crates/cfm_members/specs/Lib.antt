@@ -1,4 +1,6 @@
+pub mod Contents
 pub mod Faults
+pub mod Forks
 pub mod FragmentFaults
 pub mod Fragments
 pub mod Kept

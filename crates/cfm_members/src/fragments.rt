@@ -11,7 +11,6 @@ ghost use Rattle.cfm_members.specs.Fragments.{
   container_numbered,
   contents_bytes,
   data_bytes,
-  data_fork_of,
   fork_bytes,
   is_named,
   lying_in,
@@ -20,7 +19,6 @@ ghost use Rattle.cfm_members.specs.Fragments.{
   named_in,
   named_in_forks,
   resource_bytes,
-  resource_fork_of,
 };
 ghost use Rattle.std.specs.Prelude.{◌+◌};
 ghost use Rattle.cfm_members.specs.Fragments.{first_named};
@@ -30,7 +28,9 @@ ghost use Rattle.cfm_members.specs.Search.{containers_in};
 ghost use Rattle.cfm_members.specs.Members.{all_members, locator_of, table_of};
 ghost use Rattle.cfm_members.specs.Views.{member_seen, row_seen, table_seen};
 
+use crate::contents::Contents;
 use crate::fault::MemberFault;
+use crate::forks::Forks;
 use crate::fragment_fault::FragmentFault;
 use crate::layout::{CFM_68K, FRAGMENT_TABLE_ID, FRAGMENT_TABLE_TYPE, OFFSET_AT};
 use crate::member::{Locator, Member, lying_part};
@@ -38,42 +38,6 @@ use crate::search::Containers;
 use crate::table::FragmentTable;
 use mac_forks::{ForkFault, MacFile, Part};
 use mac_resources::{Resource, ResourceFork};
-
-/// The forks of a file, or the errors of their entries. `None` if the file doesn't have the fork.
-#[derive(Clone, Copy, Debug)]
-pub struct Forks<'a> {
-    pub data_fork: Option<Result<Part<'a>, ForkFault>>,
-    pub resource_fork: Option<Result<Part<'a>, ForkFault>>,
-}
-
-impl<'a> Forks<'a> {
-    /// Returns the forks of a file with some bytes. A file in none of the formats is a resource fork if it can be one,
-    /// else a data fork.
-    pub fn of(bytes: &'a [u8], file: &MacFile<'a>) -> Forks<'a>
-        ensures data_fork { option_map (result_map part_seen) result.data_fork ≡ data_fork_of bytes.entry.now (mac_file_seen file.now) }
-        ensures resource_fork { option_map (result_map part_seen) result.resource_fork ≡ resource_fork_of bytes.entry.now (mac_file_seen file.now) }
-    {
-        match file {
-            MacFile::Bare(_) => {
-                if ResourceFork::is_consistent(bytes) {
-                    Forks {
-                        data_fork: None,
-                        resource_fork: file.data_fork(),
-                    }
-                } else {
-                    Forks {
-                        data_fork: file.data_fork(),
-                        resource_fork: None,
-                    }
-                }
-            }
-            MacFile::MacBinary(_) | MacFile::Apple(_) => Forks {
-                data_fork: file.data_fork(),
-                resource_fork: file.resource_fork(),
-            },
-        }
-    }
-}
 
 /// Returns the container of the fragment with a name: of the first member of the resource `cfrg` 0 with this name that
 /// isn't for CFM-68K. One in the data fork has the length of the member, or reaches to the end of the fork if that is 0.
@@ -154,14 +118,14 @@ pub fn container_in_forks<'a>(
     }
 }
 
-/// Returns the container with a number, from 0, among all places where one begins, with all bytes after it. `None` past
-/// the last one.
+/// Returns the container with a number, from 0, among all places where one begins, with all bytes after it up to the end of its
+/// fork. `None` past the last one.
 #[tactic(auto, unfolding(crate::specs::Fragments::container_numbered))]
 pub fn numbered_container<'a>(bytes: &'a [u8], number: usize) -> Option<&'a [u8]>
     ensures { option_copied result ≡ container_numbered bytes.entry.now number }
 {
     let place = numbered_place(bytes, number)?;
-    Some(lying_part(bytes, place, 0)?.bytes)
+    Some(Contents::of(bytes).rest_from(place))
 }
 
 /// Returns the place with a number among those where a container begins.

@@ -5,8 +5,10 @@
 //! Manager". All bytes are slices of what is read. Nothing is copied and nothing is allocated.
 #![tactic(auto)]
 
+mod contents;
 mod fault;
 mod file_kind;
+mod forks;
 mod fragment_fault;
 mod fragments;
 mod layout;
@@ -16,12 +18,12 @@ mod reading;
 mod search;
 mod table;
 
+pub use contents::{Contents, readable};
 pub use fault::MemberFault;
 pub use file_kind::FileKind;
+pub use forks::Forks;
 pub use fragment_fault::FragmentFault;
-pub use fragments::{
-    Forks, container_in_forks, container_in_pair, named_container, numbered_container,
-};
+pub use fragments::{container_in_forks, container_in_pair, named_container, numbered_container};
 pub use member::{Locator, Member, MemberHeader, Usage};
 pub use num_version::{NumVersion, Stage};
 pub use search::Containers;

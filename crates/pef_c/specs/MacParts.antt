@@ -7,7 +7,7 @@ use Rattle.mac_forks.specs.MacFile.{MacFileIs, comment_in, fault_in, finder_of_f
 use Rattle.mac_forks.specs.Parts.{Lying}
 use Rattle.mac_forks.specs.declared.fault.ForkFault.{ForkFault}
 use Rattle.mac_forks.specs.declared.finder.FinderInfo.{FinderInfo}
-use Rattle.cfm_members.specs.Fragments.{data_fork_of, resource_fork_of}
+use Rattle.cfm_members.specs.Forks.{data_fork_of, resource_fork_of}
 use Rattle.cfm_members.specs.Kinds.{kind_of}
 use Rattle.cfm_members.specs.declared.file_kind.FileKind.{FileKind}
 use Rattle.cfm_members.specs.declared.file_kind.FileKind.TheVariants as kind

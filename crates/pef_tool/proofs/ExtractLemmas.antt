@@ -1,15 +1,22 @@
 -- A container that was found in a file and its companion, and written.
-use Rattle.std.proofs.Common.{◌≡◌, ◌∙◌, ◌⊎◌, ℕ, Bool, true, false, List, [], ◌∷◌, Option, None, Some, Result, Ok, Err, ap, inl, inr, subst, sym}
-use Rattle.cfm_members.specs.Fragments.{container_in_pair}
+use Rattle.std.proofs.Common.{◌≡◌, ◌∙◌, ◌⊎◌, ℕ, Bool, true, false, List, [], ◌∷◌, Option, None, Some, Result, Ok, Err, ap, inl, inr, refl, subst, sym}
+use Rattle.std.specs.List.{slice_get}
+use Rattle.cfm_members.specs.Contents.{rest_from}
+use Rattle.cfm_members.specs.Fragments.{container_in_pair, container_numbered}
+use Rattle.cfm_members.specs.Search.{containers_in}
 use Rattle.cfm_members.specs.declared.fragment_fault.FragmentFault.{FragmentFault}
 use Rattle.pef_faults.specs.declared.fault.Fault.{Fault}
 use Rattle.pef_faults.specs.declared.fault.Fault.TheVariants.{Fragment, Unwritable, OutOfMemory}
 use Rattle.pef_ports.specs.Ports.{FilesPort, Reads, Writes}
 use Rattle.pef_ports.specs.declared.ports.FileFault.{FileFault}
 use Rattle.pef_ports.specs.declared.ports.FileFault.TheVariants as file_fault
+use Rattle.pef_views.specs.Container.{Contained, container_of}
+use Rattle.pef_views.specs.Extents.{own_bytes, own_part}
+use Rattle.pef_views.specs.declared.fault.ViewFault.{ViewFault}
+use Rattle.pef_views.proofs.Laws.{kept_whole}
 use Rattle.pef_tool.specs.Answers.Answers.{Answer}
 use Rattle.pef_tool.specs.Companions.{CompanionIs, Looks, LooksAt, LooksIf, companion_places}
-use Rattle.pef_tool.specs.Extract.{ExtractAnswers, ExtractRefuses, FindsContainer, FindsIn, WritesFound, as_fault, extracts, found_beside, found_in, found_with, refuses}
+use Rattle.pef_tool.specs.Extract.{ExtractAnswers, ExtractRefuses, ExtractsInspected, FindsContainer, FindsIn, IsKept, WritesFound, as_fault, extracts, found_beside, found_in, found_with, numbered, refuses}
 use Rattle.pef_tool.specs.Kept.Extracting.{EndsWith, ReadEnds, WrittenAnswer}
 
 -- what was read of a companion: its bytes, unless an allocation failed
@@ -77,3 +84,18 @@ module _ {F : Type 0} (port : FilesPort F) (path : List ℕ) where
   ends before read after name out bytes answer reads (Err why, between, finds, end) =
       let P : F → Type 0 = λ (last : F). FindsContainer port before last path name (Err why) in
       (refuses why, refused before after name out why (subst P (sym end.0) (record { bytes = bytes; between = read; read = reads; finds = finds })), end.1)
+
+-- what is taken of the bytes from a container on
+keeps : (rest : List ℕ) (r : Result Contained ViewFault) → container_of rest ≡ r → IsKept rest r (Ok (own_part rest r))
+keeps rest (Ok c) is = (let kept = kept_whole rest c is in (own_bytes c, kept.0, refl, kept.1, kept.2))
+keeps rest (Err fault) is = refl
+
+found_numbered : (bytes : List ℕ) (number at : ℕ) → slice_get (containers_in bytes 0) number ≡ Some at → numbered bytes number ≡ Ok (own_part (rest_from bytes at) (container_of (rest_from bytes at)))
+unfolding container_numbered
+found_numbered bytes number at there = rw there refl
+
+pub extracts_inspected : ExtractsInspected
+extracts_inspected bytes number at there =
+    let rest = rest_from bytes at in
+    let P : Result (List ℕ) FragmentFault → Type 0 = λ (found : Result (List ℕ) FragmentFault). IsKept rest (container_of rest) found in
+    subst P (sym (found_numbered bytes number at there)) (keeps rest (container_of rest) refl)

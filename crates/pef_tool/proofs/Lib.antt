@@ -6,7 +6,6 @@ mod CheckLemmas
 mod CompanionLemmas
 mod EndLemmas
 mod ExplainLemmas
-mod ExtentLemmas
 mod ExtractLemmas
 mod InspectLemmas
 mod LoadLemmas

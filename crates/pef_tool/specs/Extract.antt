@@ -1,8 +1,11 @@
 -- The answer of `extract FILE NAME OUT` (README). It reads FILE, looks for its companion if NAME is no number, finds a
 -- container in them, and writes the whole container to OUT. It makes no other call on files.
 use Rattle.std.specs.Prelude.{◌≡◌, ◌⊎◌, ◌==◌, ◌&&◌, ℕ, Bool, List, [], ◌∷◌, ◌++◌, Option, None, Some, Result, Ok, Err, codes, decimal, length, if◌then◌else◌}
+use Rattle.std.specs.List.{slice_get}
 use Rattle.std.specs.Option.{is_none, option_map_or}
+use Rattle.cfm_members.specs.Contents.{rest_from}
 use Rattle.cfm_members.specs.Fragments.{container_in_pair, container_named, container_numbered}
+use Rattle.cfm_members.specs.Search.{containers_in}
 use Rattle.cfm_members.specs.declared.fragment_fault.FragmentFault.{FragmentFault}
 use Rattle.cfm_members.specs.declared.fragment_fault.FragmentFault.TheVariants.{NoContainer}
 use Rattle.pef_faults.specs.declared.fault.Fault.{Fault}
@@ -11,14 +14,16 @@ use Rattle.pef_lines.specs.Numbers.{decimal_number}
 use Rattle.pef_ports.specs.Ports.{FilesPort, Reads, Writes}
 use Rattle.pef_ports.specs.declared.ports.FileFault.{FileFault}
 use Rattle.pef_ports.specs.declared.ports.FileFault.TheVariants as file_fault
+use Rattle.pef_views.specs.Container.{Contained, container_of}
+use Rattle.pef_views.specs.Extents.{IsSame, own_part}
+use Rattle.pef_views.specs.declared.fault.ViewFault.{ViewFault}
 use Rattle.pef_tool.specs.Answers.Answers.{Answer, answer_done}
 use Rattle.pef_tool.specs.Answers.Faults.{fault_answer}
 use Rattle.pef_tool.specs.Companions.{CompanionIs, LooksIf, may_have_companion}
-use Rattle.pef_tool.specs.Extents.{own_bytes}
 
--- the container with a number, up to where its own parts end
+-- the container with a number, without the bytes after it
 abbrev pub numbered : List ℕ → ℕ → Result (List ℕ) FragmentFault
-numbered bytes number = option_map_or (λ rest. Ok (own_bytes rest)) (container_numbered bytes number) (Err NoContainer)
+numbered bytes number = option_map_or (λ rest. Ok (own_part rest (container_of rest))) (container_numbered bytes number) (Err NoContainer)
 
 -- the container that NAME asks for: with a number, if it is `#` (23 in hex) and a decimal number, else of the fragment with
 -- this name
@@ -110,3 +115,12 @@ extract_answer (refuses fault) = fault_answer fault
 abbrev pub ExtractAnswers : {F : Type 0} → FilesPort F → F → F → List ℕ → List ℕ → List ℕ → Answer → Type 0
 ExtractAnswers port before after path name out answer =
     (outcome : ExtractOutcome) × ExtractEnds port before after path name out outcome × (answer ≡ extract_answer outcome)
+
+-- what is extracted of some bytes is all of them, or a container with the same header, loader section, sections and names
+abbrev pub IsKept : List ℕ → Result Contained ViewFault → Result (List ℕ) FragmentFault → Type 0
+IsKept rest (Ok c) found = (out : List ℕ) × (own : Contained) × (found ≡ Ok out) × (container_of out ≡ Ok own) × IsSame c own
+IsKept rest (Err fault) found = found ≡ Ok rest
+
+-- `extract '#N'` takes a container from the bytes that `inspect` reads of it, which are these in `IsRow` of `mac_report`, too
+abbrev pub ExtractsInspected : Type 0
+ExtractsInspected = (bytes : List ℕ) (number at : ℕ) → slice_get (containers_in bytes 0) number ≡ Some at → IsKept (rest_from bytes at) (container_of (rest_from bytes at)) (numbered bytes number)

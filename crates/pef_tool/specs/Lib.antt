@@ -1,6 +1,5 @@
 pub mod Companions
 pub mod Distances
-pub mod Extents
 pub mod Extract
 pub mod Inspect
 pub mod Kept

@@ -1,6 +1,8 @@
 ghost use Rattle.std.specs.Prelude.{◌≡◌, List, Ok, length, option_map, ℕ};
 ghost use Rattle.pef_words.specs.Refusals.{result_map};
 ghost use Rattle.pef_ports.specs.Sent.{Sends};
+ghost use Rattle.pef_views.specs.Container.{container_of};
+ghost use Rattle.pef_views.specs.Extents.{own_part};
 ghost use Rattle.pef_tool.specs.Answers.Answers.{Answer, IsDelivered, answer_done};
 ghost use Rattle.pef_tool.specs.Companions.{LooksIf};
 ghost use Rattle.pef_tool.specs.Extract.{ExtractAnswers, as_fault, extracted_text, found_in, found_with, is_looked_for, number_of, numbered};
@@ -9,12 +11,12 @@ ghost use Rattle.pef_tool.specs.Kept.Inspecting.{companion_seen};
 
 use crate::answers::{Outcome, Reply, deliver};
 use crate::companion::{Companion, find_companion, may_have_companion};
-use crate::extent::own_bytes;
 use crate::reading::read_file;
 use cfm_members::{FragmentFault, container_in_pair, named_container, numbered_container};
 use pef_faults::Fault;
 use pef_lines::decimal_number;
 use pef_ports::{FileFault, Files, Page, Piece, Sink, StreamFault, print_pieces};
+use pef_views::Container;
 use std::alloc::Global;
 
 /// What `extract` is asked for: the container with a name in the file at a path, for the file at another.
@@ -142,13 +144,23 @@ fn find<'a>(bytes: &'a [u8], name: &[u8]) -> Result<&'a [u8], FragmentFault>
     }
 }
 
-/// Returns the container with a number, up to where its own parts end.
+/// Returns the container with a number, without the bytes after it.
 fn find_numbered<'a>(bytes: &'a [u8], number: usize) -> Result<&'a [u8], FragmentFault>
     ensures { result_map (λ container. container.now) result ≡ numbered bytes.entry.now number }
 {
     match numbered_container(bytes, number) {
-        Some(rest) => Ok(own_bytes(rest)),
+        Some(rest) => Ok(own_part(rest)),
         None => Err(FragmentFault::NoContainer),
+    }
+}
+
+/// Returns the bytes of a container without those after it. Other bytes are all kept.
+fn own_part<'a>(rest: &'a [u8]) -> &'a [u8]
+    ensures { result.now ≡ own_part rest.entry.now (container_of rest.entry.now) }
+{
+    match Container::read(rest) {
+        Ok(container) => container.own_bytes(),
+        Err(_) => rest,
     }
 }
 

@@ -11,7 +11,6 @@ mod commands;
 mod companion;
 mod distances;
 mod explanation;
-mod extent;
 mod extract;
 mod fragment;
 mod inspect;

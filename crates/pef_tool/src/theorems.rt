@@ -20,6 +20,7 @@ ghost use Rattle.pef_script.specs.Script.{DescribedScript};
 ghost use Rattle.pef_tool.specs.Check.{Judges, Texts};
 ghost use Rattle.pef_tool.specs.Distances.{IsYesToAll};
 ghost use Rattle.pef_tool.specs.declared.check.Verdict.{Verdict};
+ghost use Rattle.pef_tool.specs.Extract.{ExtractsInspected};
 ghost use Rattle.pef_write.specs.Linked.{CertifiedContainer, IsCertifiedLink};
 
 /// `check` accepts the certificates that `distances` prints of a script. It answers yes for the certificate of each
@@ -40,4 +41,11 @@ pub fn fifteen_sections_find_room()
 pub fn faults_are_explained()
     ensures { (fault : Fault) (outcome : Outcome) (out printed notes noted : Stream) → IsDelivered out printed (fault_answer fault) outcome → Explains outcome notes noted
         → (outcome ≡ OutputFailed) ⊎ NotesHelp (help_of (fault_number fault)) (note_of fault) notes noted }
+{}
+
+/// `extract '#N'` takes the container with a number from the bytes that `inspect` reads of it: all of them, or if they are a
+/// container, one with the same header, sections, loader section and names.
+#[tactic(auto, using(crate::proofs::ExtractLemmas::extracts_inspected))]
+pub fn extracts_what_is_inspected()
+    ensures { ExtractsInspected }
 {}

@@ -21,7 +21,8 @@ pub record IsAccepted (c : Contained) : Type 0 where
   pub sections : first_among (section_refusal c.bytes c.header) 0 c.header.section_count ≡ None
   pub loader : loader_of c.bytes c.header ≡ Some c.loader
 
-with_loader_ok : (bytes : List ℕ) (h : Header) (loader : Option (List ℕ)) (c : Contained) → with_loader bytes h loader ≡ Ok c → (loader ≡ Some c.loader) × (h ≡ c.header) × (bytes ≡ c.bytes)
+-- what a container with a loader section consists of
+pub with_loader_ok : (bytes : List ℕ) (h : Header) (loader : Option (List ℕ)) (c : Contained) → with_loader bytes h loader ≡ Ok c → (loader ≡ Some c.loader) × (h ≡ c.header) × (bytes ≡ c.bytes)
 with_loader_ok bytes h None c ok = absurd (cc)
 with_loader_ok bytes h (Some loader) c ok =
     let same = ap (λ r. result_unwrap_or r c) ok in

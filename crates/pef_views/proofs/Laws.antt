@@ -12,3 +12,5 @@ pub use Rattle.pef_views.proofs.Written.{header_tests-unmet, section_tests-unmet
 pub use Rattle.pef_views.proofs.FindingLemmas.{first_is_reported, unrefused_container, whole_container}
 -- with a loader section that isn't instantiated, rows of it may name the instantiated sections
 pub use Rattle.pef_views.proofs.FindingLemmas.{sections-in-order}
+-- the own bytes of a container are the same container
+pub use Rattle.pef_views.proofs.ExtentLemmas.{kept_whole}

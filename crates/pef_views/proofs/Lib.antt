@@ -1,4 +1,5 @@
 mod Containers
+mod ExtentLemmas
 mod FindingLemmas
 mod Headers
 mod Sections

@@ -1,4 +1,5 @@
 pub mod Container
+pub mod Extents
 pub mod Faults
 pub mod Header
 pub mod Partial

@@ -15,8 +15,8 @@ use pef_words::Cut;
 /// that it was read from, and live as long as those.
 #[derive(Clone, Copy, Debug)]
 pub struct Container<'a> {
-    cut: Cut<'a>,
-    header: Header,
+    pub(crate) cut: Cut<'a>,
+    pub(crate) header: Header,
     loader: &'a [u8],
     pub ghost accepted: { container_of cut.bytes.now ≡ Ok (record {
       bytes = cut.bytes.now;

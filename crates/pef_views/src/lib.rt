@@ -6,6 +6,7 @@
 #![tactic(auto)]
 
 mod container;
+mod extent;
 mod fault;
 mod header;
 mod partial;
@@ -17,4 +18,4 @@ pub use fault::ViewFault;
 pub use header::Header;
 pub use partial::PartialContainer;
 pub use section::{SectionHeader, SectionView};
-pub use theorems::{containers_open, first_fault_is_reported};
+pub use theorems::{containers_are_kept, containers_open, first_fault_is_reported};

@@ -1,4 +1,5 @@
 //! Laws of all faults of a container. The functions do nothing.
+ghost use Rattle.pef_views.specs.Extents.{KeepsContainers};
 ghost use Rattle.pef_views.specs.Theorems.{FirstIsReported, OpensContainers};
 
 /// The first of all faults of some bytes is the one that [`Container::read`](crate::Container::read) reports, and there is
@@ -12,4 +13,11 @@ pub fn first_fault_is_reported()
 #[tactic(auto, using(crate::proofs::FindingLemmas::whole_container))]
 pub fn containers_open()
     ensures { OpensContainers }
+{}
+
+/// The [own bytes](crate::Container::own_bytes) of a container are the same container, with the same header, sections, loader
+/// section and names.
+#[tactic(auto, using(crate::proofs::ExtentLemmas::kept_whole))]
+pub fn containers_are_kept()
+    ensures { KeepsContainers }
 {}
