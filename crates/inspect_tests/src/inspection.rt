@@ -29,7 +29,7 @@ impl Sink for Paper {
 }
 
 /// Returns the text of an inspection, or its object.
-fn printed(alloc: Global, inspection: &Inspection<'_>, as_object: bool) -> Option<Vec<u8>> {
+fn printed(alloc: Global, inspection: &Inspection<'_, Global>, as_object: bool) -> Option<Vec<u8>> {
     let mut paper = Paper {
         bytes: Vec::new(alloc),
         failures: 0,

@@ -1,11 +1,12 @@
 -- How the containers of a file add up.
 use Rattle.std.proofs.Common.{◌≡◌, ℕ, List, [], ◌∷◌, ◌++◌, Result, Ok, Err, IfOk, IsErrAnd, refl, sym, subst, append_assoc, append-nil, ◌∙◌, true, false, Bool}
 use Rattle.std.specs.Prelude.{◌==◌, nat_lt}
+use Rattle.cfm_members.specs.Contents.{rest_from}
 use Rattle.pef_ports.specs.Ports.{Stream}
 use Rattle.pef_ports.specs.Sent.{Prints, StopsShort}
 use Rattle.pef_ports.proofs.Laws.Sending.{Prints-then, StopsShort-longer, StopsShort-then, sent-nothing}
 use Rattle.pef_inspect.specs.declared.limits.Limits.{Limits}
-use Rattle.mac_report.specs.Containers.{IsRowIf, RowIs, Steps, Walks, cost, fresh_tally, lacking, rest_from, row_text, skipped, tallied}
+use Rattle.mac_report.specs.Containers.{IsRowIf, RowIs, Steps, Walks, cost, fresh_tally, lacking, row_text, skipped, tallied}
 use Rattle.mac_report.specs.declared.file.Form.{Form}
 use Rattle.mac_report.specs.declared.tally.Tally.{Tally}
 

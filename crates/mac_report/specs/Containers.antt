@@ -1,8 +1,7 @@
 -- What is printed of the containers of a file, in the order in which a search finds them. The budget and the limits, which
 -- keep the work for a file linear in its length, are this project's own.
-use Rattle.std.specs.Prelude.{◌≡◌, ℕ, ◌+◌, ◌-◌, ◌*◌, ◌/◌, ◌^◌, ◌==◌, ◌&&◌, Bool, true, false, List, [], ◌∷◌, ◌++◌, Option, None, Some, Result, Ok, Err, codes, decimal, drop, length, min, nat_le, nat_lt, unwrap_or, if◌then◌else◌}
-use Rattle.std.specs.Option.{option_or}
-use Rattle.mac_forks.specs.Parts.{Lying}
+use Rattle.std.specs.Prelude.{◌≡◌, ℕ, ◌+◌, ◌-◌, ◌*◌, ◌/◌, ◌^◌, ◌==◌, Bool, true, false, List, [], ◌∷◌, ◌++◌, Result, Ok, Err, codes, decimal, length, nat_lt, unwrap_or, if◌then◌else◌}
+use Rattle.cfm_members.specs.Contents.{rest_from}
 use Rattle.pef_words.specs.Bytes.{number_at}
 use Rattle.pef_views.specs.Container.{Contained}
 use Rattle.pef_views.specs.Partial.{partial_of}
@@ -14,7 +13,6 @@ use Rattle.pef_report.specs.Inspection as inspection
 use Rattle.pef_report.specs.Inspection.{Inspected, count_chosen, inspection_object, inspection_text}
 use Rattle.pef_report.specs.Tokens.{at_text}
 use Rattle.pef_report.specs.declared.frames.Counts.{Counts}
-use Rattle.mac_report.specs.MacParts.{readable, wrapping_of}
 pub use Rattle.mac_report.specs.Sums.{up_to}
 use Rattle.mac_report.specs.declared.file.Form.{Form}
 use Rattle.mac_report.specs.declared.file.Form.TheVariants.{Text, Json}
@@ -25,22 +23,6 @@ pub data RowIs : Type 0 where
   inspected : Inspected → RowIs
   lacking : ℕ → RowIs
   skipped : RowIs
-
--- all bytes from a place on
-abbrev pub all_from : List ℕ → ℕ → List ℕ
-all_from bytes at = drop (min at (length bytes)) bytes
-
--- the bytes of a fork from a place of the file on, if the fork has the place
-abbrev pub rest_in : Option Lying → ℕ → Option (List ℕ)
-rest_in None at = None
-rest_in (Some part) at =
-    if nat_le part.offset at && nat_lt (at - part.offset) (length part.bytes) then Some (all_from part.bytes (at - part.offset)) else None
-
--- the bytes that a container at a place of a file can have: those up to the end of the fork that has the place, or of a file
--- without such a fork
-unfoldable pub rest_from : List ℕ → ℕ → List ℕ
-rest_from bytes at =
-    unwrap_or (option_or (rest_in (readable (wrapping_of bytes).data_fork) at) (rest_in (readable (wrapping_of bytes).resource_fork) at)) (all_from bytes at)
 
 -- what the inspection of a container takes from the budget, by the bytes from its first on: 64 kilobytes, its header, and
 -- the headers of the sections that it says that it has

@@ -6,13 +6,14 @@ use Rattle.mac_forks.specs.Parts.{Lying}
 use Rattle.mac_forks.specs.declared.fault.ForkFault.{ForkFault}
 use Rattle.mac_resources.specs.Fork.{ForkIs}
 use Rattle.mac_resources.specs.declared.fault.ResourceFault.{ResourceFault}
-use Rattle.cfm_members.specs.Fragments.{data_fork_of}
+use Rattle.cfm_members.specs.Contents.{readable}
+use Rattle.cfm_members.specs.Forks.{data_fork_of}
 use Rattle.cfm_members.specs.Kinds.{kind_of}
 use Rattle.cfm_members.specs.declared.file_kind.FileKind.{FileKind}
 use Rattle.cfm_members.specs.declared.file_kind.FileKind.TheVariants.{Container, MacBinary, AppleSingle, AppleDouble, DamagedApple, ResourceFork, Other}
 use Rattle.pef_ports.specs.Names.{name_text}
 use Rattle.pef_report.specs.Tokens.{path_text}
-use Rattle.mac_report.specs.MacParts.{readable, resources_in, wrapping_of}
+use Rattle.mac_report.specs.MacParts.{resources_in, wrapping_of}
 
 -- the file that has the data fork
 pub record DataFileIs : Type 0 where

@@ -6,6 +6,7 @@ use Rattle.mac_forks.specs.declared.fault.ForkFault.{ForkFault}
 use Rattle.mac_resources.specs.Fork.{ForkIs, map_is_cut}
 use Rattle.mac_resources.specs.Resources.{ResourceIs, all_resources}
 use Rattle.mac_resources.specs.declared.fault.ResourceFault.{ResourceFault}
+use Rattle.cfm_members.specs.Contents.{readable}
 use Rattle.cfm_members.specs.Kinds.{kind_of}
 use Rattle.cfm_members.specs.Members.{MemberIs, all_members}
 use Rattle.cfm_members.specs.declared.fault.MemberFault.{MemberFault}
@@ -13,7 +14,7 @@ use Rattle.cfm_members.specs.declared.file_kind.FileKind.{FileKind}
 use Rattle.cfm_members.specs.declared.file_kind.FileKind.TheVariants.{Container}
 use Rattle.cfm_members.specs.declared.fragment_fault.FragmentFault.TheVariants.{Fork, Resource, Member, NoContainer}
 use Rattle.mac_report.specs.DataFiles.{DataFileIs, members_fork}
-use Rattle.mac_report.specs.MacParts.{PlaceIs, SceneIs, WrappingIs, elsewhere, lying, missing, place_of, readable, resources_in, scene_of, wrapping_of}
+use Rattle.mac_report.specs.MacParts.{PlaceIs, SceneIs, WrappingIs, elsewhere, lying, missing, place_of, resources_in, scene_of, wrapping_of}
 use Rattle.mac_report.specs.declared.scene.Found.{Found}
 
 -- the error of the header of a file or of its rows of entries, and of the entry of a fork

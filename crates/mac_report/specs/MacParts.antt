@@ -11,7 +11,7 @@ use Rattle.mac_forks.specs.declared.fault.ForkFault.{ForkFault}
 use Rattle.mac_resources.specs.Fork.{ForkIs, fork_of}
 use Rattle.mac_resources.specs.Resources.{ResourceIs, resource_with}
 use Rattle.mac_resources.specs.declared.fault.ResourceFault.{ResourceFault}
-use Rattle.cfm_members.specs.Fragments.{resource_fork_of}
+use Rattle.cfm_members.specs.Forks.{resource_fork_of}
 use Rattle.cfm_members.specs.Members.{MemberIs, TableIs, container_in, locator_of, table_of}
 use Rattle.cfm_members.specs.declared.fault.MemberFault.{MemberFault}
 use Rattle.cfm_members.specs.declared.fragment_fault.FragmentFault.TheVariants.{Member, NoContainer}
@@ -56,12 +56,6 @@ wrapping_in bytes (Err fault) = record { fault = Some fault; cut = None; data_fo
 -- what a file is wrapped in
 unfoldable pub wrapping_of : List ℕ → WrappingIs
 wrapping_of bytes = wrapping_in bytes (mac_file_of bytes)
-
--- a fork without its error
-abbrev pub readable : Option (Result Lying ForkFault) → Option Lying
-readable None = None
-readable (Some (Ok part)) = Some part
-readable (Some (Err fault)) = None
 
 -- a resource fork. One without bytes has no resources, and no error
 abbrev pub resources_in : Lying → Option (Result ForkIs ResourceFault)

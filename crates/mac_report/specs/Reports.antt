@@ -5,6 +5,7 @@ use Rattle.pef_words.specs.Refusals.{◌>>=◌}
 use Rattle.mac_forks.specs.Parts.{Lying}
 use Rattle.mac_resources.specs.Fork.{ForkIs}
 use Rattle.mac_resources.specs.declared.fault.ResourceFault.{ResourceFault}
+use Rattle.cfm_members.specs.Contents.{readable}
 use Rattle.cfm_members.specs.Members.{all_members}
 use Rattle.cfm_members.specs.Kinds.{kind_of}
 use Rattle.cfm_members.specs.Search.{containers_in}
@@ -18,7 +19,7 @@ use Rattle.mac_report.specs.Faults.{faults_of}
 use Rattle.mac_report.specs.Forks.{forks_json, forks_lines}
 use Rattle.mac_report.specs.Founds.{founds_text}
 use Rattle.mac_report.specs.Fragments.{fragments_text}
-use Rattle.mac_report.specs.MacParts.{SceneIs, WrappingIs, readable, resources_in, scene_of, wrapping_of}
+use Rattle.mac_report.specs.MacParts.{SceneIs, WrappingIs, resources_in, scene_of, wrapping_of}
 use Rattle.mac_report.specs.declared.scene.Found.{Found}
 use Rattle.mac_report.specs.declared.file.Form.{Form}
 use Rattle.mac_report.specs.declared.file.Form.TheVariants.{Text, Json}

@@ -19,7 +19,7 @@ use Rattle.mac_report.specs.declared.scene.Scene.{Scene}
 use Rattle.mac_report.specs.declared.wrapping.Wrapping.{Wrapping}
 
 -- what is known of a container
-abbrev pub row_seen : Row → RowIs
+abbrev pub row_seen : {Y : Type 0} → Row Y → RowIs
 row_seen (row.Inspected inspection) = inspected (view.inspected inspection)
 row_seen (row.Lacking at) = lacking at
 row_seen row.Skipped = skipped

@@ -4,17 +4,16 @@ ghost use Rattle.pef_ports.specs.Sent.{Sends};
 ghost use Rattle.mac_report.specs.Containers.{Walks, fresh_tally};
 ghost use Rattle.mac_report.specs.declared.tally.Tally.{Tally as TallyIs};
 
-use crate::contents::Contents;
 use crate::file::{FileReport, Form};
 use crate::row::read_row;
 use crate::tally::Tally;
-use cfm_members::Containers;
+use cfm_members::{Containers, Contents};
 use pef_ports::{Page, Sink, StreamFault};
-use std::alloc::Global;
+use std::alloc::Allocator;
 
 /// Prints all containers of a file, one after the other, and returns what it counted.
-pub(crate) fn print_containers<W: Sink>(
-    alloc: Global,
+pub(crate) fn print_containers<A: Allocator + Copy, W: Sink>(
+    alloc: A,
     out: &mut W,
     page: &mut Page,
     report: FileReport<'_>,
@@ -28,8 +27,8 @@ pub(crate) fn print_containers<W: Sink>(
 }
 
 /// Prints the containers of a file whose forks are known.
-fn print_contents<W: Sink>(
-    alloc: Global,
+fn print_contents<A: Allocator + Copy, W: Sink>(
+    alloc: A,
     out: &mut W,
     page: &mut Page,
     form: Form,

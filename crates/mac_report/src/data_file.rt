@@ -7,8 +7,8 @@ ghost use Rattle.mac_forks.specs.Views.{part_seen};
 ghost use Rattle.mac_report.specs.DataFiles.{data_fork_in, is_data_fork, is_fork_kind, is_readable_fork, is_resource_file, members_fork, paired_line, paired_object};
 ghost use Rattle.mac_report.specs.Views.{data_file_seen};
 
-use crate::wrapping::{Wrapping, readable, resources_in};
-use cfm_members::{FileKind, Forks};
+use crate::wrapping::{Wrapping, resources_in};
+use cfm_members::{FileKind, Forks, readable};
 use mac_forks::{ForkFault, MacFile, Part};
 use pef_ports::{Page, Sink, StreamFault};
 use pef_report::{Token, print_tokens};

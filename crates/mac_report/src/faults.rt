@@ -28,18 +28,18 @@ ghost use Rattle.mac_report.specs.Views.{data_file_seen, place_seen, scene_seen}
 
 use crate::data_file::{DataFile, members_fork};
 use crate::scene::{Found, Place, Scene};
-use crate::wrapping::{Wrapping, readable, resources_in};
-use cfm_members::{FileKind, FragmentFault, Member, MemberFault};
+use crate::wrapping::{Wrapping, resources_in};
+use cfm_members::{FileKind, FragmentFault, Member, MemberFault, readable};
 use mac_forks::{ForkFault, Part};
 use mac_resources::{Resource, ResourceFault, ResourceFork};
-use std::alloc::{AllocError, Global};
+use std::alloc::{AllocError, Allocator};
 
 /// Returns all errors of a file that aren't those of its containers: of the wrapping, of the resources, of the fragments.
-pub(crate) fn find_faults(
-    alloc: Global,
+pub(crate) fn find_faults<A: Allocator + Copy>(
+    alloc: A,
     bytes: &[u8],
     data_file: Option<DataFile<'_>>,
-) -> Result<Vec<Found>, AllocError>
+) -> Result<Vec<Found, A>, AllocError>
     ensures { IfOk result (λ found. found.items ≡ faults_of (option_map data_file_seen data_file.entry) bytes.now) }
 {
     let wrapping = Wrapping::of(bytes);
@@ -57,7 +57,10 @@ pub(crate) fn find_faults(
 }
 
 /// Adds the error of a file's header, or of its rows of entries.
-fn find_in_header(fault: Option<ForkFault>, found: &mut Vec<Found>) -> Result<(), AllocError>
+fn find_in_header<A: Allocator>(
+    fault: Option<ForkFault>,
+    found: &mut Vec<Found, A>,
+) -> Result<(), AllocError>
     ensures { OnOk result (found.new.items ≡ found.old.items ++ header_faults fault) }
 {
     if let Some(fault) = fault {
@@ -70,9 +73,9 @@ fn find_in_header(fault: Option<ForkFault>, found: &mut Vec<Found>) -> Result<()
 }
 
 /// Adds the error of the entry of a fork.
-fn find_in_entry(
+fn find_in_entry<A: Allocator>(
     fork: Option<Result<Part<'_>, ForkFault>>,
-    found: &mut Vec<Found>,
+    found: &mut Vec<Found, A>,
 ) -> Result<(), AllocError>
     ensures { OnOk result (found.new.items ≡ found.old.items ++ entry_faults (option_map (result_map part_seen) fork.entry)) }
 {
@@ -83,10 +86,10 @@ fn find_in_entry(
 }
 
 /// Adds the errors of the resources and the fragments of a file with these forks.
-fn find_in_parts(
+fn find_in_parts<A: Allocator>(
     data_fork: Option<Part<'_>>,
     resource: Option<Part<'_>>,
-    found: &mut Vec<Found>,
+    found: &mut Vec<Found, A>,
 ) -> Result<(), AllocError>
     ensures { OnOk result (found.new.items ≡ found.old.items ++ parts_faults (option_map part_seen data_fork.entry) (option_map part_seen resource.entry)) }
 {
@@ -102,10 +105,10 @@ fn find_in_parts(
 }
 
 /// Adds an error of a resource fork, which begins at an offset of the file.
-fn add_resource_fault(
+fn add_resource_fault<A: Allocator>(
     fault: Option<ResourceFault>,
     base: u64,
-    found: &mut Vec<Found>,
+    found: &mut Vec<Found, A>,
 ) -> Result<(), AllocError>
     ensures { OnOk result (found.new.items ≡ found.old.items ++ resource_fault_list base fault) }
 {
@@ -119,11 +122,11 @@ fn add_resource_fault(
 }
 
 /// Adds the errors of a resource fork, which begins at an offset of the file, and of its table of fragments.
-fn find_in_fork(
+fn find_in_fork<A: Allocator>(
     data_fork: Option<Part<'_>>,
     base: u64,
     fork: ResourceFork<'_>,
-    found: &mut Vec<Found>,
+    found: &mut Vec<Found, A>,
 ) -> Result<(), AllocError>
     ensures { OnOk result (found.new.items ≡ found.old.items ++ fork_faults (option_map part_seen data_fork.entry) base (fork_seen fork.entry)) }
 {
@@ -134,10 +137,10 @@ fn find_in_fork(
 }
 
 /// Adds the errors of all resources.
-fn find_in_resources(
+fn find_in_resources<A: Allocator>(
     base: u64,
     fork: ResourceFork<'_>,
-    found: &mut Vec<Found>,
+    found: &mut Vec<Found, A>,
 ) -> Result<(), AllocError>
     ensures { OnOk result (found.new.items ≡ found.old.items ++ resources_faults base (all_resources (fork_seen fork.entry))) }
 {
@@ -148,10 +151,10 @@ fn find_in_resources(
 }
 
 /// Adds the errors of a resource: of its row, of its name and of its bytes.
-fn find_in_resource(
+fn find_in_resource<A: Allocator>(
     base: u64,
     row: Result<Resource<'_>, ResourceFault>,
-    found: &mut Vec<Found>,
+    found: &mut Vec<Found, A>,
 ) -> Result<(), AllocError>
     ensures { OnOk result (found.new.items ≡ found.old.items ++ resource_faults base (resource_row row.entry)) }
 {
@@ -176,9 +179,9 @@ fn name_fault(name: Option<Result<&[u8], ResourceFault>>) -> Option<ResourceFaul
 }
 
 /// Adds the error of a table of fragments, or those of its members.
-fn find_in_scene(
+fn find_in_scene<A: Allocator>(
     scene: Option<Result<Scene<'_>, Found>>,
-    found: &mut Vec<Found>,
+    found: &mut Vec<Found, A>,
 ) -> Result<(), AllocError>
     ensures { OnOk result (found.new.items ≡ found.old.items ++ table_faults (option_map (result_map scene_seen) scene.entry)) }
 {
@@ -193,7 +196,10 @@ fn find_in_scene(
 }
 
 /// Adds the errors of all members of a table of fragments.
-fn find_in_members(scene: Scene<'_>, found: &mut Vec<Found>) -> Result<(), AllocError>
+fn find_in_members<A: Allocator>(
+    scene: Scene<'_>,
+    found: &mut Vec<Found, A>,
+) -> Result<(), AllocError>
     ensures { OnOk result (found.new.items ≡ found.old.items ++ members_faults (scene_seen scene.entry) (all_members (scene_seen scene.entry).table)) }
 {
     for row in scene.table.members() {
@@ -203,10 +209,10 @@ fn find_in_members(scene: Scene<'_>, found: &mut Vec<Found>) -> Result<(), Alloc
 }
 
 /// Adds the errors of a row of a table of fragments.
-fn find_in_row(
+fn find_in_row<A: Allocator>(
     scene: Scene<'_>,
     row: Result<Member<'_>, MemberFault>,
-    found: &mut Vec<Found>,
+    found: &mut Vec<Found, A>,
 ) -> Result<(), AllocError>
     ensures { OnOk result (found.new.items ≡ found.old.items ++ row_faults (scene_seen scene.entry) (member_row row.entry)) }
 {
@@ -217,10 +223,10 @@ fn find_in_row(
 }
 
 /// Adds an error of a table of fragments, which begins at an offset of the file.
-fn add_member_fault(
+fn add_member_fault<A: Allocator>(
     fault: Option<MemberFault>,
     base: u64,
-    found: &mut Vec<Found>,
+    found: &mut Vec<Found, A>,
 ) -> Result<(), AllocError>
     ensures { OnOk result (found.new.items ≡ found.old.items ++ member_fault_list base fault) }
 {
@@ -234,10 +240,10 @@ fn add_member_fault(
 }
 
 /// Adds the errors of a member: of its name, of its size and of its container.
-fn find_in_member(
+fn find_in_member<A: Allocator>(
     scene: Scene<'_>,
     member: Member<'_>,
-    found: &mut Vec<Found>,
+    found: &mut Vec<Found, A>,
 ) -> Result<(), AllocError>
     ensures { OnOk result (found.new.items ≡ found.old.items ++ member_faults (scene_seen scene.entry) (member_seen member.entry)) }
 {
@@ -248,7 +254,10 @@ fn find_in_member(
 }
 
 /// Adds the error of a place where a container should be, and where none begins.
-fn find_at_place(place: Place<'_>, found: &mut Vec<Found>) -> Result<(), AllocError>
+fn find_at_place<A: Allocator>(
+    place: Place<'_>,
+    found: &mut Vec<Found, A>,
+) -> Result<(), AllocError>
     ensures { OnOk result (found.new.items ≡ found.old.items ++ place_faults (place_seen place.entry)) }
 {
     match place_fault(place) {

@@ -16,11 +16,11 @@ use crate::fragments::print_fragments;
 use crate::scene::{Found, Scene};
 use crate::tally::Tally;
 use crate::unread::{UNREAD_COUNTS, UnreadFile};
-use crate::wrapping::{Wrapping, readable, resources_in};
-use cfm_members::FileKind;
+use crate::wrapping::{Wrapping, resources_in};
+use cfm_members::{FileKind, readable};
 use pef_ports::{Page, Sink, StreamFault, send};
 use pef_report::{Counts, Token, print_counts, print_file_line, print_file_object, print_tokens};
-use std::alloc::{AllocError, Global};
+use std::alloc::{AllocError, Allocator};
 
 /// The beginning of the object of the note that some containers weren't inspected.
 const SKIPPED_START: &[u8] =
@@ -55,9 +55,9 @@ impl<'a> FileReport<'a> {
     /// # Errors
     ///
     /// Only those of the output.
-    pub fn print<W: Sink>(
+    pub fn print<A: Allocator + Copy, W: Sink>(
         self,
-        alloc: Global,
+        alloc: A,
         out: &mut W,
         page: &mut Page,
     ) -> Result<Counts, StreamFault>
@@ -73,9 +73,9 @@ impl<'a> FileReport<'a> {
     }
 
     /// Prints the report with these errors of its forks and fragments.
-    fn print_whole<W: Sink>(
+    fn print_whole<A: Allocator + Copy, W: Sink>(
         self,
-        alloc: Global,
+        alloc: A,
         out: &mut W,
         page: &mut Page,
         found: &[Found],

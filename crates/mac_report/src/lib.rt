@@ -3,13 +3,13 @@
 #![tactic(auto)]
 
 mod containers;
-mod contents;
 mod data_file;
 mod faults;
 mod file;
 mod forks;
 mod found;
 mod fragments;
+mod in_memory;
 mod row;
 mod scene;
 mod tally;

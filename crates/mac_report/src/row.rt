@@ -6,15 +6,15 @@ ghost use Rattle.mac_report.specs.Containers.{IsInspected, IsRow, cost, errors_i
 ghost use Rattle.mac_report.specs.Views.{row_seen};
 ghost use Rattle.pef_views.specs.Partial.{partial_of};
 
-use crate::contents::Contents;
 use crate::file::Form;
 use crate::tally::Tally;
+use cfm_members::Contents;
 use pef_inspect::Limits;
 use pef_ports::{Page, Sink, StreamFault, send};
 use pef_report::{Inspection, Token, print_tokens};
 use pef_views::PartialContainer;
 use pef_words::Cut;
-use std::alloc::{AllocError, Global};
+use std::alloc::{AllocError, Allocator};
 
 /// What an inspection takes from the budget of its file, besides the bytes of the container's headers and its loader section.
 const INSPECTION_COST: u64 = 0x1_0000;
@@ -32,8 +32,8 @@ const LACKING_REST: &[u8] =
 
 /// What is known of a container.
 #[derive(Drop)]
-pub(crate) enum Row<'a> {
-    Inspected(Inspection<'a>),
+pub(crate) enum Row<'a, A: Allocator> {
+    Inspected(Inspection<'a, A>),
     /// An allocation failed. The container begins at this offset of the file.
     Lacking(u64),
     /// The containers before it and its own headers are more than the budget of the file.
@@ -41,12 +41,12 @@ pub(crate) enum Row<'a> {
 }
 
 /// Inspects the container at a place of a file, within what is left of the file's budget and its limits.
-pub(crate) fn read_row<'a>(
-    alloc: Global,
+pub(crate) fn read_row<'a, A: Allocator + Copy>(
+    alloc: A,
     contents: Contents<'a>,
     place: usize,
     tally: Tally,
-) -> Row<'a>
+) -> Row<'a, A>
     ensures { IsRow contents.entry.bytes.now tally place (row_seen result) }
 {
     let rest = contents.rest_from(place);
@@ -70,7 +70,7 @@ fn exceeds(rest: &[u8], budget: u64) -> bool
 }
 
 /// Inspects the container that begins some bytes, which are at an offset of the file.
-fn inspect<'a>(alloc: Global, rest: &'a [u8], at: u64, limits: Limits) -> Row<'a>
+fn inspect<'a, A: Allocator + Copy>(alloc: A, rest: &'a [u8], at: u64, limits: Limits) -> Row<'a, A>
     ensures { IsInspected limits rest.entry.now at (row_seen result) }
 {
     match Inspection::read_within(alloc, at, rest, limits) {
@@ -108,7 +108,7 @@ fn loader_length(rest: &[u8]) -> u64
     }
 }
 
-impl<'a> Row<'a> {
+impl<'a, A: Allocator + Copy> Row<'a, A> {
     /// Prints the container. In JSON a comma comes before it, unless it is the first one.
     pub(crate) fn print<W: Sink>(
         &self,
@@ -159,12 +159,12 @@ impl<'a> Row<'a> {
 }
 
 /// Prints a container that was inspected.
-fn print_inspected<W: Sink>(
+fn print_inspected<A: Allocator + Copy, W: Sink>(
     out: &mut W,
     page: &mut Page,
     form: Form,
     is_first: bool,
-    inspection: &Inspection<'_>,
+    inspection: &Inspection<'_, A>,
 ) -> Result<(), StreamFault>
     ensures { Sends result (W.stream out.old) (W.stream out.new) page.old.items page.new.items (inspected_text form is_first (inspected inspection.now)) }
 {
@@ -175,11 +175,11 @@ fn print_inspected<W: Sink>(
 }
 
 /// Prints the object of a container that was inspected.
-fn print_inspected_object<W: Sink>(
+fn print_inspected_object<A: Allocator + Copy, W: Sink>(
     out: &mut W,
     page: &mut Page,
     is_first: bool,
-    inspection: &Inspection<'_>,
+    inspection: &Inspection<'_, A>,
 ) -> Result<(), StreamFault>
     ensures { Sends result (W.stream out.old) (W.stream out.new) page.old.items page.new.items (inspected_object is_first (inspected inspection.now)) }
 {

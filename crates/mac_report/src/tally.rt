@@ -5,6 +5,7 @@ ghost use Rattle.mac_report.specs.Views.{row_seen};
 use crate::row::{Row, cost};
 use pef_inspect::{Limits, MAX_PACKED_BYTES, MAX_PROGRAM_BYTES, MAX_STEPS, MAX_WORDS, left_after};
 use pef_report::Counts;
+use std::alloc::Allocator;
 
 /// The budget of a file, besides its own length.
 const BUDGET: u64 = 0x0400_0000;
@@ -39,7 +40,7 @@ impl Tally {
     }
 
     /// Returns the tally after one more container, which begins some bytes.
-    pub(crate) fn with_row(self, rest: &[u8], row: &Row<'_>) -> Tally
+    pub(crate) fn with_row<A: Allocator + Copy>(self, rest: &[u8], row: &Row<'_, A>) -> Tally
         ensures { result ≡ tallied self rest.now (row_seen row.now) }
     {
         Tally {
@@ -80,7 +81,7 @@ fn file_limits(bytes: &[u8]) -> Limits
 }
 
 /// Returns what is left of the budget after a container.
-fn budget_after(budget: u64, rest: &[u8], row: &Row<'_>) -> u64
+fn budget_after<A: Allocator>(budget: u64, rest: &[u8], row: &Row<'_, A>) -> u64
     ensures { result ≡ budget_after budget rest.now (row_seen row.now) }
 {
     match row {
@@ -90,7 +91,7 @@ fn budget_after(budget: u64, rest: &[u8], row: &Row<'_>) -> u64
 }
 
 /// Returns what is left of the limits after a container.
-fn limits_after(limits: Limits, rest: &[u8], row: &Row<'_>) -> Limits
+fn limits_after<A: Allocator>(limits: Limits, rest: &[u8], row: &Row<'_, A>) -> Limits
     ensures { result ≡ limits_after limits rest.now (row_seen row.now) }
 {
     match row {

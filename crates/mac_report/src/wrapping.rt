@@ -4,11 +4,12 @@ ghost use Rattle.std.specs.Prelude.{option_map};
 ghost use Rattle.pef_words.specs.Refusals.{first_among, result_map};
 ghost use Rattle.mac_forks.specs.Views.{apple_seen, mac_file_seen, part_seen};
 ghost use Rattle.mac_resources.specs.Views.{fork_seen};
-ghost use Rattle.mac_report.specs.MacParts.{cut_in, readable, resources_in, row_error_at, wrapped_data, wrapping_of};
+ghost use Rattle.cfm_members.specs.Contents.{readable};
+ghost use Rattle.mac_report.specs.MacParts.{cut_in, resources_in, row_error_at, wrapped_data, wrapping_of};
 ghost use Rattle.mac_report.specs.Views.{wrapping_seen};
 
 use crate::forks::ForkPair;
-use cfm_members::Forks;
+use cfm_members::{Forks, readable};
 use mac_forks::{AppleFile, ForkFault, MacFile, Part};
 use mac_resources::{ResourceFault, ResourceFork};
 
@@ -98,16 +99,6 @@ fn row_error_at(file: &AppleFile<'_>, i: u16) -> Option<ForkFault>
     match file.entry(i) {
         Some(Err(fault)) => Some(fault),
         Some(Ok(_)) | None => None,
-    }
-}
-
-/// Returns a fork without its error.
-pub(crate) fn readable<'a>(fork: Option<Result<Part<'a>, ForkFault>>) -> Option<Part<'a>>
-    ensures { option_map part_seen result ≡ readable (option_map (result_map part_seen) fork.entry) }
-{
-    match fork {
-        Some(Ok(part)) => Some(part),
-        Some(Err(_)) | None => None,
     }
 }
 

@@ -10,7 +10,7 @@ use pef_format::layout::CONTAINER_OFFSET_AT;
 use pef_loader::partial_place;
 use pef_views::{PartialContainer, SectionHeader};
 use pef_words::Cut;
-use std::alloc::{AllocError, Global};
+use std::alloc::{AllocError, Allocator};
 
 /// Bytes between two parts that only align the second one are fewer than this, and all 0.
 const ALIGNED: usize = 16;
@@ -20,10 +20,10 @@ const ALIGNED: usize = 16;
 type Extent = (usize, u32, usize);
 
 /// Adds the notes on bytes that two parts have, on bytes between parts that belong to none, and on bytes after the last part.
-pub(crate) fn add_extents(
-    alloc: Global,
+pub(crate) fn add_extents<A: Allocator + Copy>(
+    alloc: A,
     container: &PartialContainer<'_>,
-    found: &mut Vec<Finding>,
+    found: &mut Vec<Finding, A>,
 ) -> Result<(), AllocError>
     ensures { OnOk result (AddsExtents (partly container.now) found.old.items found.new.items) }
 {
@@ -34,10 +34,10 @@ pub(crate) fn add_extents(
 }
 
 /// Returns the parts that have bytes in a container, in the order of their beginnings.
-fn sorted_extents(
-    alloc: Global,
+fn sorted_extents<A: Allocator + Copy>(
+    alloc: A,
     container: &PartialContainer<'_>,
-) -> Result<Vec<Extent>, AllocError>
+) -> Result<Vec<Extent, A>, AllocError>
     ensures { IfOk result (λ v. AreParts (partly container.now) v.items) }
 {
     let mut extents = extents_of(alloc, container)?;
@@ -46,10 +46,10 @@ fn sorted_extents(
 }
 
 /// Adds the notes on parts, each beside those before it, and returns where the last of them ends.
-fn compare(
+fn compare<A: Allocator>(
     container: &PartialContainer<'_>,
     extents: &[Extent],
-    found: &mut Vec<Finding>,
+    found: &mut Vec<Finding, A>,
 ) -> Result<usize, AllocError>
     ensures end { IfOk result (λ end. end ≡ greatest_end extents.now) }
     ensures notes { OnOk result (found.new.items ≡ found.old.items ++ parts_notes (partly container.now) [] extents.now) }
@@ -63,7 +63,10 @@ fn compare(
 }
 
 /// Adds an item, if there is one.
-pub(crate) fn push_some<T: Drop>(item: Option<T>, items: &mut Vec<T>) -> Result<(), AllocError>
+pub(crate) fn push_some<T: Drop, A: Allocator>(
+    item: Option<T>,
+    items: &mut Vec<T, A>,
+) -> Result<(), AllocError>
     ensures { OnOk result (items.new.items ≡ items.old.items ++ option_to_list item) }
 {
     match item {
@@ -144,7 +147,10 @@ fn are_zero(bytes: &[u8]) -> bool
 
 /// Returns the parts that have bytes in a container.
 #[tactic(auto, unfolding(crate::specs::Extents::extents_of))]
-fn extents_of(alloc: Global, container: &PartialContainer<'_>) -> Result<Vec<Extent>, AllocError>
+fn extents_of<A: Allocator + Copy>(
+    alloc: A,
+    container: &PartialContainer<'_>,
+) -> Result<Vec<Extent, A>, AllocError>
     ensures { IfOk result (λ v. v.items ≡ extents_of (partly container.now)) }
 {
     let mut extents = Vec::new(alloc);

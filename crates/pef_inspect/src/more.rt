@@ -6,7 +6,7 @@ use crate::finding::Finding;
 use crate::limits::Limits;
 use crate::twice::add_twice;
 use pef_views::PartialContainer;
-use std::alloc::{AllocError, Global};
+use std::alloc::{AllocError, Allocator};
 
 /// Returns the notes that need memory: bytes that two parts have, bytes between parts that belong to none, bytes after the
 /// last part, and the first word of each program to which it or an earlier one has already added. Programs with too many words
@@ -16,7 +16,10 @@ use std::alloc::{AllocError, Global};
 ///
 /// Only want of memory.
 #[tactic(auto, unfolding(crate::specs::More::AreMore))]
-pub fn find_more_notes(alloc: Global, bytes: &[u8]) -> Result<Vec<Finding>, AllocError>
+pub fn find_more_notes<A: Allocator + Copy>(
+    alloc: A,
+    bytes: &[u8],
+) -> Result<Vec<Finding, A>, AllocError>
     ensures { IfOk result (λ found. AreMore bytes.now found.items) }
 {
     find_more_notes_within(alloc, bytes, Limits::for_container())
@@ -28,11 +31,11 @@ pub fn find_more_notes(alloc: Global, bytes: &[u8]) -> Result<Vec<Finding>, Allo
 ///
 /// Only want of memory.
 #[tactic(auto, unfolding(crate::specs::More::AreMoreWithin))]
-pub fn find_more_notes_within(
-    alloc: Global,
+pub fn find_more_notes_within<A: Allocator + Copy>(
+    alloc: A,
     bytes: &[u8],
     limits: Limits,
-) -> Result<Vec<Finding>, AllocError>
+) -> Result<Vec<Finding, A>, AllocError>
     ensures { IfOk result (λ found. AreMoreWithin limits bytes.now found.items) }
 {
     let mut found = Vec::new(alloc);

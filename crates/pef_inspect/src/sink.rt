@@ -4,7 +4,7 @@ ghost use Rattle.pef_words.specs.Findings.{all_among, all_met};
 ghost use Rattle.pef_inspect.specs.declared.finding.Finding.{Finding};
 
 use crate::finding::Finding;
-use std::alloc::AllocFailed;
+use std::alloc::{AllocFailed, Allocator};
 
 /// Takes findings, one after the other.
 pub trait Findings {
@@ -67,7 +67,7 @@ pub(crate) fn take_some<S: Findings>(found: Option<Finding>, sink: &mut S) -> Re
 }
 
 /// Keeps all findings.
-impl Findings for Vec<Finding> {
+impl<A: Allocator> Findings for Vec<Finding, A> {
     ghost taken = { λ kept. kept.items };
 
     type Error = AllocFailed<Finding>;

@@ -19,16 +19,16 @@ use pef_format::Part;
 use pef_loader::{PartialLoader, partial_place};
 use pef_reloc::Fixups;
 use pef_views::PartialContainer;
-use std::alloc::{AllocError, Global};
+use std::alloc::{AllocError, Allocator};
 use std::collections::BTreeSet;
 
 /// Adds the note on the first word of each program to which it or an earlier one has already added.
 #[tactic(auto, unfolding(crate::specs::Twice::twice_in))]
-pub(crate) fn add_twice(
-    alloc: Global,
+pub(crate) fn add_twice<A: Allocator + Copy>(
+    alloc: A,
     container: &PartialContainer<'_>,
     limits: Limits,
-    found: &mut Vec<Finding>,
+    found: &mut Vec<Finding, A>,
 ) -> Result<(), AllocError>
     ensures { OnOk result (found.new.items ≡ found.old.items ++ twice_in limits (partly container.now)) }
 {
@@ -39,12 +39,12 @@ pub(crate) fn add_twice(
 }
 
 /// Adds those of a loader section, and the note on programs that have too many words.
-fn add_in_loader(
-    alloc: Global,
+fn add_in_loader<A: Allocator + Copy>(
+    alloc: A,
     container: &PartialContainer<'_>,
     loader: &PartialLoader<'_>,
     limits: Limits,
-    found: &mut Vec<Finding>,
+    found: &mut Vec<Finding, A>,
 ) -> Result<(), AllocError>
     ensures { OnOk result (found.new.items ≡ found.old.items ++ twice_notes limits (partly container.now) (partly_loaded loader.now)) }
 {
@@ -73,11 +73,11 @@ pub(crate) fn words_within(
 }
 
 /// Adds those of the first `count` programs.
-fn add_each(
-    alloc: Global,
+fn add_each<A: Allocator + Copy>(
+    alloc: A,
     words: Words<'_, '_>,
     count: u32,
-    found: &mut Vec<Finding>,
+    found: &mut Vec<Finding, A>,
 ) -> Result<(), AllocError>
     ensures { OnOk result (found.new.items ≡ found.old.items ++ all_among (λ k. option_to_list (twice_note (partly words.entry.container.now) (partly_loaded words.entry.loader.now) k)) 0 count) }
 {
@@ -115,7 +115,11 @@ impl<'c, 'a> Costed for Words<'c, 'a> {
 
 impl<'c, 'a> Words<'c, 'a> {
     /// Adds the words of the program of relocation header `k` to those seen, and returns the note on the first that was among them.
-    fn twice(self, k: u32, seen: &mut BTreeSet<Word>) -> Result<Option<Finding>, AllocError>
+    fn twice<A: Allocator + Copy>(
+        self,
+        k: u32,
+        seen: &mut BTreeSet<Word, A>,
+    ) -> Result<Option<Finding>, AllocError>
         ensures note { (before : List (ℕ × ℕ)) → IsSeen seen.old before → IfOk result (λ note. note ≡ again_note (partly self.entry.container.now) k (first_again before (words_at (partly self.entry.container.now) (partly_loaded self.entry.loader.now) k))) }
         ensures seen { (before : List (ℕ × ℕ)) → IsSeen seen.old before → OnOk result (IsSeen seen.new (before ++ words_at (partly self.entry.container.now) (partly_loaded self.entry.loader.now) k)) }
     {
@@ -148,8 +152,8 @@ fn words_left(fixups: Fixups<'_>, limit: u64) -> Option<u64>
 }
 
 /// Adds the words of a section to which a program adds to those seen, and returns the first that was among them.
-fn add_words(
-    seen: &mut BTreeSet<Word>,
+fn add_words<A: Allocator + Copy>(
+    seen: &mut BTreeSet<Word, A>,
     section: u16,
     fixups: Fixups<'_>,
 ) -> Result<Option<Word>, AllocError>

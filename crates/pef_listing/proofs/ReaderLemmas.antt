@@ -116,7 +116,7 @@ unfolding container_text
 header-some h = omega arith
 
 -- an output that keeps its bytes, as it is seen by what sends
-abbrev pub text_stream : text.Text → Stream
+abbrev pub text_stream : {Y : Type 0} → text.Text Y → Stream
 text_stream t = record { bytes = Some t.bytes.items; failures = t.failures; failed = t.failed }
 
 -- what holds in any case

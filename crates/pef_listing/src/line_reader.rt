@@ -8,6 +8,7 @@ use crate::listing::{Listing, print_entries};
 use pef_loader::ImportReader;
 use pef_ports::{Page, Sink, StreamFault, Text, flush};
 use pef_reloc::Instrs;
+use std::alloc::Global;
 
 /// A place in a listing: what is printed next.
 #[derive(Clone, Copy, Debug)]
@@ -97,7 +98,11 @@ impl<'a> LineReader<'a> {
     }
 
     /// Prints lines until there are `wanted` bytes, or no line is left.
-    pub(crate) fn print_up_to(&mut self, text: &mut Text, wanted: usize) -> Result<(), StreamFault>
+    pub(crate) fn print_up_to(
+        &mut self,
+        text: &mut Text<Global>,
+        wanted: usize,
+    ) -> Result<(), StreamFault>
         ensures listing { self.new.listing ≡ self.old.listing }
         ensures same { OnOk result (text.new.bytes.items ++ lines_left self.new ≡ text.old.bytes.items ++ lines_left self.old) }
         ensures enough { OnOk result ((wanted ≤ length text.new.bytes.items) ⊎ (lines_left self.new ≡ [])) }

@@ -1,16 +1,17 @@
 ghost use Rattle.std.specs.Prelude.{◌≡◌, length};
 
 use crate::ports::{Sink, StreamFault};
+use std::alloc::Allocator;
 
 /// An output that keeps its bytes in memory. It fails only if an allocation fails.
 #[derive(Drop)]
-pub struct Text {
-    bytes: Vec<u8>,
+pub struct Text<A: Allocator> {
+    bytes: Vec<u8, A>,
     failures: u64,
     failed: bool,
 }
 
-impl Sink for Text {
+impl<A: Allocator> Sink for Text<A> {
     ghost use Rattle.std.specs.Prelude.{Some};
 
     ghost stream = { λ text. record { bytes = Some text.bytes.items; failures = text.failures; failed = text.failed } };
@@ -26,9 +27,9 @@ impl Sink for Text {
     }
 }
 
-impl Text {
+impl<A: Allocator> Text<A> {
     /// Returns an output that has these bytes already.
-    pub fn new(bytes: Vec<u8>) -> Text
+    pub fn new(bytes: Vec<u8, A>) -> Text<A>
         ensures { result.bytes.items ≡ bytes.items }
     {
         Text {
@@ -46,7 +47,7 @@ impl Text {
     }
 
     /// Returns the bytes.
-    pub fn into_bytes(self) -> Vec<u8>
+    pub fn into_bytes(self) -> Vec<u8, A>
         ensures { result.items ≡ self.bytes.items }
     {
         let Text { bytes, .. } = self;

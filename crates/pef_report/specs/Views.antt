@@ -9,7 +9,7 @@ use Rattle.pef_report.specs.declared.reading.LoaderReading.{LoaderReading}
 use Rattle.pef_report.specs.declared.reading.Reading.{Reading}
 
 -- what an inspection has
-abbrev pub inspected : Inspection → Inspected
+abbrev pub inspected : {Y : Type 0} → Inspection Y → Inspected
 inspected i = record { base = i.base; bytes = i.bytes.now; programs = i.programs; findings = i.findings.items }
 
 -- what can be read

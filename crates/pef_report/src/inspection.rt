@@ -14,7 +14,7 @@ use pef_inspect::{
     Finding, Limits, find_errors_within, find_more_notes_within, find_notes_within, programs_shown,
 };
 use pef_ports::{Page, Sink, StreamFault, send};
-use std::alloc::{AllocError, Global};
+use std::alloc::{AllocError, Allocator};
 
 /// The kinds of rows, in the order in which they are printed.
 const ROW_PARTS: [Part; 10] = [
@@ -32,15 +32,15 @@ const ROW_PARTS: [Part; 10] = [
 
 /// A container with everything that is known of it: what can be read, and all errors and notes.
 #[derive(Drop)]
-pub struct Inspection<'a> {
+pub struct Inspection<'a, A: Allocator> {
     base: u64,
     bytes: &'a [u8],
     /// How many relocation programs are printed.
     programs: u32,
-    findings: Vec<Finding>,
+    findings: Vec<Finding, A>,
 }
 
-impl<'a> Inspection<'a> {
+impl<'a, A: Allocator + Copy> Inspection<'a, A> {
     ghost use Rattle.pef_report.specs.Views.{inspected};
 
     /// Inspects the container `bytes`, which begins at the offset `base` of its file, within the limits for one container.
@@ -48,7 +48,7 @@ impl<'a> Inspection<'a> {
     /// # Errors
     ///
     /// Only want of memory.
-    pub fn read(alloc: Global, base: u64, bytes: &'a [u8]) -> Result<Inspection<'a>, AllocError>
+    pub fn read(alloc: A, base: u64, bytes: &'a [u8]) -> Result<Inspection<'a, A>, AllocError>
         ensures { IfOk result (λ i. Inspects base bytes.entry.now (inspected i)) }
     {
         Inspection::read_within(alloc, base, bytes, Limits::for_container())
@@ -61,11 +61,11 @@ impl<'a> Inspection<'a> {
     ///
     /// Only want of memory.
     pub fn read_within(
-        alloc: Global,
+        alloc: A,
         base: u64,
         bytes: &'a [u8],
         limits: Limits,
-    ) -> Result<Inspection<'a>, AllocError>
+    ) -> Result<Inspection<'a, A>, AllocError>
         ensures { IfOk result (λ i. InspectsWithin limits base bytes.entry.now (inspected i)) }
     {
         let mut findings = find_all(alloc, bytes, limits)?;
@@ -155,7 +155,11 @@ impl<'a> Inspection<'a> {
 }
 
 /// Returns all errors and notes of a container: errors, notes, and then the notes that need memory.
-fn find_all(alloc: Global, bytes: &[u8], limits: Limits) -> Result<Vec<Finding>, AllocError>
+fn find_all<A: Allocator + Copy>(
+    alloc: A,
+    bytes: &[u8],
+    limits: Limits,
+) -> Result<Vec<Finding, A>, AllocError>
     ensures { IfOk result (λ found. AreAll limits bytes.now found.items) }
 {
     let mut findings = Vec::new(alloc);
@@ -167,7 +171,7 @@ fn find_all(alloc: Global, bytes: &[u8], limits: Limits) -> Result<Vec<Finding>,
 }
 
 /// Puts errors and notes into the order of their rows, and of the instructions below a row.
-fn put_in_order(findings: &mut Vec<Finding>) -> Result<(), AllocError>
+fn put_in_order<A: Allocator>(findings: &mut Vec<Finding, A>) -> Result<(), AllocError>
     ensures { OnOk result (IsInOrder findings.old.items findings.new.items) }
 {
     findings.sort_by_key(|finding| finding_rank(finding))?;

@@ -1,9 +1,10 @@
 -- Each container sends its text, and is counted.
 use Rattle.std.proofs.Common.{◌==◌, ◌∙◌, ap, refl}
+use Rattle.cfm_members.specs.Contents.{rest_from}
 use Rattle.cfm_members.specs.Search.{containers_in}
 use Rattle.cfm_members.specs.Views.{places_left}
 use Rattle.pef_ports.proofs.Laws.Sending.{Sends-short}
-use Rattle.mac_report.specs.Containers.{Steps, rest_from, row_text, tallied}
+use Rattle.mac_report.specs.Containers.{Steps, row_text, tallied}
 use Rattle.mac_report.specs.Views.{row_seen}
 use Rattle.mac_report.proofs.ContainerLemmas.{no_value, walked-all, walked-more, walked-nothing, walked-short}
 use Rattle.mac_report.proofs.containers.print_contents.Goals as goal

@@ -7,7 +7,7 @@ use Rattle.mac_report.proofs.faults.find_faults.Goals as goal
 
 pub returns : goal.returns
 unfolding faults_of
-returns c =
+returns g c =
     let w = wrapping_seen c.of-wrapping.result in
     let a = header_faults w.fault in
     let rows = header_faults w.cut in

@@ -6,4 +6,4 @@ use Rattle.mac_report.specs.Faults.{resources_faults}
 use Rattle.mac_report.proofs.faults.find_in_resources.Given as goal
 
 abbrev pub invariant-loop-row : goal.invariant-loop-row
-invariant-loop-row l = l.found.items ++ resources_faults l.base (left l.row-iterator) ≡ l.fn.found.items ++ resources_faults l.base (all_resources (fork_seen l.fork))
+invariant-loop-row g l = l.found.items ++ resources_faults l.base (left l.row-iterator) ≡ l.fn.found.items ++ resources_faults l.base (all_resources (fork_seen l.fork))

@@ -9,7 +9,7 @@ use Rattle.pef_inspect.proofs.ExtentLemmas.{greatest_end-more, parts_notes-next}
 use Rattle.pef_inspect.proofs.extents.compare.Goals as goal
 
 pub loop-extent-preserved : goal.loop-extent-preserved
-loop-extent-preserved c =
+loop-extent-preserved g c =
     let p = partly c.args.container.now in
     let extents = c.args.extents.now in
     let i = c.loop-extent.extent-index in

@@ -5,7 +5,7 @@ use Rattle.pef_inspect.specs.Extents.{greatest_end, parts_notes}
 use Rattle.pef_inspect.proofs.extents.compare.Given as goal
 
 abbrev pub invariant-loop-extent : goal.invariant-loop-extent
-invariant-loop-extent l = record {
+invariant-loop-extent g l = record {
   ends : l.end ≡ greatest_end (take l.extent-index l.extents);
   notes : l.found.items ++ parts_notes (partly l.container) (take l.extent-index l.extents) (drop l.extent-index l.extents) ≡ l.fn.found.items ++ parts_notes (partly l.container) [] l.extents;
 }

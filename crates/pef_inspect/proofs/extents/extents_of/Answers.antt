@@ -7,7 +7,7 @@ use Rattle.pef_inspect.specs.Extents.{Extent, section_extent}
 use Rattle.pef_inspect.proofs.extents.extents_of.Goals as goal
 
 pub loop-i-preserved : goal.loop-i-preserved
-loop-i-preserved c =
+loop-i-preserved g c =
     let p = partly c.args.container.now in
     let n = p.header.section_count in
     let parts : ℕ → List Extent = λ i. option_to_list (section_extent p i) in

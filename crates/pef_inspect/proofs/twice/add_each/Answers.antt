@@ -11,7 +11,7 @@ use Rattle.pef_inspect.proofs.Seeing.{among_last}
 use Rattle.pef_inspect.proofs.twice.add_each.Goals as goal
 
 pub loop-k-preserved : goal.loop-k-preserved
-loop-k-preserved c =
+loop-k-preserved g c =
     let p = partly c.args.words.container.now in
     let l = partly_loaded c.args.words.loader.now in
     let notes : ℕ → List Finding = λ k. option_to_list (twice_note p l k) in

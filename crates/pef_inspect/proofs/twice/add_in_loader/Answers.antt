@@ -12,7 +12,7 @@ use Rattle.pef_inspect.proofs.Within.{checked-all, checked-part}
 use Rattle.pef_inspect.proofs.twice.add_in_loader.Goals as goal
 
 pub returns-then-searched-runs : goal.returns-then-searched-runs
-returns-then-searched-runs c =
+returns-then-searched-runs g c =
     let p = partly c.args.container.now in
     let l = partly_loaded c.args.loader.now in
     let before = c.args.found.now.items in
@@ -24,7 +24,7 @@ returns-then-searched-runs c =
     ∙ ap (λ xs. before ++ xs) (part ∙ ap (checked_within (words_cost p l) (twice_note p l) (programs_unverified p) c.args.limits.words) c.runs_within-runs.ensures.value)
 
 pub returns : goal.returns
-returns c =
+returns g c =
     let p = partly c.args.container.now in
     let l = partly_loaded c.args.loader.now in
     let all = checked-all (words_cost p l) (twice_note p l) (programs_unverified p) c.args.limits.words c.runs_within-runs.result.count c.words_within-searched.result.count c.words_within-searched.ensures.value (omega arith) in

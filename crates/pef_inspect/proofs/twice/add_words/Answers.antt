@@ -13,7 +13,7 @@ flipped false true is = refl
 flipped false false is = is
 
 pub loop-addition-preserved-then-is_none : goal.loop-addition-preserved-then-is_none
-loop-addition-preserved-then-is_none c = record {
+loop-addition-preserved-then-is_none g c = record {
   can = c.loop-addition.invariant.can;
   finite = c.loop-addition.invariant.finite;
   walked = λ before is.
@@ -24,7 +24,7 @@ loop-addition-preserved-then-is_none c = record {
 }
 
 pub loop-addition-preserved : goal.loop-addition-preserved
-loop-addition-preserved c = record {
+loop-addition-preserved g c = record {
   can = c.loop-addition.invariant.can;
   finite = c.loop-addition.invariant.finite;
   walked = λ before is.
@@ -39,13 +39,13 @@ loop-addition-preserved c = record {
 }
 
 pub returns-clause-again : goal.returns-clause-again
-returns-clause-again c before is =
+returns-clause-again g c before is =
     let words = words_in c.args.section (fixups_left c.args.fixups) in
     again_at_end before words c.loop-addition.seen c.loop-addition.again
     (subst (λ left. Walked before words c.loop-addition.seen c.loop-addition.again (words_in c.args.section left)) c.in_default.ensures.steps.0 (c.loop-addition.invariant.walked before is))
 
 pub returns-clause-seen : goal.returns-clause-seen
-returns-clause-seen c before is =
+returns-clause-seen g c before is =
     let words = words_in c.args.section (fixups_left c.args.fixups) in
     seen_at_end before words c.loop-addition.seen c.loop-addition.again
     (subst (λ left. Walked before words c.loop-addition.seen c.loop-addition.again (words_in c.args.section left)) c.in_default.ensures.steps.0 (c.loop-addition.invariant.walked before is))
