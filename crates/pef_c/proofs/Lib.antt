@@ -1,8 +1,9 @@
 mod Filling
-mod HandleValues
 mod KeptLemmas
 mod LogSteps
 mod MacFilling
 mod NumberLemmas
 mod PartLemmas
+mod Pointers
+mod WalkSteps
 mod WrittenLemmas

@@ -4,7 +4,7 @@ ghost use Rattle.std.specs.Option.{is_some};
 ghost use Rattle.cfm_prepare.specs.Contexts.{ContextState};
 ghost use Rattle.pef_c.specs.Handles.{handle_owns};
 
-use crate::loose::Loose;
+use crate::pointer::Pointer;
 use cfm_prepare::Context;
 use std::alloc::Global;
 use std::marker::Model;
@@ -23,32 +23,21 @@ impl Model for Handle {
     ghost also_owns = { λ h. handle_owns h.at h.value };
 }
 
-/// Turns a box into a handle to its context.
-fn seal(loose: Loose<Context<'static>, Global>) -> Handle
-    ensures { result.value ≡ Some loose.entry.value }
+/// Turns a pointer to a context into a handle.
+fn seal(pointer: Pointer<Context<'static>>) -> Handle
+    ensures { result.value ≡ pointer.entry.value }
 {
-    let Loose { at, alloc: _ } = loose;
+    let Pointer { at } = pointer;
     Handle { at: at as *mut u8 }
 }
 
-/// Turns a handle back into the box of its context.
-fn unseal(alloc: Global, handle: Handle) -> Loose<Context<'static>, Global>
-    requires { is_some handle.value ≡ true }
-    ensures { Some result.value ≡ handle.value }
+/// Turns a handle back into the pointer to its context.
+fn unseal(handle: Handle) -> Pointer<Context<'static>>
+    ensures { result.value ≡ handle.value }
 {
     let Handle { at } = handle;
-    Loose {
+    Pointer {
         at: at as *mut Context<'static>,
-        alloc,
-    }
-}
-
-/// Returns a handle to nothing.
-fn closed() -> Handle
-    ensures { result.value ≡ None }
-{
-    Handle {
-        at: std::ptr::null_mut(),
     }
 }
 
@@ -66,7 +55,7 @@ pub(crate) fn none() -> PefContext
     ensures { result.handle.value ≡ None }
 {
     PefContext {
-        handle: closed(),
+        handle: seal(Pointer::none()),
         is_open: false,
     }
 }
@@ -80,7 +69,7 @@ pub(crate) fn take(alloc: Global, context: &mut PefContext) -> Option<Box<Contex
     if !is_open {
         return None;
     }
-    Some(unseal(alloc, handle).into_box())
+    Some(unseal(handle).into_box(alloc))
 }
 
 /// Puts a context into what C holds.
@@ -88,7 +77,7 @@ pub(crate) fn put(context: &mut PefContext, boxed: Box<Context<'static>, Global>
     ensures { context.new.handle.value ≡ Some boxed.entry.value }
 {
     *context = PefContext {
-        handle: seal(Loose::of(boxed)),
+        handle: seal(Pointer::from_box(boxed)),
         is_open: true,
     };
 }

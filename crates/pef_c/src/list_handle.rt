@@ -4,7 +4,7 @@ ghost use Rattle.std.specs.Option.{is_some};
 ghost use Rattle.pef_listing.specs.declared.reader.ListingReader.{ListingReader};
 ghost use Rattle.pef_c.specs.Handles.{reader_owns};
 
-use crate::loose::Loose;
+use crate::pointer::Pointer;
 use pef_listing::ListingReader;
 use std::alloc::Global;
 use std::marker::Model;
@@ -23,32 +23,21 @@ impl Model for ReaderHandle {
     ghost also_owns = { λ h. reader_owns h.at h.value };
 }
 
-/// Turns a box into a handle to its reader.
-fn seal(loose: Loose<ListingReader<'static>, Global>) -> ReaderHandle
-    ensures { result.value ≡ Some loose.entry.value }
+/// Turns a pointer to a reader into a handle.
+fn seal(pointer: Pointer<ListingReader<'static>>) -> ReaderHandle
+    ensures { result.value ≡ pointer.entry.value }
 {
-    let Loose { at, alloc: _ } = loose;
+    let Pointer { at } = pointer;
     ReaderHandle { at: at as *mut u8 }
 }
 
-/// Turns a handle back into the box of its reader.
-fn unseal(alloc: Global, handle: ReaderHandle) -> Loose<ListingReader<'static>, Global>
-    requires { is_some handle.value ≡ true }
-    ensures { Some result.value ≡ handle.value }
+/// Turns a handle back into the pointer to its reader.
+fn unseal(handle: ReaderHandle) -> Pointer<ListingReader<'static>>
+    ensures { result.value ≡ handle.value }
 {
     let ReaderHandle { at } = handle;
-    Loose {
+    Pointer {
         at: at as *mut ListingReader<'static>,
-        alloc,
-    }
-}
-
-/// Returns a handle to nothing.
-fn closed() -> ReaderHandle
-    ensures { result.value ≡ None }
-{
-    ReaderHandle {
-        at: std::ptr::null_mut(),
     }
 }
 
@@ -66,7 +55,7 @@ pub(crate) fn none() -> PefListing
     ensures { result.handle.value ≡ None }
 {
     PefListing {
-        handle: closed(),
+        handle: seal(Pointer::none()),
         is_open: false,
     }
 }
@@ -83,7 +72,7 @@ pub(crate) fn take(
     if !is_open {
         return None;
     }
-    Some(unseal(alloc, handle).into_box())
+    Some(unseal(handle).into_box(alloc))
 }
 
 /// Puts a reader into what C holds.
@@ -91,7 +80,7 @@ pub(crate) fn put(listing: &mut PefListing, boxed: Box<ListingReader<'static>, G
     ensures { listing.new.handle.value ≡ Some boxed.entry.value }
 {
     *listing = PefListing {
-        handle: seal(Loose::of(boxed)),
+        handle: seal(Pointer::from_box(boxed)),
         is_open: true,
     };
 }
