@@ -1,5 +1,5 @@
 -- What it means that a container is accepted, and what that requires.
-use Rattle.std.proofs.Common.{◌≡◌, ℕ, ◌<◌, ◌≤◌, not, List, Option, None, Some, refl, subst, ap}
+use Rattle.std.proofs.Common.{◌≡◌, ℕ, ◌<◌, ◌≤◌, false, not, List, Option, None, Some, refl, subst, ap}
 use Rattle.std.specs.Prelude.{◌==◌, ◌&&◌, Ok, Err, IsTrue, length, nat_lt}
 use Rattle.std.proofs.lemmas.Bool.{lt-ltb, ltb-false}
 use Rattle.std.specs.Option.{option_map_or}
@@ -8,7 +8,7 @@ use Rattle.std.specs.Result.{result_unwrap_or}
 use Rattle.pef_views.specs.declared.header.Header.{Header}
 use Rattle.pef_views.specs.declared.section.SectionHeader.{SectionHeader}
 use Rattle.pef_views.specs.declared.fault.ViewFault.TheVariants.{TooShort}
-use Rattle.pef_views.specs.Header.{header_of, header_tests, joy, peff, pwpc, version_1}
+use Rattle.pef_views.specs.Header.{header_of, header_tests, joy, names_from, peff, pwpc, version_1}
 use Rattle.pef_views.specs.Section.{section_at, section_tests, is_inside, raw_of}
 use Rattle.pef_views.specs.Container.{Contained, IsContainer, IsInstantiable, is_instantiated, section_in, container_of, judged, loader_of, section_refusal, with_loader}
 use Rattle.pef_views.proofs.Sections.{length-raw_of, section_unmet, unmet_inside, unmet_instantiable, unrefused}
@@ -66,18 +66,31 @@ module _ (c : Contained) (i : ℕ) (s : SectionHeader) (ok : IsContainer c) (und
   pub instantiable : i < c.header.instantiated_section_count → IsInstantiable (section_in c.bytes s)
   instantiable below = unmet_instantiable i c.bytes s (rw (lt-ltb i c.header.instantiated_section_count below) at unmet)
 
-header_counts : (h : Header) (len : ℕ) → first_met (header_tests h len) ≡ None → h.instantiated_section_count ≤ h.section_count
+-- no test of a header holds for bytes of a length
+pub record IsUnmet (h : Header) (len : ℕ) : Type 0 where
+  pub tag : not (h.tag_1 == joy && h.tag_2 == peff) ≡ false
+  pub architecture : not (h.architecture == pwpc) ≡ false
+  pub version : not (h.format_version == version_1) ≡ false
+  pub counts : nat_lt h.section_count h.instantiated_section_count ≡ false
+  pub room : nat_lt len (names_from h) ≡ false
+
+pub header_unmet : (h : Header) (len : ℕ) → first_met (header_tests h len) ≡ None → IsUnmet h len
 unfolding header_tests
-header_counts h len none =
+header_unmet h len none =
     let tag = first_unmet (not (h.tag_1 == joy && h.tag_2 == peff)) _ _ none in
     let architecture = first_unmet (not (h.architecture == pwpc)) _ _ tag.1 in
     let version = first_unmet (not (h.format_version == version_1)) _ _ architecture.1 in
     let counts = first_unmet (nat_lt h.section_count h.instantiated_section_count) _ _ version.1 in
-    ltb-false h.section_count h.instantiated_section_count counts.0
+    let room = first_unmet (nat_lt len (names_from h)) _ _ counts.1 in
+    record { tag = tag.0; architecture = architecture.0; version = version.0; counts = counts.0; room = room.0 }
+
+-- header tests that don't hold leave room for the section headers
+pub header_room : (h : Header) (len : ℕ) → first_met (header_tests h len) ≡ None → names_from h ≤ len
+header_room h len none = ltb-false len (names_from h) (header_unmet h len none).room
 
 -- a container has no more instantiated sections than sections
 pub counts : (c : Contained) → IsContainer c → c.header.instantiated_section_count ≤ c.header.section_count
-counts c ok = header_counts c.header (length c.bytes) (accepted c ok).tests
+counts c ok = ltb-false c.header.section_count c.header.instantiated_section_count (header_unmet c.header (length c.bytes) (accepted c ok).tests).counts
 
 -- the header of each section below the count is there
 pub section_header_is : (c : Contained) (i : ℕ) → IsContainer c → i < c.header.section_count → (s : SectionHeader) × (section_at c.bytes i ≡ Some s)

@@ -2,14 +2,13 @@
 use Rattle.std.proofs.Common.{◌≡◌, ℕ, ℤ, pos, negsuc, zero, suc, ◌+◌, ◌-◌, ◌<◌, ◌≤◌, ◌⊎◌, ◌∙◌, max, min, not, Bool, true, false, List, [], ◌∷◌, Option, None, Some, drop, take, length, length-take, length-drop, refl, sym, ap, subst, arith, inl, inr}
 use Rattle.std.specs.Prelude.{◌==◌, ◌&&◌, ◌||◌, Ok, Err, nat_le, nat_lt, option_map, unwrap_or, if◌then◌else◌}
 use Rattle.std.specs.Option.{option_map_or}
-use Rattle.std.proofs.Math.ListN.{drop_of_length-le}
-use Rattle.std.proofs.Math.Seq.{drop-nil}
 use Rattle.std.proofs.Math.Nat.{le-max_left, le-max_right, max-zero}
 use Rattle.std.proofs.lemmas.Bool.{cases_lt, eqb-true, le-leb, le-ltb, leb-true, lt-ltb, ltb-false, ne_eqb}
-use Rattle.std.proofs.lemmas.List.{drop-take, get_or-take, length-take-le, take_min}
-use Rattle.byteorder.specs.Endian.{big_from}
+use Rattle.std.proofs.lemmas.List.{drop-drop, length-take-le, take_min}
+use Rattle.std.proofs.Math.Seq.{take-take}
 use Rattle.pef_words.specs.Bytes.{before_zero, name_at, number_at}
 use Rattle.pef_words.specs.Refusals.{first_among, first_met}
+use Rattle.pef_words.proofs.Laws.Numbers.{number-kept, rest-kept}
 use Rattle.pef_words.proofs.Laws.Refusals.{first_among-none, first_unmet, unless_ok}
 use Rattle.pef_views.specs.declared.header.Header.{Header}
 use Rattle.pef_views.specs.declared.section.SectionHeader.{SectionHeader}
@@ -18,7 +17,7 @@ use Rattle.pef_views.specs.Section.{is_inside, raw_of, section_at, section_tests
 use Rattle.pef_views.specs.Container.{Contained, IsContainer, container_of, is_instantiated, loader_here, loader_of, name_in, section_in, section_name_of, section_of, section_refusal, judged}
 use Rattle.pef_views.specs.declared.fault.ViewFault.TheVariants.{TooShort}
 use Rattle.pef_views.specs.Extents.{IsSame, KeepsContainers, extent, greatest, last_name, name_start, names_end, own_bytes, parts_end, raw_end}
-use Rattle.pef_views.proofs.Containers.{accepted, accepts, raw_inside, section_header_is, with_loader_ok}
+use Rattle.pef_views.proofs.Containers.{IsUnmet, accepted, accepts, header_room, header_unmet, raw_inside, section_header_is, with_loader_ok}
 use Rattle.pef_views.proofs.Sections.{section_unmet}
 
 -- one number more
@@ -38,40 +37,6 @@ greatest-bound f from (suc n) k low high = elim (cases_lt from k) [
   | inl less ↦ (let there = greatest-bound f (from + 1) n k (omega (arith, less)) (omega (arith, high)) in omega (arith, there, le-max_right (f from) (greatest f (from + 1) n)))
   | inr same ↦ (let here : from ≡ k = omega (arith, low, same) in subst (λ x. f x ≤ greatest f from (suc n)) here (le-max_left (f from) (greatest f (from + 1) n)))
 ]
-
--- bytes that are kept, from a place on
-rest-kept : (at end : ℕ) (bytes : List ℕ) → drop at (take end bytes) ≡ take (end - at) (drop at bytes)
-rest-kept at end bytes = elim (cases_lt at end) [
-  | inl less ↦ (let e : end ≡ at + (end - at) = omega (arith, less) in ap (λ x. drop at (take x bytes)) e ∙ drop-take at (end - at) bytes)
-  | inr past ↦ (
-      let none : end - at ≡ 0 = omega (arith, past) in
-      let few = length-take end bytes in
-      rw none (drop_of_length-le (take end bytes) (omega (arith, few, past)))
-      )
-]
-
--- bytes from a place on, and from another on
-drop-drop : (n m : ℕ) (xs : List ℕ) → drop m (drop n xs) ≡ drop (n + m) xs
-drop-drop zero m xs = (let e : zero + m ≡ m = omega arith in rw e refl)
-drop-drop (suc n) m [] = drop-nil m ∙ sym (drop-nil (suc n + m))
-drop-drop (suc n) m (x ∷ xs) = (let e : suc n + m ≡ suc (n + m) = omega arith in rw e (drop-drop n m xs))
-
--- a number among them
-digits-kept : (i n m : ℕ) (xs : List ℕ) → i + n ≤ m → big_from i n (take m xs) ≡ big_from i n xs
-digits-kept i zero m xs within = refl
-digits-kept i (suc n) m xs within = rw (get_or-take m xs i 0 (omega (arith, within)), digits-kept (suc i) n m xs (omega (arith, within))) refl
-
-number-kept : (n at end : ℕ) (bytes : List ℕ) → at + n ≤ end → end ≤ length bytes → number_at n (take end bytes) at ≡ number_at n bytes at
-unfolding number_at
-number-kept n at end bytes within under =
-    rw (length-take-le end bytes under, le-leb (at + n) end within, le-leb (at + n) (length bytes) (omega (arith, within, under)), rest-kept at end bytes, digits-kept 0 n (end - at) (drop at bytes) (omega (arith, within))) refl
-
--- a part among them
-take-less : (n m : ℕ) (xs : List ℕ) → n ≤ m → take n (take m xs) ≡ take n xs
-take-less zero m xs few = refl
-take-less (suc n) zero xs few = absurd (omega (arith, few))
-take-less (suc n) (suc m) [] few = refl
-take-less (suc n) (suc m) (x ∷ xs) few = ap (λ ys. x ∷ ys) (take-less n m xs (omega (arith, few)))
 
 -- a name: its first byte is zero, or the others follow
 abbrev IsNamed : ℕ → List ℕ → List ℕ → Type 0
@@ -159,23 +124,9 @@ record Keeps (c : Contained) (end : ℕ) : Type 0 where
       → before_zero (drop (names_from c.header + offset) c.bytes) ≡ Some name → names_from c.header + offset + length name < end
 
 -- no test of a header holds in fewer bytes that have all headers
-header_unmet : (h : Header) (len end : ℕ) → first_met (header_tests h len) ≡ None → names_from h ≤ end → first_met (header_tests h end) ≡ None
+unmet_within : (h : Header) (len end : ℕ) → IsUnmet h len → names_from h ≤ end → first_met (header_tests h end) ≡ None
 unfolding header_tests
-header_unmet h len end none room =
-    let tag = first_unmet (not (h.tag_1 == joy && h.tag_2 == peff)) _ _ none in
-    let architecture = first_unmet (not (h.architecture == pwpc)) _ _ tag.1 in
-    let version = first_unmet (not (h.format_version == version_1)) _ _ architecture.1 in
-    let counts = first_unmet (nat_lt h.section_count h.instantiated_section_count) _ _ version.1 in
-    rw (tag.0, architecture.0, version.0, counts.0, le-ltb end (names_from h) room) refl
-
-header_room : (h : Header) (len : ℕ) → first_met (header_tests h len) ≡ None → names_from h ≤ len
-unfolding header_tests
-header_room h len none =
-    let tag = first_unmet (not (h.tag_1 == joy && h.tag_2 == peff)) _ _ none in
-    let architecture = first_unmet (not (h.architecture == pwpc)) _ _ tag.1 in
-    let version = first_unmet (not (h.format_version == version_1)) _ _ architecture.1 in
-    let counts = first_unmet (nat_lt h.section_count h.instantiated_section_count) _ _ version.1 in
-    ltb-false len (names_from h) (first_unmet (nat_lt len (names_from h)) _ _ counts.1).0
+unmet_within h len end none room = rw (none.tag, none.architecture, none.version, none.counts, le-ltb end (names_from h) room) refl
 
 -- no test of a section holds in fewer bytes that have its raw bytes
 tests_unmet : (i : ℕ) (inst : Bool) (s : SectionHeader) (len end : ℕ) → first_met (section_tests i inst s len) ≡ None → is_inside s end ≡ true → first_met (section_tests i inst s end) ≡ None
@@ -229,7 +180,7 @@ module _ (c : Contained) (ok : IsContainer c) (end : ℕ) (k : Keeps c end) wher
   raw_by size offset true is inside = (let e : size ≡ 0 = eqb-true size 0 is in rw e refl)
   raw_by size offset false is inside =
       let room = leb-true (offset + size) end inside in
-      rw (rest-kept offset end c.bytes) (take-less size (end - offset) (drop offset c.bytes) (omega (arith, room)))
+      rw (rest-kept offset end c.bytes) (take-take size (end - offset) (drop offset c.bytes) (omega (arith, room)))
 
   raw_is : (i : ℕ) (s : SectionHeader) → i < c.header.section_count → section_at c.bytes i ≡ Some s → raw_of own s ≡ raw_of c.bytes s
   raw_is i s under there = raw_by s.packed_size s.container_offset (s.packed_size == 0) refl (k.raws i s under there)
@@ -251,7 +202,7 @@ module _ (c : Contained) (ok : IsContainer c) (end : ℕ) (k : Keeps c end) wher
   is_kept : container_of own ≡ Ok kept
   is_kept = (let a = accepted c ok in accepts kept (record {
     header = header_is ∙ a.header;
-    tests = rw (length-take-le end c.bytes k.within) (header_unmet c.header (length c.bytes) end a.tests k.headers);
+    tests = rw (length-take-le end c.bytes k.within) (unmet_within c.header (length c.bytes) end (header_unmet c.header (length c.bytes) a.tests) k.headers);
     sections = first_among-none (section_refusal own c.header) 0 c.header.section_count (λ i low high. unrefused_is i (omega (arith, high)));
     loader = loader_is ∙ a.loader;
   }))
@@ -317,7 +268,7 @@ module _ (c : Contained) (ok : IsContainer c) where
       rw (ne_eqb last 0 (λ e. omega (arith, low, some, e))) (omega (arith, inside, left))
   ends_by at last name (Some after) there low some is =
       let e : last ≡ at + (last - at) = omega (arith, low) in
-      let rest : drop last c.bytes ≡ drop (last - at) (drop at c.bytes) = ap (λ n. drop n c.bytes) e ∙ sym (drop-drop at (last - at) c.bytes) in
+      let rest : drop last c.bytes ≡ drop (last - at) (drop at c.bytes) = ap (λ n. drop n c.bytes) e ∙ sym (drop-drop (last - at) at c.bytes) in
       let before = name-before (last - at) (drop at c.bytes) name after there (sym (ap before_zero rest) ∙ is) in
       rw (ne_eqb last 0 (λ e. omega (arith, low, some, e))) (omega (arith, before, low))
 

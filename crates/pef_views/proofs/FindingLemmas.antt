@@ -17,6 +17,7 @@ use Rattle.pef_views.specs.Header.{header_of, header_tests, tag_tests, field_tes
 use Rattle.pef_views.specs.Section.{raw_of, section_at, section_tests}
 use Rattle.pef_views.specs.Container.{Contained, any_loader, container_of, judged, is_instantiated, loader_of, section_refusal, with_loader}
 use Rattle.pef_views.specs.Partial.{findings_in, findings_of, is_out_of_order, loader_tests, opened, partial_of, section_findings, sections_allowed}
+use Rattle.pef_views.proofs.Containers.{header_room}
 use Rattle.pef_views.proofs.Headers.{tested_in_two}
 
 -- what is there
@@ -43,17 +44,6 @@ section_there bytes h i room under = is_there (section_at bytes i) (rw (
 -- if its header is there, a section is refused with the first of its faults
 section_first : (bytes : List ℕ) (h : Header) (i : ℕ) (s : SectionHeader) → i < h.section_count → section_at bytes i ≡ Some s → first_fault (section_findings (opened bytes h) i) ≡ section_refusal bytes h i
 section_first bytes h i s under there = rw (lt-ltb i h.section_count under, there) (first_fault-met (section_tests i (is_instantiated h i) s (length bytes)))
-
--- header tests that don't hold leave room for the section headers
-header_room : (h : Header) (len : ℕ) → first_met (header_tests h len) ≡ None → names_from h ≤ len
-unfolding header_tests
-header_room h len none =
-    let tag = first_unmet (not (h.tag_1 == joy && h.tag_2 == peff)) _ _ none in
-    let architecture = first_unmet (not (h.architecture == pwpc)) _ _ tag.1 in
-    let version = first_unmet (not (h.format_version == version_1)) _ _ architecture.1 in
-    let counts = first_unmet (nat_lt h.section_count h.instantiated_section_count) _ _ version.1 in
-    let short = first_unmet (nat_lt len (names_from h)) _ _ counts.1 in
-    ltb-false len (names_from h) short.0
 
 -- what is reported of a loader section that isn't there
 loader_first : (bytes : List ℕ) (h : Header) → first_fault (all_met (loader_tests (opened bytes h))) ≡ result_err (with_loader bytes h (loader_of bytes h))
