@@ -4,14 +4,14 @@ use Rattle.mac_forks.specs.declared.fault.ForkFault.{ForkFault}
 use Rattle.mac_forks.specs.declared.mac_file.ForkFormat.{ForkFormat}
 use Rattle.mac_forks.specs.declared.mac_file.ForkFormat.TheVariants as format
 use Rattle.mac_forks.specs.MacFile.{MacFileIs, format_of, mac_file_of}
-use Rattle.mac_resources.specs.Fork.{is_consistent}
+use Rattle.mac_resources.specs.Fork.{has_form}
 use Rattle.cfm_members.specs.declared.file_kind.FileKind.{FileKind}
 use Rattle.cfm_members.specs.declared.file_kind.FileKind.TheVariants.{Container, MacBinary, AppleSingle, AppleDouble, DamagedApple, ResourceFork, Other}
 use Rattle.cfm_members.specs.Search.{begins_container}
 
 -- the kind of a file with a format
 abbrev pub format_kind : List ℕ → ForkFormat → FileKind
-format_kind bytes format.Bare = if is_consistent bytes then ResourceFork else Other
+format_kind bytes format.Bare = if has_form bytes then ResourceFork else Other
 format_kind bytes format.MacBinary1 = MacBinary
 format_kind bytes format.MacBinary2 = MacBinary
 format_kind bytes format.MacBinary3 = MacBinary

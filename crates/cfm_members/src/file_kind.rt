@@ -15,7 +15,7 @@ pub enum FileKind {
     AppleDouble,
     /// It begins as AppleSingle or AppleDouble, and its header passes the end or has an unknown version.
     DamagedApple,
-    /// Its bytes can be a resource fork.
+    /// Its bytes can be a resource fork, or the first bytes of one.
     ResourceFork,
     /// None of these. It may have containers anywhere.
     Other,
@@ -46,7 +46,7 @@ fn format_kind(format: ForkFormat, bytes: &[u8]) -> FileKind
         ForkFormat::AppleSingle => FileKind::AppleSingle,
         ForkFormat::AppleDouble => FileKind::AppleDouble,
         ForkFormat::Bare => {
-            if ResourceFork::is_consistent(bytes) {
+            if ResourceFork::has_form(bytes) {
                 FileKind::ResourceFork
             } else {
                 FileKind::Other

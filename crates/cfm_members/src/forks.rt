@@ -14,15 +14,15 @@ pub struct Forks<'a> {
 }
 
 impl<'a> Forks<'a> {
-    /// Returns the forks of a file with some bytes. A file in none of the formats is a resource fork if it can be one,
-    /// else a data fork.
+    /// Returns the forks of a file with some bytes. A file in none of the formats is a resource fork if it has the form
+    /// of one, also of one that was cut, else a data fork.
     pub fn of(bytes: &'a [u8], file: &MacFile<'a>) -> Forks<'a>
         ensures data_fork { option_map (result_map part_seen) result.data_fork ≡ data_fork_of bytes.entry.now (mac_file_seen file.now) }
         ensures resource_fork { option_map (result_map part_seen) result.resource_fork ≡ resource_fork_of bytes.entry.now (mac_file_seen file.now) }
     {
         match file {
             MacFile::Bare(_) => {
-                if ResourceFork::is_consistent(bytes) {
+                if ResourceFork::has_form(bytes) {
                     Forks {
                         data_fork: None,
                         resource_fork: file.data_fork(),

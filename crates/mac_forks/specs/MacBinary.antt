@@ -1,17 +1,19 @@
 -- Files in MacBinary: a header of 128 bytes, a second header, the data fork, the resource fork and a comment, each
 -- followed by zeros up to a multiple of 128 (MacBinary I, II and III). That a header with a wrong CRC is read if it
--- says that it is of II or III is this project's own rule.
+-- says that it is of II or III, and that forks are read as far as they go, are this project's own rules.
 use Rattle.std.specs.Prelude.{ℕ, ◌+◌, ◌*◌, ◌/◌, ◌==◌, ◌&&◌, ◌||◌, Bool, true, List, [], ◌∷◌, Option, None, Some, nat_le, nat_lt, if◌then◌else◌}
 use Rattle.std.specs.Int.{w16}
+use Rattle.std.specs.Option.{is_none}
 use Rattle.pef_words.specs.Bytes.{number_at, part_of, signed_at}
 use Rattle.pef_words.specs.Refusals.{◌>>=◌}
 use Rattle.mac_forks.specs.declared.fault.ForkFault.{ForkFault}
-use Rattle.mac_forks.specs.declared.fault.ForkFault.TheVariants.{BadMacBinaryCrc}
+use Rattle.mac_forks.specs.declared.fault.ForkFault.TheVariants.{BadMacBinaryCrc, DataForkCut, ResourceForkCut, CommentCut}
 use Rattle.mac_forks.specs.declared.finder.FinderInfo.{FinderInfo}
 use Rattle.mac_forks.specs.declared.mac_binary.MacBinaryHeader.{MacBinaryHeader}
 use Rattle.mac_forks.specs.declared.mac_binary.MacBinaryExtension.{MacBinaryExtension}
+use Rattle.mac_forks.specs.declared.mac_binary.MacBinaryCuts.{MacBinaryCuts}
 use Rattle.mac_forks.specs.Crc.{crc_of}
-use Rattle.mac_forks.specs.Parts.{Lying, part_in}
+use Rattle.mac_forks.specs.Parts.{Lying, part_in, part_within}
 
 -- the fields of a header after the dates; none if they pass the end
 unfoldable pub extension_of : List ℕ → Option MacBinaryExtension
@@ -115,7 +117,19 @@ resource_fork_from h = data_fork_from h + padded h.data_length
 abbrev pub comment_from : MacBinaryHeader → ℕ
 comment_from h = resource_fork_from h + padded h.resource_length
 
--- a file in MacBinary: its header, whether it is of version I, its error, and its parts
+-- the error of a part that passes the end
+abbrev pub cut_of : ForkFault → Option Lying → Option ForkFault
+cut_of fault None = Some fault
+cut_of fault (Some part) = None
+
+abbrev pub cuts_in : List ℕ → MacBinaryHeader → MacBinaryCuts
+cuts_in bytes h = record {
+  data_fork = cut_of DataForkCut (part_in bytes (data_fork_from h) h.data_length);
+  resource_fork = cut_of ResourceForkCut (part_in bytes (resource_fork_from h) h.resource_length);
+  comment = cut_of CommentCut (part_in bytes (comment_from h) h.extension.comment_length);
+}
+
+-- a file in MacBinary: its header, whether it is of version I, its error, and its parts, the forks as far as they are there
 pub record MacBinaryIs : Type 0 where
   pub header : MacBinaryHeader
   pub is_first_version : Bool
@@ -124,26 +138,31 @@ pub record MacBinaryIs : Type 0 where
   pub data_fork : Lying
   pub resource_fork : Lying
   pub comment : Option Lying
+  pub cuts : MacBinaryCuts
 
 -- what the parts of a file with a header are
 abbrev pub with_parts : List ℕ → MacBinaryHeader → Bool → Bool → Option MacBinaryIs
 with_parts bytes h right first = do
   name ← part_in bytes 2 h.name_length
-  data_fork ← part_in bytes (data_fork_from h) h.data_length
-  resource_fork ← part_in bytes (resource_fork_from h) h.resource_length
   Some (record {
     header = h;
     is_first_version = first;
     fault = fault_among right first;
     name = name;
-    data_fork = data_fork;
-    resource_fork = resource_fork;
+    data_fork = part_within bytes (data_fork_from h) h.data_length;
+    resource_fork = part_within bytes (resource_fork_from h) h.resource_length;
     comment = part_in bytes (comment_from h) h.extension.comment_length;
+    cuts = cuts_in bytes h;
   })
 
--- .. if the CRC is right, or bytes 99 to 127 are 0, or it says that it is of II or III
+-- both forks are there
+abbrev pub has_forks : MacBinaryCuts → Bool
+has_forks cuts = is_none cuts.data_fork && is_none cuts.resource_fork
+
+-- .. if the CRC is right, or it says that it is of II or III, or bytes 99 to 127 are 0 and both forks are there
 abbrev pub if_marked : List ℕ → MacBinaryHeader → Bool → Bool → Option MacBinaryIs
-if_marked bytes h right first = if right || first || is_marked h then with_parts bytes h right first else None
+if_marked bytes h right first =
+    if right || is_marked h || first && has_forks (cuts_in bytes h) then with_parts bytes h right first else None
 
 -- .. if its fields can be those of a header
 abbrev pub if_shaped : List ℕ → MacBinaryHeader → Option MacBinaryIs

@@ -5,6 +5,7 @@ use Rattle.std.specs.Prelude.{ℕ, ◌==◌, List, Option, None, Some, option_ma
 use Rattle.pef_words.specs.Refusals.{result_map}
 use Rattle.mac_forks.specs.declared.fault.ForkFault.{ForkFault}
 use Rattle.mac_forks.specs.declared.finder.FinderInfo.{FinderInfo}
+use Rattle.mac_forks.specs.declared.mac_binary.MacBinaryCuts.{MacBinaryCuts}
 use Rattle.mac_forks.specs.declared.mac_file.ForkFormat.{ForkFormat}
 use Rattle.mac_forks.specs.declared.mac_file.ForkFormat.TheVariants.{Bare, MacBinary1, MacBinary2, MacBinary3, AppleSingle, AppleDouble}
 use Rattle.mac_forks.specs.Apple.{AppleIs, apple_of, is_apple, is_double, part_with, with_finder_information}
@@ -41,6 +42,15 @@ abbrev pub fault_in : MacFileIs → Option ForkFault
 fault_in (bare bytes) = None
 fault_in (mac_binary m) = m.fault
 fault_in (apple a) = None
+
+-- the errors of parts of MacBinary that pass the end
+abbrev pub no_cuts : MacBinaryCuts
+no_cuts = record { data_fork = None; resource_fork = None; comment = None }
+
+abbrev pub cuts_of : MacFileIs → MacBinaryCuts
+cuts_of (bare bytes) = no_cuts
+cuts_of (mac_binary m) = m.cuts
+cuts_of (apple a) = no_cuts
 
 -- the forks, the name and the comment; none if the file doesn't have it
 abbrev pub data_fork_in : MacFileIs → Option (Result Lying ForkFault)

@@ -24,6 +24,7 @@ mac_binary_seen m = record {
   data_fork = part_seen m.data_fork;
   resource_fork = part_seen m.resource_fork;
   comment = option_map part_seen m.comment;
+  cuts = m.cuts;
 }
 
 -- the file in AppleSingle or AppleDouble that a view shows

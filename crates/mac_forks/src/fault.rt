@@ -3,7 +3,8 @@ ghost use Rattle.mac_forks.specs.Apple.{entry_from};
 ghost use Rattle.mac_forks.specs.Faults.{fault_name, fault_number, fault_offset};
 
 use crate::layout::{
-    APPLE_ENTRIES_AT, APPLE_ENTRY_SIZE, APPLE_VERSION_AT, CRC_AT, ENTRY_LENGTH_AT, ENTRY_OFFSET_AT,
+    APPLE_ENTRIES_AT, APPLE_ENTRY_SIZE, APPLE_VERSION_AT, COMMENT_LENGTH_AT, CRC_AT,
+    DATA_LENGTH_AT, ENTRY_LENGTH_AT, ENTRY_OFFSET_AT, RESOURCE_LENGTH_AT,
 };
 use std::fmt;
 use thiserror::Error;
@@ -28,10 +29,19 @@ pub enum ForkFault {
 
     /// The bytes of an entry are too few for its fields.
     AppleEntryShort { entry: u16 },
+
+    /// The data fork of MacBinary passes the end. It is read as far as it goes.
+    DataForkCut,
+
+    /// The resource fork of MacBinary passes the end. It is read as far as it goes.
+    ResourceForkCut,
+
+    /// The comment of MacBinary passes the end.
+    CommentCut,
 }
 
 impl ForkFault {
-    /// Returns the number of the error, from 81 to 86. No error of another crate has it.
+    /// Returns the number of the error, from 76 to 78 or 81 to 86. No error of another crate has it.
     pub fn number(&self) -> u32
         ensures { result ≡ fault_number self.now }
     {
@@ -42,11 +52,14 @@ impl ForkFault {
             ForkFault::AppleEntryCut { .. } => 84,
             ForkFault::AppleEntryOutside { .. } => 85,
             ForkFault::AppleEntryShort { .. } => 86,
+            ForkFault::DataForkCut => 76,
+            ForkFault::ResourceForkCut => 77,
+            ForkFault::CommentCut => 78,
         }
     }
 
-    /// Returns the offset in the file of the field that the error is about: the CRC, the version, or a field of the
-    /// entry's row. `None` if the header passes the end.
+    /// Returns the offset in the file of the field that the error is about: the CRC, the version, a length, or a field
+    /// of the entry's row. `None` if the header passes the end.
     pub fn offset(&self) -> Option<usize>
         ensures { result ≡ fault_offset self.now }
     {
@@ -57,6 +70,9 @@ impl ForkFault {
             ForkFault::AppleEntryCut { entry } => Some(entry_at(*entry)),
             ForkFault::AppleEntryOutside { entry } => Some(entry_at(*entry) + ENTRY_OFFSET_AT),
             ForkFault::AppleEntryShort { entry } => Some(entry_at(*entry) + ENTRY_LENGTH_AT),
+            ForkFault::DataForkCut => Some(DATA_LENGTH_AT),
+            ForkFault::ResourceForkCut => Some(RESOURCE_LENGTH_AT),
+            ForkFault::CommentCut => Some(COMMENT_LENGTH_AT),
         }
     }
 
@@ -71,6 +87,9 @@ impl ForkFault {
             ForkFault::AppleEntryCut { .. } => "AppleEntryCut",
             ForkFault::AppleEntryOutside { .. } => "AppleEntryOutside",
             ForkFault::AppleEntryShort { .. } => "AppleEntryShort",
+            ForkFault::DataForkCut => "DataForkCut",
+            ForkFault::ResourceForkCut => "ResourceForkCut",
+            ForkFault::CommentCut => "CommentCut",
         }
     }
 }

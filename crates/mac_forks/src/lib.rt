@@ -17,6 +17,6 @@ pub use apple::{AppleDates, AppleEntry, AppleFile, AppleHeader};
 pub use crc::crc_16;
 pub use fault::ForkFault;
 pub use finder::FinderInfo;
-pub use mac_binary::{MacBinary, MacBinaryExtension, MacBinaryHeader};
-pub use mac_file::{ForkFormat, MacFile};
+pub use mac_binary::{MacBinary, MacBinaryCuts, MacBinaryExtension, MacBinaryHeader};
+pub use mac_file::{ForkFormat, MacFile, NO_CUTS};
 pub use part::Part;

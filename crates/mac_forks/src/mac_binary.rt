@@ -3,10 +3,13 @@ ghost use Rattle.mac_forks.specs.MacBinary.{
   all_zero,
   comment_from,
   crc_is_right,
+  cut_of,
+  cuts_in,
   data_fork_from,
   extension_of,
   fault_among,
   finder_in,
+  has_forks,
   has_shape,
   header_of,
   is_marked,
@@ -14,7 +17,8 @@ ghost use Rattle.mac_forks.specs.MacBinary.{
   padded,
   resource_fork_from,
 };
-ghost use Rattle.mac_forks.specs.Views.{mac_binary_seen};
+ghost use Rattle.mac_forks.specs.Parts.{part_in};
+ghost use Rattle.mac_forks.specs.Views.{mac_binary_seen, part_seen};
 
 use crate::crc::crc_16;
 use crate::fault::ForkFault;
@@ -27,7 +31,7 @@ use crate::layout::{
     SECOND_HEADER_LENGTH_AT, SIGNATURE_AT, UNPACKED_LENGTH_AT, VERSION_2, VERSION_3, VERSION_AT,
     VERTICAL_AT, WINDOW_AT, ZERO_1_AT, ZERO_2_AT, ZERO_3_AT,
 };
-use crate::part::{Part, part_in};
+use crate::part::{Part, part_in, part_within};
 use pef_words::Cut;
 
 /// A MacBinary header up to the dates, field by field, and the fields that versions II and III added.
@@ -89,10 +93,20 @@ pub struct MacBinary<'a> {
     /// The error of a header whose CRC is wrong.
     pub fault: Option<ForkFault>,
     pub name: Part<'a>,
+    /// The forks, as far as they are there.
     pub data_fork: Part<'a>,
     pub resource_fork: Part<'a>,
     /// `None` if it passes the end.
     pub comment: Option<Part<'a>>,
+    pub cuts: MacBinaryCuts,
+}
+
+/// The errors of the parts of a file in MacBinary that pass the end.
+#[derive(Clone, Copy, Debug, PartialEq, Eq)]
+pub struct MacBinaryCuts {
+    pub data_fork: Option<ForkFault>,
+    pub resource_fork: Option<ForkFault>,
+    pub comment: Option<ForkFault>,
 }
 
 impl<'a> MacBinary<'a> {
@@ -108,28 +122,23 @@ impl<'a> MacBinary<'a> {
         }
         let is_first_version = all_zero(cut.part(COMMENT_LENGTH_AT, 29)?.bytes());
         let crc_is_right = crc_is_right(cut.part(0, CRC_AT)?.bytes(), header);
-        if !(crc_is_right || is_first_version || is_marked(header)) {
+        let cuts = cuts_in(cut, header);
+        if !(crc_is_right || is_marked(header) || is_first_version && has_forks(cuts)) {
             return None;
         }
-        let name = part_in(cut, NAME_AT, usize::from(header.name_length))?;
-        let data_fork = part_in(cut, data_fork_at(header), header.data_length as usize)?;
-        let resource_fork = part_in(
-            cut,
-            resource_fork_at(header),
-            header.resource_length as usize,
-        )?;
         Some(MacBinary {
             header,
             is_first_version,
             fault: fault_among(crc_is_right, is_first_version),
-            name,
-            data_fork,
-            resource_fork,
-            comment: part_in(
-                cut,
-                comment_at(header),
-                usize::from(header.extension.comment_length),
+            name: part_in(cut, NAME_AT, usize::from(header.name_length))?,
+            data_fork: part_within(bytes, data_fork_at(header), header.data_length as usize),
+            resource_fork: part_within(
+                bytes,
+                resource_fork_at(header),
+                header.resource_length as usize,
             ),
+            comment: comment_in(cut, header),
+            cuts,
         })
     }
 
@@ -241,6 +250,51 @@ fn is_marked(header: MacBinaryHeader) -> bool
     extension.signature == MAC_BINARY_3
         || extension.version == VERSION_2
         || extension.version == VERSION_3
+}
+
+/// Returns the errors of the parts of a file that pass the end.
+fn cuts_in(cut: Cut<'_>, header: MacBinaryHeader) -> MacBinaryCuts
+    ensures { result ≡ cuts_in cut.entry.bytes.now header }
+{
+    let data_fork = part_in(cut, data_fork_at(header), header.data_length as usize);
+    let resource_fork = part_in(
+        cut,
+        resource_fork_at(header),
+        header.resource_length as usize,
+    );
+    MacBinaryCuts {
+        data_fork: cut_of(ForkFault::DataForkCut, data_fork),
+        resource_fork: cut_of(ForkFault::ResourceForkCut, resource_fork),
+        comment: cut_of(ForkFault::CommentCut, comment_in(cut, header)),
+    }
+}
+
+/// Returns the error of a part, if it passes the end.
+fn cut_of(fault: ForkFault, part: Option<Part<'_>>) -> Option<ForkFault>
+    ensures { result ≡ cut_of fault (option_map part_seen part.entry) }
+{
+    match part {
+        Some(_) => None,
+        None => Some(fault),
+    }
+}
+
+/// Returns whether both forks are there.
+fn has_forks(cuts: MacBinaryCuts) -> bool
+    ensures { result ≡ has_forks cuts }
+{
+    cuts.data_fork.is_none() && cuts.resource_fork.is_none()
+}
+
+/// Returns the comment, or `None` if it passes the end.
+fn comment_in<'a>(cut: Cut<'a>, header: MacBinaryHeader) -> Option<Part<'a>>
+    ensures { option_map part_seen result ≡ part_in cut.entry.bytes.now (comment_from header) header.extension.comment_length }
+{
+    part_in(
+        cut,
+        comment_at(header),
+        usize::from(header.extension.comment_length),
+    )
 }
 
 /// Returns the error of a CRC that is there and wrong.

@@ -2,6 +2,7 @@ ghost use Rattle.std.specs.Prelude.{◌≡◌, option_map};
 ghost use Rattle.pef_words.specs.Refusals.{result_map};
 ghost use Rattle.mac_forks.specs.MacFile.{
   comment_in,
+  cuts_of,
   data_fork_in,
   fault_in,
   finder_of_file,
@@ -17,8 +18,15 @@ use crate::apple::AppleFile;
 use crate::fault::ForkFault;
 use crate::finder::FinderInfo;
 use crate::layout::{COMMENT, DATA_FORK, MAC_BINARY_3, REAL_NAME, RESOURCE_FORK};
-use crate::mac_binary::MacBinary;
+use crate::mac_binary::{MacBinary, MacBinaryCuts};
 use crate::part::Part;
+
+/// No part of MacBinary passes the end.
+pub const NO_CUTS: MacBinaryCuts = MacBinaryCuts {
+    data_fork: None,
+    resource_fork: None,
+    comment: None,
+};
 
 /// How a file has the forks of a Macintosh file.
 #[derive(Clone, Copy, Debug, PartialEq, Eq)]
@@ -89,7 +97,17 @@ impl<'a> MacFile<'a> {
         }
     }
 
-    /// Returns the data fork, or the error of its entry. `None` if the file doesn't have it.
+    /// Returns the errors of the parts of MacBinary that pass the end.
+    pub fn cuts(&self) -> MacBinaryCuts
+        ensures { result ≡ cuts_of (mac_file_seen self.now) }
+    {
+        match self {
+            MacFile::MacBinary(file) => file.cuts,
+            MacFile::Bare(_) | MacFile::Apple(_) => NO_CUTS,
+        }
+    }
+
+    /// Returns the data fork, or the error of its entry. `None` if the file doesn't have it. In MacBinary it is as far as it goes.
     pub fn data_fork(&self) -> Option<Result<Part<'a>, ForkFault>>
         ensures { option_map (result_map part_seen) result ≡ data_fork_in (mac_file_seen self.now) }
     {
@@ -103,7 +121,7 @@ impl<'a> MacFile<'a> {
         }
     }
 
-    /// Returns the resource fork, or the error of its entry. `None` if the file doesn't have it.
+    /// Returns the resource fork, or the error of its entry. `None` if the file doesn't have it. In MacBinary it is as far as it goes.
     pub fn resource_fork(&self) -> Option<Result<Part<'a>, ForkFault>>
         ensures { option_map (result_map part_seen) result ≡ resource_fork_in (mac_file_seen self.now) }
     {

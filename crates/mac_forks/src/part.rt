@@ -1,5 +1,5 @@
 ghost use Rattle.std.specs.Prelude.{◌≡◌, option_map};
-ghost use Rattle.mac_forks.specs.Parts.{part_in};
+ghost use Rattle.mac_forks.specs.Parts.{part_in, part_within};
 ghost use Rattle.mac_forks.specs.Views.{part_seen};
 
 use pef_words::Cut;
@@ -19,4 +19,17 @@ pub(crate) fn part_in<'a>(cut: Cut<'a>, offset: usize, len: usize) -> Option<Par
     let start = if len == 0 { 0 } else { offset };
     let bytes = cut.part(start, len)?.bytes();
     Some(Part { offset, bytes })
+}
+
+/// Returns the `len` bytes from `offset` as far as they are there.
+#[tactic(auto, unfolding(crate::specs::Parts::part_within))]
+pub(crate) fn part_within<'a>(bytes: &'a [u8], offset: usize, len: usize) -> Part<'a>
+    ensures { part_seen result ≡ part_within bytes.entry.now offset len }
+{
+    let (_, rest) = bytes.split_at(offset.min(bytes.len()));
+    let (part, _) = rest.split_at(len.min(rest.len()));
+    Part {
+        offset,
+        bytes: part,
+    }
 }

@@ -25,9 +25,9 @@ some_row false limits rest at = (lacking at, refl)
 pub some_walk : (form : Form) (bytes : List ℕ) (tally : Tally) (places : List ℕ) → (text : List ℕ) × (last : Tally) × Walks form bytes tally places text last
 some_walk form bytes tally [] = ([], tally, (refl, refl))
 some_walk form bytes tally (at ∷ places) =
-    let row = some_row (nat_lt tally.budget (cost (rest_from bytes at))) tally.limits (rest_from bytes at) at in
+    let row = some_row (nat_lt tally.turn.budget (cost (rest_from bytes at))) tally.turn.limits (rest_from bytes at) at in
     let next = tallied tally (rest_from bytes at) row.0 in
-    let here = row_text form (tally.containers == 0) row.0 in
+    let here = row_text form (tally.turn.containers == 0) row.0 in
     let others = some_walk form bytes next places in
     (here ++ others.0, others.1, (here, next, others.0, record { row = row.0; is = row.1; printed = refl; counted = refl }, others.2, refl))
 

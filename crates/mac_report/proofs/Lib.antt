@@ -1,2 +1,3 @@
 mod ContainerLemmas
 mod FragmentLemmas
+mod PartLemmas

@@ -17,6 +17,7 @@ pub use Rattle.mac_report.specs.Sums.{up_to}
 use Rattle.mac_report.specs.declared.file.Form.{Form}
 use Rattle.mac_report.specs.declared.file.Form.TheVariants.{Text, Json}
 use Rattle.mac_report.specs.declared.tally.Tally.{Tally}
+use Rattle.mac_report.specs.declared.turn.Turn.{Turn}
 
 -- what is known of a container: it was inspected. Or an allocation failed. Or the file's budget is used up
 pub data RowIs : Type 0 where
@@ -47,7 +48,7 @@ abbrev pub IsRowIf : Bool → Limits → List ℕ → ℕ → RowIs → Type 0
 IsRowIf true limits rest at row = row ≡ skipped
 IsRowIf false limits rest at row = IsInspected limits rest at row
 
-abbrev pub IsRow : List ℕ → Tally → ℕ → RowIs → Type 0
+abbrev pub IsRow : List ℕ → Turn → ℕ → RowIs → Type 0
 IsRow bytes t at row = IsRowIf (nat_lt t.budget (cost (rest_from bytes at))) t.limits (rest_from bytes at) at row
 
 -- the comma between two objects
@@ -81,7 +82,7 @@ row_text form is_first (inspected i) = inspected_text form is_first i
 row_text form is_first (lacking at) = lacking_text form is_first at
 row_text form is_first skipped = []
 
--- what is counted of a container: its errors and notes, and whether it wasn't inspected
+-- what is counted of a container: its errors and notes
 abbrev pub errors_in : RowIs → ℕ
 errors_in (inspected i) = count_chosen true i.findings
 errors_in (lacking at) = 1
@@ -92,49 +93,35 @@ notes_in (inspected i) = count_chosen false i.findings
 notes_in (lacking at) = 0
 notes_in skipped = 0
 
-abbrev pub skipped_in : RowIs → ℕ
-skipped_in (inspected i) = 0
-skipped_in (lacking at) = 0
-skipped_in skipped = 1
-
 -- the limits of a file: those for one container, each with the file's length. Words are kept while they are compared, so
 -- only a part of the length is added to them
 abbrev pub file_limits : ℕ → Limits
 file_limits n = record { program_bytes = most_program_bytes + n; steps = most_steps + n; packed_bytes = most_packed + n; words = most_words + n / 64 }
 
--- what is counted before the first container of a file: nothing, with the limits of the file, and a budget of 64 megabytes
--- and the file's length
+-- what is left for the first container of a file: its limits, and a budget of 64 megabytes and its length
+abbrev pub first_turn : List ℕ → Turn
+first_turn bytes = record { budget = 2 ^ 26 + length bytes; limits = file_limits (length bytes); containers = 0; skipped = 0 }
+
+-- .. and what a container leaves to the next one. One that passes the budget isn't inspected, and leaves nothing of it
+abbrev pub turn_if : Bool → Turn → List ℕ → Turn
+turn_if true t rest = record { budget = 0; limits = t.limits; containers = up_to (t.containers + 1); skipped = up_to (t.skipped + 1) }
+turn_if false t rest = record { budget = t.budget - cost rest; limits = left_after t.limits rest; containers = up_to (t.containers + 1); skipped = t.skipped }
+
+abbrev pub turn_after : Turn → List ℕ → Turn
+turn_after t rest = turn_if (nat_lt t.budget (cost rest)) t rest
+
+-- what is counted before the first container of a file, and after a container
 abbrev pub fresh_tally : List ℕ → Tally
-fresh_tally bytes = record { budget = 2 ^ 26 + length bytes; limits = file_limits (length bytes); containers = 0; errors = 0; notes = 0; skipped = 0 }
+fresh_tally bytes = record { turn = first_turn bytes; errors = 0; notes = 0 }
 
--- what is left of the budget after a container: nothing, if the container passes it
-abbrev pub budget_after : ℕ → List ℕ → RowIs → ℕ
-budget_after budget rest (inspected i) = budget - cost rest
-budget_after budget rest (lacking at) = budget - cost rest
-budget_after budget rest skipped = 0
-
--- what is left of the limits
-abbrev pub limits_after : Limits → List ℕ → RowIs → Limits
-limits_after limits rest (inspected i) = left_after limits rest
-limits_after limits rest (lacking at) = left_after limits rest
-limits_after limits rest skipped = limits
-
--- what is counted after a container
 abbrev pub tallied : Tally → List ℕ → RowIs → Tally
-tallied t rest row = record {
-  budget = budget_after t.budget rest row;
-  limits = limits_after t.limits rest row;
-  containers = up_to (t.containers + 1);
-  errors = up_to (t.errors + errors_in row);
-  notes = up_to (t.notes + notes_in row);
-  skipped = up_to (t.skipped + skipped_in row);
-}
+tallied t rest row = record { turn = turn_after t.turn rest; errors = up_to (t.errors + errors_in row); notes = up_to (t.notes + notes_in row) }
 
 -- what one container adds to a text and to what is counted
 pub record Steps (form : Form) (bytes : List ℕ) (before : Tally) (at : ℕ) (text : List ℕ) (after : Tally) : Type 0 where
   pub row : RowIs
-  pub is : IsRow bytes before at row
-  pub printed : text ≡ row_text form (before.containers == 0) row
+  pub is : IsRow bytes before.turn at row
+  pub printed : text ≡ row_text form (before.turn.containers == 0) row
   pub counted : after ≡ tallied before (rest_from bytes at) row
 
 -- what the containers at some places add
@@ -148,7 +135,7 @@ Walks form bytes before (at ∷ places) text after =
 -- note
 abbrev pub total : Tally → ℕ → Counts
 total t errors = record {
-  containers = t.containers;
+  containers = t.turn.containers;
   errors = up_to (t.errors + errors);
-  notes = up_to (t.notes + (if nat_lt 0 t.skipped then 1 else 0));
+  notes = up_to (t.notes + (if nat_lt 0 t.turn.skipped then 1 else 0));
 }

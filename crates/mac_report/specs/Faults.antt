@@ -99,11 +99,18 @@ abbrev pub parts_faults : Option Lying → Option Lying → List Found
 parts_faults data_fork None = []
 parts_faults data_fork (Some part) = read_faults data_fork part.offset (resources_in part)
 
+-- of the header, of the parts of MacBinary that pass the end, and of the rows of entries
+abbrev pub head_faults : WrappingIs → List Found
+head_faults w =
+    header_faults w.fault
+    ++ (header_faults w.cuts.data_fork
+    ++ (header_faults w.cuts.resource_fork
+    ++ (header_faults w.cuts.comment
+    ++ header_faults w.cut)))
+
 abbrev pub wrapping_faults : Option DataFileIs → WrappingIs → List Found
 wrapping_faults other w =
-    header_faults w.fault
-    ++ (header_faults w.cut
-    ++ (entry_faults w.data_fork ++ (entry_faults w.resource_fork ++ parts_faults (members_fork other w.data_fork) (readable w.resource_fork))))
+    head_faults w ++ (entry_faults w.data_fork ++ (entry_faults w.resource_fork ++ parts_faults (members_fork other w.data_fork) (readable w.resource_fork)))
 
 -- all errors of a file but those of its containers. Its data fork may be in another file
 unfoldable pub faults_of : Option DataFileIs → List ℕ → List Found

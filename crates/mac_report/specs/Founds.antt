@@ -2,7 +2,7 @@
 use Rattle.std.specs.Prelude.{ℕ, ◌+◌, Bool, false, List, [], ◌∷◌, ◌++◌, Option, None, Some, codes, decimal}
 use Rattle.mac_forks.specs.Faults as fork
 use Rattle.mac_forks.specs.declared.fault.ForkFault.{ForkFault}
-use Rattle.mac_forks.specs.declared.fault.ForkFault.TheVariants.{BadMacBinaryCrc, AppleHeaderCut, BadAppleVersion, AppleEntryCut, AppleEntryOutside, AppleEntryShort}
+use Rattle.mac_forks.specs.declared.fault.ForkFault.TheVariants.{BadMacBinaryCrc, AppleHeaderCut, BadAppleVersion, AppleEntryCut, AppleEntryOutside, AppleEntryShort, DataForkCut, ResourceForkCut, CommentCut}
 use Rattle.mac_resources.specs.Faults as resource
 use Rattle.cfm_members.specs.Faults as members
 use Rattle.cfm_members.specs.FragmentFaults.{fragment_fault_name, fragment_fault_number}
@@ -31,6 +31,9 @@ entry_of BadAppleVersion = None
 entry_of (AppleEntryCut entry) = Some entry
 entry_of (AppleEntryOutside entry) = Some entry
 entry_of (AppleEntryShort entry) = Some entry
+entry_of DataForkCut = None
+entry_of ResourceForkCut = None
+entry_of CommentCut = None
 
 abbrev pub member_of : MemberFault → Option ℕ
 member_of FragmentTableCut = None

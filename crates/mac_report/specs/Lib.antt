@@ -5,6 +5,7 @@ pub mod Forks
 pub mod Founds
 pub mod Fragments
 pub mod MacParts
+pub mod Parts
 pub mod Reports
 pub mod Sums
 pub mod Views

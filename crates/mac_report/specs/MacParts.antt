@@ -4,7 +4,8 @@ use Rattle.std.specs.Prelude.{ℕ, ◌+◌, ◌%◌, ◌^◌, ◌==◌, pos, Lis
 use Rattle.std.specs.Int.{cast_signed, w16}
 use Rattle.pef_words.specs.Refusals.{◌>>=◌, first_among}
 use Rattle.mac_forks.specs.Apple.{AppleIs, entry_of}
-use Rattle.mac_forks.specs.MacFile.{MacFileIs, apple, bare, data_fork_in, fault_in, mac_binary, mac_file_of}
+use Rattle.mac_forks.specs.MacFile.{MacFileIs, apple, bare, cuts_of, data_fork_in, fault_in, mac_binary, mac_file_of, no_cuts}
+use Rattle.mac_forks.specs.declared.mac_binary.MacBinaryCuts.{MacBinaryCuts}
 use Rattle.mac_forks.specs.Parts.{Lying}
 use Rattle.mac_forks.specs.declared.apple.AppleEntry.{AppleEntry}
 use Rattle.mac_forks.specs.declared.fault.ForkFault.{ForkFault}
@@ -23,6 +24,7 @@ use Rattle.mac_report.specs.declared.scene.Found.{Found}
 -- the error of a file's header, that of its rows of entries, and its forks, each with the error of its entry
 pub record WrappingIs : Type 0 where
   pub fault : Option ForkFault
+  pub cuts : MacBinaryCuts
   pub cut : Option ForkFault
   pub data_fork : Option (Result Lying ForkFault)
   pub resource_fork : Option (Result Lying ForkFault)
@@ -50,8 +52,8 @@ cut_in (apple a) = first_among (row_error_at a) 0 a.header.entry_count
 
 abbrev pub wrapping_in : List ℕ → Result MacFileIs ForkFault → WrappingIs
 wrapping_in bytes (Ok file) =
-    record { fault = fault_in file; cut = cut_in file; data_fork = wrapped_data file; resource_fork = resource_fork_of bytes file }
-wrapping_in bytes (Err fault) = record { fault = Some fault; cut = None; data_fork = None; resource_fork = None }
+    record { fault = fault_in file; cuts = cuts_of file; cut = cut_in file; data_fork = wrapped_data file; resource_fork = resource_fork_of bytes file }
+wrapping_in bytes (Err fault) = record { fault = Some fault; cuts = no_cuts; cut = None; data_fork = None; resource_fork = None }
 
 -- what a file is wrapped in
 unfoldable pub wrapping_of : List ℕ → WrappingIs

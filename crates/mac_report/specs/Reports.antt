@@ -109,8 +109,8 @@ json_end found n =
     codes "],\"errors\":[" ++ (founds_text Json true found ++ (codes "],\"notes\":[" ++ (skipped_note n ++ codes "]}\n")))
 
 abbrev pub end_text : Form → List Found → Tally → List ℕ
-end_text Text found t = text_end t.skipped (total t (length found))
-end_text Json found t = json_end found t.skipped
+end_text Text found t = text_end t.turn.skipped (total t (length found))
+end_text Json found t = json_end found t.turn.skipped
 
 -- the report on a file that wasn't read, with the number and the name of the error
 abbrev pub unread_lines : List ℕ → ℕ → List ℕ → List ℕ

@@ -32,6 +32,7 @@ data_file_seen f = record { path = f.path.now; bytes = f.bytes.now }
 abbrev pub wrapping_seen : Wrapping → WrappingIs
 wrapping_seen w = record {
   fault = w.fault;
+  cuts = w.cuts;
   cut = w.cut;
   data_fork = option_map (result_map part_seen) w.data_fork;
   resource_fork = option_map (result_map part_seen) w.resource_fork;

@@ -41,8 +41,8 @@ fn print_contents<A: Allocator + Copy, W: Sink>(
 {
     let mut tally = Tally::new(contents.bytes);
     for place in Containers::new(contents.bytes) {
-        let row = read_row(alloc, contents, place, tally);
-        row.print(out, page, form, tally.containers == 0)?;
+        let row = read_row(alloc, contents, place, tally.turn);
+        row.print(out, page, form, tally.turn.containers == 0)?;
         tally = tally.with_row(contents.rest_from(place), &row);
     }
     Ok(tally)

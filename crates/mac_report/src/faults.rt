@@ -11,6 +11,7 @@ ghost use Rattle.mac_report.specs.Faults.{
   entry_faults,
   faults_of,
   fork_faults,
+  head_faults,
   header_faults,
   member_fault_list,
   member_faults,
@@ -24,7 +25,7 @@ ghost use Rattle.mac_report.specs.Faults.{
   row_faults,
   table_faults,
 };
-ghost use Rattle.mac_report.specs.Views.{data_file_seen, place_seen, scene_seen};
+ghost use Rattle.mac_report.specs.Views.{data_file_seen, place_seen, scene_seen, wrapping_seen};
 
 use crate::data_file::{DataFile, members_fork};
 use crate::scene::{Found, Place, Scene};
@@ -44,8 +45,7 @@ pub(crate) fn find_faults<A: Allocator + Copy>(
 {
     let wrapping = Wrapping::of(bytes);
     let mut found = Vec::new(alloc);
-    find_in_header(wrapping.fault, &mut found)?;
-    find_in_header(wrapping.cut, &mut found)?;
+    find_in_head(wrapping, &mut found)?;
     find_in_entry(wrapping.data_fork, &mut found)?;
     find_in_entry(wrapping.resource_fork, &mut found)?;
     find_in_parts(
@@ -56,7 +56,22 @@ pub(crate) fn find_faults<A: Allocator + Copy>(
     Ok(found)
 }
 
-/// Adds the error of a file's header, or of its rows of entries.
+/// Adds the errors of a file's header, of the parts of MacBinary that pass the end, and of the rows of entries.
+fn find_in_head<A: Allocator>(
+    wrapping: Wrapping<'_>,
+    found: &mut Vec<Found, A>,
+) -> Result<(), AllocError>
+    ensures { OnOk result (found.new.items ≡ found.old.items ++ head_faults (wrapping_seen wrapping.entry)) }
+{
+    find_in_header(wrapping.fault, found)?;
+    find_in_header(wrapping.cuts.data_fork, found)?;
+    find_in_header(wrapping.cuts.resource_fork, found)?;
+    find_in_header(wrapping.cuts.comment, found)?;
+    find_in_header(wrapping.cut, found)?;
+    Ok(())
+}
+
+/// Adds the error of a file's header, of a part that passes the end, or of its rows of entries.
 fn find_in_header<A: Allocator>(
     fault: Option<ForkFault>,
     found: &mut Vec<Found, A>,

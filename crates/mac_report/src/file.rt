@@ -157,7 +157,11 @@ impl<'a> FileReport<'a> {
     }
 
     /// Prints the object up to its containers.
-    fn print_json_head<W: Sink>(self, out: &mut W, page: &mut Page) -> Result<(), StreamFault>
+    pub(crate) fn print_json_head<W: Sink>(
+        self,
+        out: &mut W,
+        page: &mut Page,
+    ) -> Result<(), StreamFault>
         ensures { Sends result (W.stream out.old) (W.stream out.new) page.old.items page.new.items (json_head self.entry.path.now self.entry.bytes.now (option_map data_file_seen self.entry.data_file)) }
     {
         self.print_beginning(out, page)?;
@@ -273,8 +277,15 @@ fn print_end<W: Sink>(
     ensures { Sends result (W.stream out.old) (W.stream out.new) page.old.items page.new.items (end_text form found.now tally) }
 {
     match form {
-        Form::Text => print_text_end(out, page, tally.skipped, tally.total(found.len() as u64)),
-        Form::Json => print_json_end(out, page, found, tally.skipped),
+        Form::Text => {
+            print_text_end(
+                out,
+                page,
+                tally.turn.skipped,
+                tally.total(found.len() as u64),
+            )
+        }
+        Form::Json => print_json_end(out, page, found, tally.turn.skipped),
     }
 }
 
@@ -292,7 +303,7 @@ fn print_text_end<W: Sink>(
 }
 
 /// Prints the end of the object.
-fn print_json_end<W: Sink>(
+pub(crate) fn print_json_end<W: Sink>(
     out: &mut W,
     page: &mut Page,
     found: &[Found],

@@ -150,7 +150,12 @@ fn entry_of(fault: ForkFault) -> Option<u64>
     ensures { result ≡ entry_of fault }
 {
     match fault {
-        ForkFault::BadMacBinaryCrc | ForkFault::AppleHeaderCut | ForkFault::BadAppleVersion => None,
+        ForkFault::BadMacBinaryCrc
+        | ForkFault::AppleHeaderCut
+        | ForkFault::BadAppleVersion
+        | ForkFault::DataForkCut
+        | ForkFault::ResourceForkCut
+        | ForkFault::CommentCut => None,
         ForkFault::AppleEntryCut { entry }
         | ForkFault::AppleEntryOutside { entry }
         | ForkFault::AppleEntryShort { entry } => Some(u64::from(entry)),

@@ -10,12 +10,18 @@ mod forks;
 mod found;
 mod fragments;
 mod in_memory;
+mod parts;
 mod row;
 mod scene;
 mod tally;
+mod theorems;
+mod turn;
 mod unread;
 mod wrapping;
 
 pub use data_file::{DataFile, is_data_fork, is_resource_file};
 pub use file::{FileReport, Form};
+pub use parts::ReportPart;
+pub use theorems::parts_join;
+pub use turn::Turn;
 pub use unread::UnreadFile;

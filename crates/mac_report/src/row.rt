@@ -1,30 +1,18 @@
 //! What is known of one of the containers in a file.
-ghost use Rattle.std.specs.Prelude.{◌≡◌, ◌<◌, ◌^◌, ◌++◌, nat_lt};
+ghost use Rattle.std.specs.Prelude.{◌≡◌, ◌++◌};
 ghost use Rattle.pef_ports.specs.Sent.{Sends};
 ghost use Rattle.pef_report.specs.Views.{inspected};
-ghost use Rattle.mac_report.specs.Containers.{IsInspected, IsRow, cost, errors_in, headers_cost, inspected_object, inspected_text, lacking_line, lacking_object, lacking_text, loader_length, notes_in, row_text, separator, skipped_in};
+ghost use Rattle.mac_report.specs.Containers.{IsInspected, IsRow, errors_in, inspected_object, inspected_text, lacking_line, lacking_object, lacking_text, notes_in, row_text, separator};
+ghost use Rattle.mac_report.specs.Parts.{excerpt_text};
 ghost use Rattle.mac_report.specs.Views.{row_seen};
-ghost use Rattle.pef_views.specs.Partial.{partial_of};
 
 use crate::file::Form;
-use crate::tally::Tally;
+use crate::turn::Turn;
 use cfm_members::Contents;
 use pef_inspect::Limits;
 use pef_ports::{Page, Sink, StreamFault, send};
 use pef_report::{Inspection, Token, print_tokens};
-use pef_views::PartialContainer;
-use pef_words::Cut;
 use std::alloc::{AllocError, Allocator};
-
-/// What an inspection takes from the budget of its file, besides the bytes of the container's headers and its loader section.
-const INSPECTION_COST: u64 = 0x1_0000;
-
-/// The lengths of a container's header and of a section's header, and where the first has the number of sections.
-const CONTAINER_HEADER_SIZE: u64 = 40;
-
-const SECTION_HEADER_SIZE: u64 = 28;
-
-const SECTION_COUNT_AT: usize = 32;
 
 /// The rest of the object of a container whose inspection lacks memory.
 const LACKING_REST: &[u8] =
@@ -45,28 +33,16 @@ pub(crate) fn read_row<'a, A: Allocator + Copy>(
     alloc: A,
     contents: Contents<'a>,
     place: usize,
-    tally: Tally,
+    turn: Turn,
 ) -> Row<'a, A>
-    ensures { IsRow contents.entry.bytes.now tally place (row_seen result) }
+    ensures { IsRow contents.entry.bytes.now turn place (row_seen result) }
 {
     let rest = contents.rest_from(place);
-    if exceeds(rest, tally.budget) {
+    if turn.is_exceeded_by(rest) {
         Row::Skipped
     } else {
-        inspect(alloc, rest, place as u64, tally.limits)
+        inspect(alloc, rest, place as u64, turn.limits)
     }
-}
-
-/// Returns whether the inspection of a container costs more than what is left of the budget. The sections of a container are
-/// looked at if there is enough for their headers.
-#[tactic(auto, unfolding(crate::specs::Containers::cost))]
-fn exceeds(rest: &[u8], budget: u64) -> bool
-    ensures { result ≡ nat_lt budget (cost rest.now) }
-{
-    if headers_cost(rest) > budget {
-        return true;
-    }
-    cost(rest) > budget
 }
 
 /// Inspects the container that begins some bytes, which are at an offset of the file.
@@ -76,35 +52,6 @@ fn inspect<'a, A: Allocator + Copy>(alloc: A, rest: &'a [u8], at: u64, limits: L
     match Inspection::read_within(alloc, at, rest, limits) {
         Ok(inspection) => Row::Inspected(inspection),
         Err(AllocError) => Row::Lacking(at),
-    }
-}
-
-/// Returns what the inspection of the container that begins some bytes takes from the budget.
-#[tactic(auto, unfolding(crate::specs::Containers::cost))]
-pub(crate) fn cost(rest: &[u8]) -> u64
-    ensures { result ≡ cost rest.now }
-{
-    headers_cost(rest) + loader_length(rest)
-}
-
-/// Returns what it takes for the headers.
-#[tactic(auto, unfolding(crate::specs::Containers::headers_cost))]
-fn headers_cost(rest: &[u8]) -> u64
-    ensures value { result ≡ headers_cost rest.now }
-    ensures small { result < 2 ^ 32 }
-{
-    let sections = Cut::new(rest).u16_at(SECTION_COUNT_AT).unwrap_or(0);
-    INSPECTION_COST + CONTAINER_HEADER_SIZE + SECTION_HEADER_SIZE * u64::from(sections)
-}
-
-/// Returns the length of the loader section of the container that begins some bytes, as far as it is there.
-fn loader_length(rest: &[u8]) -> u64
-    ensures value { result ≡ loader_length (partial_of rest.now) }
-    ensures small { result < 2 ^ 63 }
-{
-    match PartialContainer::read(rest) {
-        Ok(container) => container.loader_bytes().len() as u64,
-        Err(_) => 0,
     }
 }
 
@@ -122,6 +69,22 @@ impl<'a, A: Allocator + Copy> Row<'a, A> {
         match self {
             Row::Inspected(inspection) => print_inspected(out, page, form, is_first, inspection),
             Row::Lacking(at) => print_lacking(out, page, form, is_first, *at),
+            Row::Skipped => print_tokens(out, page, &[]),
+        }
+    }
+
+    /// Prints the beginning of the container's object.
+    pub(crate) fn print_excerpt<W: Sink>(
+        &self,
+        out: &mut W,
+        page: &mut Page,
+        most: u32,
+    ) -> Result<(), StreamFault>
+        ensures { Sends result (W.stream out.old) (W.stream out.new) page.old.items page.new.items (excerpt_text most (row_seen self.now)) }
+    {
+        match self {
+            Row::Inspected(inspection) => inspection.print_excerpt(out, page, most),
+            Row::Lacking(at) => print_lacking_fields(out, page, *at),
             Row::Skipped => print_tokens(out, page, &[]),
         }
     }
@@ -144,16 +107,6 @@ impl<'a, A: Allocator + Copy> Row<'a, A> {
         match self {
             Row::Inspected(inspection) => inspection.note_count(),
             Row::Lacking(_) | Row::Skipped => 0,
-        }
-    }
-
-    /// Returns 1 if the container wasn't inspected, for want of a budget.
-    pub(crate) fn skipped_count(&self) -> u64
-        ensures { result ≡ skipped_in (row_seen self.now) }
-    {
-        match self {
-            Row::Inspected(_) | Row::Lacking(_) => 0,
-            Row::Skipped => 1,
         }
     }
 }

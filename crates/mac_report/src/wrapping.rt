@@ -10,13 +10,15 @@ ghost use Rattle.mac_report.specs.Views.{wrapping_seen};
 
 use crate::forks::ForkPair;
 use cfm_members::{Forks, readable};
-use mac_forks::{AppleFile, ForkFault, MacFile, Part};
+use mac_forks::{AppleFile, ForkFault, MacBinaryCuts, MacFile, NO_CUTS, Part};
 use mac_resources::{ResourceFault, ResourceFork};
 
 /// What a file is wrapped in: the error of its header, and its forks, each with the error of its entry.
 #[derive(Clone, Copy)]
 pub(crate) struct Wrapping<'a> {
     pub fault: Option<ForkFault>,
+    /// The errors of the parts of MacBinary that pass the end.
+    pub cuts: MacBinaryCuts,
     /// The error of the first row of an entry that passes the end.
     pub cut: Option<ForkFault>,
     pub data_fork: Option<Result<Part<'a>, ForkFault>>,
@@ -32,12 +34,14 @@ impl<'a> Wrapping<'a> {
         match MacFile::read(bytes) {
             Ok(file) => Wrapping {
                 fault: file.fault(),
+                cuts: file.cuts(),
                 cut: cut_in(&file),
                 data_fork: wrapped_data(&file),
                 resource_fork: Forks::of(bytes, &file).resource_fork,
             },
             Err(fault) => Wrapping {
                 fault: Some(fault),
+                cuts: NO_CUTS,
                 cut: None,
                 data_fork: None,
                 resource_fork: None,

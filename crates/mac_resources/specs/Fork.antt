@@ -1,7 +1,7 @@
 -- A resource fork: its header, its map and its types (Inside Macintosh: More Macintosh Toolbox, "Resource Manager",
 -- "Resource File Format"). That a map or data that pass the end are read as far as they go is this project's own rule,
 -- and so is which bytes can be a resource fork.
-use Rattle.std.specs.Prelude.{ℕ, ◌+◌, ◌*◌, ◌%◌, ◌^◌, ◌&&◌, ◌||◌, Bool, false, List, Option, None, Some, Result, Ok, Err, nat_le, nat_lt, length, take, drop, if◌then◌else◌}
+use Rattle.std.specs.Prelude.{ℕ, ◌+◌, ◌*◌, ◌%◌, ◌^◌, ◌==◌, ◌&&◌, ◌||◌, Bool, false, List, Option, None, Some, Result, Ok, Err, nat_le, nat_lt, length, take, drop, if◌then◌else◌}
 use Rattle.std.specs.Option.{option_map_or}
 use Rattle.pef_words.specs.Bytes.{number_at}
 use Rattle.pef_words.specs.Refusals.{◌>>=◌}
@@ -92,6 +92,15 @@ can_be_fork bytes (Err fault) = false
 
 unfoldable pub is_consistent : List ℕ → Bool
 is_consistent bytes = can_be_fork bytes (fork_of bytes)
+
+-- a header whose map follows the data, in a fork that ends before the map does
+abbrev pub is_cut : ResourceHeader → ℕ → Bool
+is_cut h len = nat_le 16 h.data_offset && h.data_offset + h.data_length == h.map_offset && nat_le 30 h.map_length
+    && nat_lt len (h.map_offset + h.map_length)
+
+-- some bytes have the form of a resource fork: they can be one, or the first bytes of one
+unfoldable pub has_form : List ℕ → Bool
+has_form bytes = is_consistent bytes || option_map_or (λ h. is_cut h (length bytes)) (header_of bytes) false
 
 -- where the row of a type begins in the map: the rows follow their number
 abbrev pub type_from : ForkIs → ℕ → ℕ

@@ -3,8 +3,10 @@ ghost use Rattle.pef_words.specs.Refusals.{result_map};
 ghost use Rattle.mac_resources.specs.Fork.{
   clipped,
   fork_of,
+  has_form,
   header_of,
   is_apart,
+  is_cut,
   is_consistent,
   map_is_cut,
   map_of,
@@ -17,7 +19,7 @@ ghost use Rattle.mac_resources.specs.Views.{fork_seen, left, resource_seen};
 
 use crate::fault::ResourceFault;
 use crate::layout::{
-    DATA_LENGTH_AT, DATA_OFFSET_AT, FILE_NUMBER_AT, HEADER_SIZE, MAP_ATTRIBUTES_AT,
+    DATA_LENGTH_AT, DATA_OFFSET_AT, FILE_NUMBER_AT, HEADER_SIZE, LEAST_MAP_SIZE, MAP_ATTRIBUTES_AT,
     MAP_FIELDS_SIZE, MAP_HANDLE_AT, MAP_LENGTH_AT, MAP_OFFSET_AT, NAME_LIST_AT, TYPE_LIST_AT,
     TYPE_SIZE, TYPES_AT,
 };
@@ -100,6 +102,20 @@ impl<'a> ResourceFork<'a> {
             Ok(fork) => fork.fields.type_list >= MAP_FIELDS_SIZE
                 && is_apart(fork.header, bytes.len()),
             Err(_) => false,
+        }
+    }
+
+    /// Returns whether some bytes can be a resource fork, or the first bytes of one: then the map follows the data, and passes the end.
+    #[tactic(auto, unfolding(crate::specs::Fork::has_form))]
+    pub fn has_form(bytes: &[u8]) -> bool
+        ensures { result ≡ has_form bytes.now }
+    {
+        if ResourceFork::is_consistent(bytes) {
+            return true;
+        }
+        match read_header(Cut::new(bytes)) {
+            Some(header) => is_cut(header, bytes.len()),
+            None => false,
         }
     }
 
@@ -214,6 +230,18 @@ fn clipped<'a>(cut: Cut<'a>, offset: u32, len: u32) -> Cut<'a>
     let (_, rest) = cut.bytes().split_at(from);
     let (part, _) = rest.split_at(rest.len().min(len as usize));
     Cut::new(part)
+}
+
+/// Returns whether the map follows the data and passes the end of a fork of this length.
+fn is_cut(header: ResourceHeader, len: usize) -> bool
+    ensures { result ≡ is_cut header len }
+{
+    let data_end = header.data_offset as usize + header.data_length as usize;
+    let map_end = header.map_offset as usize + header.map_length as usize;
+    header.data_offset >= HEADER_SIZE
+        && data_end == header.map_offset as usize
+        && header.map_length >= LEAST_MAP_SIZE
+        && len < map_end
 }
 
 /// Returns whether data and map lie in a fork of `len` bytes, after the header and apart from each other.

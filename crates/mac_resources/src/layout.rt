@@ -14,6 +14,9 @@ pub(crate) const MAP_LENGTH_AT: usize = 12;
 /// The length of the map's fields.
 pub(crate) const MAP_FIELDS_SIZE: u16 = 28;
 
+/// A map without types: its fields, and the number of types.
+pub(crate) const LEAST_MAP_SIZE: u32 = 30;
+
 /// Offsets in the map. It begins with a copy of the header.
 pub(crate) const MAP_HANDLE_AT: usize = 16;
 

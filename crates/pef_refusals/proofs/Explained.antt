@@ -42,8 +42,8 @@ unfolding note_name note_help
 note number = grind arith
 
 -- the numbers above 50
-last : (number : ℕ) → is_some (if nat_le number 70 then closure_name number else if nat_le 80 number && nat_le number 98 then mac_name number else if nat_le number 100 then port_name number else note_name number)
-    ≡ is_some (if nat_le number 70 then closure_help number else if nat_le 80 number && nat_le number 98 then mac_help number else if nat_le number 100 then port_help number else note_help number)
+last : (number : ℕ) → is_some (if nat_le number 70 then closure_name number else if nat_le 76 number && nat_le number 98 then mac_name number else if nat_le number 100 then port_name number else note_name number)
+    ≡ is_some (if nat_le number 70 then closure_help number else if nat_le 76 number && nat_le number 98 then mac_help number else if nat_le number 100 then port_help number else note_help number)
 last number =
     let of_closure = closure number in
     let of_mac = mac number in
@@ -52,16 +52,16 @@ last number =
     grind arith
 
 -- the numbers above 40
-above : (number : ℕ) → is_some (if nat_le number 50 then script_name number else if nat_le number 70 then closure_name number else if nat_le 80 number && nat_le number 98 then mac_name number else if nat_le number 100 then port_name number else note_name number)
-    ≡ is_some (if nat_le number 50 then script_help number else if nat_le number 70 then closure_help number else if nat_le 80 number && nat_le number 98 then mac_help number else if nat_le number 100 then port_help number else note_help number)
+above : (number : ℕ) → is_some (if nat_le number 50 then script_name number else if nat_le number 70 then closure_name number else if nat_le 76 number && nat_le number 98 then mac_name number else if nat_le number 100 then port_name number else note_name number)
+    ≡ is_some (if nat_le number 50 then script_help number else if nat_le number 70 then closure_help number else if nat_le 76 number && nat_le number 98 then mac_help number else if nat_le number 100 then port_help number else note_help number)
 above number =
     let of_script = script number in
     let of_rest = last number in
     grind arith
 
 -- the numbers above 20
-between : (number : ℕ) → is_some (if nat_le number 30 then packed_name number else if nat_le number 40 then relocation_name number else if nat_le number 50 then script_name number else if nat_le number 70 then closure_name number else if nat_le 80 number && nat_le number 98 then mac_name number else if nat_le number 100 then port_name number else note_name number)
-    ≡ is_some (if nat_le number 30 then packed_help number else if nat_le number 40 then relocation_help number else if nat_le number 50 then script_help number else if nat_le number 70 then closure_help number else if nat_le 80 number && nat_le number 98 then mac_help number else if nat_le number 100 then port_help number else note_help number)
+between : (number : ℕ) → is_some (if nat_le number 30 then packed_name number else if nat_le number 40 then relocation_name number else if nat_le number 50 then script_name number else if nat_le number 70 then closure_name number else if nat_le 76 number && nat_le number 98 then mac_name number else if nat_le number 100 then port_name number else note_name number)
+    ≡ is_some (if nat_le number 30 then packed_help number else if nat_le number 40 then relocation_help number else if nat_le number 50 then script_help number else if nat_le number 70 then closure_help number else if nat_le 76 number && nat_le number 98 then mac_help number else if nat_le number 100 then port_help number else note_help number)
 between number =
     let of_packed = packed number in
     let of_relocation = relocation number in

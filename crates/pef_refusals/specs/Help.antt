@@ -5,12 +5,12 @@ use Rattle.std.specs.Prelude.{◌==◌, ◌&&◌, ℕ, List, Option, None, Some,
 unfoldable pub container_help : ℕ → Option (List ℕ)
 container_help number =
     if number == 1 then Some (codes "The file ends inside the headers of a container. It is truncated, or it isn't a PEF container.")
-    else if number == 2 then Some (codes "The file doesn't begin with Joy!peff, so it isn't a PEF container. Pass the data fork, and cut out what comes before the container.")
+    else if number == 2 then Some (codes "The file doesn't begin with Joy!peff, so it isn't a PEF container. If one is inside, `pef extract FILE '#0' OUT` takes it out.")
     else if number == 3 then Some (codes "The container isn't for PowerPC. CFM-68K containers aren't read.")
     else if number == 4 then Some (codes "The container's format version isn't 1, and the format has no other. The file is damaged.")
     else if number == 5 then Some (codes "The header counts more instantiated sections than sections. The file is damaged.")
     else if number == 6 then Some (codes "A section's raw data passes the end of the file. The file is truncated, or a section header is damaged.")
-    else if number == 7 then Some (codes "An instantiated section has a kind that can't be instantiated. The file is damaged, or its linker instantiates debug or traceback sections.")
+    else if number == 7 then Some (codes "An instantiated section has a kind that can't be instantiated. The file is a stub library, which only linkers read, or it is damaged.")
     else if number == 8 then Some (codes "A section's image is larger than its memory, or larger than its raw data. The file is damaged.")
     else if number == 9 then Some (codes "A section's alignment is above 31. The file is damaged.")
     else if number == 10 then Some (codes "The container has no loader section. Without one it can be neither listed nor loaded.")
@@ -90,7 +90,10 @@ closure_help number =
 -- of files of the classic Mac OS
 unfoldable pub mac_help : ℕ → Option (List ℕ)
 mac_help number =
-    if number == 80 then Some (codes "The file has no container with this name or number. Numbers begin at #0; upper and lower case of a name differ.")
+    if number == 76 then Some (codes "The data fork of a file in MacBinary passes the end of the file. The file was cut, or its header is damaged; the fork is read as far as it goes.")
+    else if number == 77 then Some (codes "The resource fork of a file in MacBinary passes the end of the file. The file was cut, or its header is damaged; the fork is read as far as it goes.")
+    else if number == 78 then Some (codes "The comment of a file in MacBinary passes the end of the file. The file was cut, or its header is damaged; the forks are read.")
+    else if number == 80 then Some (codes "The file has no container with this name or number. Numbers begin at #0; upper and lower case of a name differ.")
     else if number == 81 then Some (codes "The header says that it is of MacBinary II or III, and its CRC is wrong. The forks are read all the same.")
     else if number == 82 then Some (codes "The file begins as AppleSingle or AppleDouble, and ends inside its header. The file is truncated.")
     else if number == 83 then Some (codes "The file begins as AppleSingle or AppleDouble, and its version is neither 1 nor 2. The file is damaged.")
@@ -151,6 +154,6 @@ help_of number =
     else if nat_le number 40 then relocation_help number
     else if nat_le number 50 then script_help number
     else if nat_le number 70 then closure_help number
-    else if nat_le 80 number && nat_le number 98 then mac_help number
+    else if nat_le 76 number && nat_le number 98 then mac_help number
     else if nat_le number 100 then port_help number
     else note_help number

@@ -90,7 +90,10 @@ closure_name number =
 -- of files of the classic Mac OS
 unfoldable pub mac_name : ℕ → Option (List ℕ)
 mac_name number =
-    if number == 80 then Some (codes "NoContainer")
+    if number == 76 then Some (codes "DataForkCut")
+    else if number == 77 then Some (codes "ResourceForkCut")
+    else if number == 78 then Some (codes "CommentCut")
+    else if number == 80 then Some (codes "NoContainer")
     else if number == 81 then Some (codes "BadMacBinaryCrc")
     else if number == 82 then Some (codes "AppleHeaderCut")
     else if number == 83 then Some (codes "BadAppleVersion")
@@ -151,6 +154,6 @@ name_of number =
     else if nat_le number 40 then relocation_name number
     else if nat_le number 50 then script_name number
     else if nat_le number 70 then closure_name number
-    else if nat_le 80 number && nat_le number 98 then mac_name number
+    else if nat_le 76 number && nat_le number 98 then mac_name number
     else if nat_le number 100 then port_name number
     else note_name number

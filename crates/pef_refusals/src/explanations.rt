@@ -13,7 +13,7 @@ pub fn help(number: u32) -> Option<&'static str>
         31..=40 => relocation_help(number),
         41..=50 => script_help(number),
         51..=70 => closure_help(number),
-        80..=98 => mac_help(number),
+        76..=98 => mac_help(number),
         71..=100 => port_help(number),
         _ => note_help(number),
     }
@@ -29,7 +29,7 @@ fn container_help(number: u32) -> Option<&'static str>
             "The file ends inside the headers of a container. It is truncated, or it isn't a PEF container.",
         ),
         2 => Some(
-            "The file doesn't begin with Joy!peff, so it isn't a PEF container. Pass the data fork, and cut out what comes before the container.",
+            "The file doesn't begin with Joy!peff, so it isn't a PEF container. If one is inside, `pef extract FILE '#0' OUT` takes it out.",
         ),
         3 => Some("The container isn't for PowerPC. CFM-68K containers aren't read."),
         4 => Some(
@@ -42,7 +42,7 @@ fn container_help(number: u32) -> Option<&'static str>
             "A section's raw data passes the end of the file. The file is truncated, or a section header is damaged.",
         ),
         7 => Some(
-            "An instantiated section has a kind that can't be instantiated. The file is damaged, or its linker instantiates debug or traceback sections.",
+            "An instantiated section has a kind that can't be instantiated. The file is a stub library, which only linkers read, or it is damaged.",
         ),
         8 => Some(
             "A section's image is larger than its memory, or larger than its raw data. The file is damaged.",
@@ -237,6 +237,15 @@ fn mac_help(number: u32) -> Option<&'static str>
     ensures { option_map (λ text. text.now) result ≡ mac_help number }
 {
     match number {
+        76 => Some(
+            "The data fork of a file in MacBinary passes the end of the file. The file was cut, or its header is damaged; the fork is read as far as it goes.",
+        ),
+        77 => Some(
+            "The resource fork of a file in MacBinary passes the end of the file. The file was cut, or its header is damaged; the fork is read as far as it goes.",
+        ),
+        78 => Some(
+            "The comment of a file in MacBinary passes the end of the file. The file was cut, or its header is damaged; the forks are read.",
+        ),
         80 => Some(
             "The file has no container with this name or number. Numbers begin at #0; upper and lower case of a name differ.",
         ),

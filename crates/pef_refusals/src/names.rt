@@ -13,7 +13,7 @@ pub fn name(number: u32) -> Option<&'static str>
         31..=40 => relocation_name(number),
         41..=50 => script_name(number),
         51..=70 => closure_name(number),
-        80..=98 => mac_name(number),
+        76..=98 => mac_name(number),
         71..=100 => port_name(number),
         _ => note_name(number),
     }
@@ -141,6 +141,9 @@ fn mac_name(number: u32) -> Option<&'static str>
     ensures { option_map (λ text. text.now) result ≡ mac_name number }
 {
     match number {
+        76 => Some("DataForkCut"),
+        77 => Some("ResourceForkCut"),
+        78 => Some("CommentCut"),
         80 => Some("NoContainer"),
         81 => Some("BadMacBinaryCrc"),
         82 => Some("AppleHeaderCut"),

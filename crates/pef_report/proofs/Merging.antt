@@ -1,16 +1,18 @@
 -- Rows and findings that are printed in turn.
-use Rattle.std.proofs.Common.{◌≡◌, ◌∙◌, ℕ, suc, ◌+◌, ◌-◌, ◌<◌, ◌≤◌, Bool, true, false, cond, List, [], ◌∷◌, ◌++◌, None, length, map, refl, sym, ap, arith, append_assoc}
+use Rattle.std.proofs.Common.{◌≡◌, ◌∙◌, ℕ, zero, suc, ◌+◌, ◌-◌, ◌<◌, ◌≤◌, Bool, true, false, cond, List, [], ◌∷◌, ◌++◌, None, Some, inl, inr, length, map, min, refl, sym, ap, arith, append_assoc}
+use Rattle.std.proofs.lemmas.Bool.{cases_lt}
 use Rattle.std.proofs.lemmas.List.{append-nil, take-append-drop}
 use Rattle.pef_format.specs.declared.place.Part.{Part}
+use Rattle.pef_format.specs.declared.place.Part.TheVariants as part
 use Rattle.pef_format.specs.declared.place.Part.TheVariants.{Header}
 use Rattle.pef_inspect.specs.declared.finding.Cause.TheVariants.{View}
 use Rattle.pef_inspect.specs.declared.finding.Finding.{Finding}
 use Rattle.pef_views.specs.declared.fault.ViewFault.TheVariants.{TooShort}
-use Rattle.pef_report.specs.Inspection.{Row, element, elements, finding_json, finding_text, findings_json, findings_text, is_chosen, merged_left, merged_text, row_at, rows_among, rows_below}
+use Rattle.pef_report.specs.Inspection.{Row, element, elements, finding_json, finding_text, findings_json, findings_text, is_chosen, merged_left, merged_text, object_count, row_at, rows_among, rows_below}
 use Rattle.pef_report.specs.Objects.{separator}
 use Rattle.pef_report.specs.Order.{after, before, count_before}
-use Rattle.pef_report.specs.Readable.{Readable}
-use Rattle.pef_report.specs.Theorems.{blank}
+use Rattle.pef_report.specs.Readable.{Readable, row_count}
+use Rattle.pef_report.specs.Theorems.{JoinsRows, blank}
 use Rattle.pef_report.specs.declared.members.Member.{Member}
 
 -- a finding in place of those past the last one
@@ -97,3 +99,52 @@ none_before base rank (f ∷ fs) none = absurd (omega arith)
 pub none_after : (rank : ℕ) (fs : List Finding) → length fs ≡ 0 → after rank fs ≡ fs
 none_after rank [] none = refl
 none_after rank (f ∷ fs) none = absurd (omega arith)
+
+-- rows after rows of a kind
+elements-append : (r : Readable) (kind : Part) (from n m : ℕ) → elements r kind from n ++ elements r kind (from + n) m ≡ elements r kind from (n + m)
+elements-append r kind from zero m = (let e : from + 0 ≡ from = omega arith in let z : 0 + m ≡ m = omega arith in rw (e, z) refl)
+elements-append r kind from (suc n) m =
+    let e : from + suc n ≡ from + 1 + n = omega arith in
+    let z : suc n + m ≡ suc (n + m) = omega arith in
+    let here = element r kind from in
+    rw (e, z) (append_assoc here (elements r kind (from + 1) n) (elements r kind (from + 1 + n) m) ∙ ap (λ t. here ++ t) (elements-append r kind (from + 1) n m))
+
+-- the first ones of a kind that can have several
+first_of : (r : Readable) (kind : Part) (most n : ℕ) → elements r kind 0 (min n most) ++ elements r kind most (n - most) ≡ elements r kind 0 n
+first_of r kind most n = elim (cases_lt most n) [
+  | inl less ↦ (
+      let few : min n most ≡ most = omega (arith, less) in
+      let e : most + (n - most) ≡ n = omega (arith, less) in
+      let start : 0 + most ≡ most = omega arith in
+      let joined = elements-append r kind 0 most (n - most) in
+      rw few (rw (start, e) at joined)
+      )
+  | inr past ↦ (
+      let all : min n most ≡ n = omega (arith, past) in
+      let none : n - most ≡ 0 = omega (arith, past) in
+      rw (all, none) (append-nil (elements r kind 0 n))
+      )
+]
+
+-- one of a kind that can have no more
+only_one : (r : Readable) (kind : Part) (most : ℕ) → 1 ≤ most → elements r kind 0 1 ++ elements r kind most (1 - most) ≡ elements r kind 0 1
+only_one r kind most some = (let none : 1 - most ≡ 0 = omega (arith, some) in rw none (append-nil (elements r kind 0 1)))
+
+first_rows : (most : ℕ) (r : Readable) (kind : Part) → 1 ≤ most → elements r kind 0 (object_count (Some most) r kind) ++ elements r kind most (object_count None r kind - most) ≡ elements r kind 0 (object_count None r kind)
+first_rows most r part.Header some = only_one r part.Header most some
+first_rows most r part.LoaderHeader some = only_one r part.LoaderHeader most some
+first_rows most r part.Main some = only_one r part.Main most some
+first_rows most r part.Init some = only_one r part.Init most some
+first_rows most r part.Term some = only_one r part.Term most some
+first_rows most r part.Section some = first_of r part.Section most (row_count r part.Section)
+first_rows most r part.Library some = first_of r part.Library most (row_count r part.Library)
+first_rows most r part.Import some = first_of r part.Import most (row_count r part.Import)
+first_rows most r part.Relocation some = first_of r part.Relocation most (row_count r part.Relocation)
+first_rows most r part.Export some = first_of r part.Export most (row_count r part.Export)
+first_rows most r part.PackedData some = first_of r part.PackedData most (row_count r part.PackedData)
+first_rows most r part.Program some = first_of r part.Program most (row_count r part.Program)
+first_rows most r part.Line some = first_of r part.Line most (row_count r part.Line)
+
+-- rows that are printed in parts are all rows
+pub joined_rows : JoinsRows
+joined_rows = record { first = first_rows; more = elements-append }

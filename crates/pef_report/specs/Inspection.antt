@@ -1,5 +1,5 @@
 -- The inspection of a container as text and as JSON.
-use Rattle.std.specs.Prelude.{◌≡◌, ◌↔◌, ℕ, zero, suc, ◌+◌, ◌==◌, Bool, IsTrue, true, false, not, List, [], ◌∷◌, ◌++◌, Option, None, Some, codes, decimal, map, if◌then◌else◌}
+use Rattle.std.specs.Prelude.{◌≡◌, ◌↔◌, ℕ, zero, suc, ◌+◌, ◌-◌, ◌==◌, Bool, IsTrue, true, false, not, List, [], ◌∷◌, ◌++◌, Option, None, Some, codes, decimal, map, min, take, if◌then◌else◌}
 use Rattle.std.specs.Option.{unwrap_or}
 use Rattle.pef_format.specs.declared.place.Part.{Part}
 use Rattle.pef_format.specs.declared.place.Part.TheVariants as part
@@ -168,14 +168,18 @@ findings_json base errors is_first (f ∷ fs) =
     then (separator is_first ++ finding_json base f) ++ findings_json base errors false fs
     else findings_json base errors is_first fs
 
--- how many objects there are of a kind of row: one if a container can't have several of them
-abbrev pub object_count : Readable → Part → ℕ
-object_count r part.Header = 1
-object_count r part.LoaderHeader = 1
-object_count r part.Main = 1
-object_count r part.Init = 1
-object_count r part.Term = 1
-object_count r kind = row_count r kind
+-- how many objects are printed of a kind of row, if at most so many are wanted: one if a container can't have several of them
+abbrev pub at_most : Option ℕ → ℕ → ℕ
+at_most None n = n
+at_most (Some most) n = min n most
+
+abbrev pub object_count : Option ℕ → Readable → Part → ℕ
+object_count most r part.Header = 1
+object_count most r part.LoaderHeader = 1
+object_count most r part.Main = 1
+object_count most r part.Init = 1
+object_count most r part.Term = 1
+object_count most r kind = at_most most (row_count r kind)
 
 -- the object of row i of a kind, or `null` if it can't be read, after a comma
 abbrev pub element : Readable → Part → ℕ → List ℕ
@@ -186,9 +190,9 @@ elements r kind from zero = []
 elements r kind from (suc n) = element r kind from ++ elements r kind (from + 1) n
 
 -- members of an object: what is before the elements of each, and their kind
-abbrev pub members_text : Readable → List (List ℕ × Part) → List ℕ
-members_text r [] = []
-members_text r (m ∷ members) = (m.0 ++ elements r m.1 0 (object_count r m.1)) ++ members_text r members
+abbrev pub members_text : Option ℕ → Readable → List (List ℕ × Part) → List ℕ
+members_text most r [] = []
+members_text most r (m ∷ members) = (m.0 ++ elements r m.1 0 (object_count most r m.1)) ++ members_text most r members
 
 abbrev pub row_members : List (List ℕ × Part)
 row_members = (codes ",\"header\":", part.Header)
@@ -204,14 +208,28 @@ row_members = (codes ",\"header\":", part.Header)
     ∷ []
 
 -- the rows of a container as members of its object
-unfoldable pub rows_json : Inspected → List ℕ
-rows_json i = (codes "{\"offset\":" ++ decimal i.base) ++ members_text (readable_at i.base i.bytes i.programs) row_members
+unfoldable pub rows_json : Option ℕ → Inspected → List ℕ
+rows_json most i = (codes "{\"offset\":" ++ decimal i.base) ++ members_text most (readable_at i.base i.bytes i.programs) row_members
 
 -- the list of errors, or of notes
 unfoldable pub list_json : List ℕ → Inspected → Bool → List ℕ
 list_json key i errors = key ++ findings_json i.base errors true i.findings
 
--- the object of JSON of an inspection, on one line
-unfoldable pub inspection_object : Inspected → List ℕ
-inspection_object i =
-    rows_json i ++ (list_json (codes "},\"errors\":[") i true ++ (list_json (codes "],\"notes\":[") i false ++ codes "]}"))
+-- an object of JSON on one line, with at most so many rows of each kind
+unfoldable pub object_within : Option ℕ → Inspected → List ℕ
+object_within most i =
+    rows_json most i ++ (list_json (codes "},\"errors\":[") i true ++ (list_json (codes "],\"notes\":[") i false ++ codes "]}"))
+
+-- the object of an inspection
+abbrev pub inspection_object : Inspected → List ℕ
+inspection_object i = object_within None i
+
+-- its beginning: the first rows of each kind, without instructions, and the first errors and notes
+abbrev pub excerpt_object : ℕ → Inspected → List ℕ
+excerpt_object most i = object_within (Some most) (record i { programs = 0; findings = take most i.findings })
+
+-- the objects of the rows of a kind from one on, at most so many. A comma is before each but the first of all
+unfoldable pub rows_text : ℕ → List ℕ → Part → ℕ → ℕ → List ℕ
+rows_text base bytes kind from count =
+    let r = readable_at base bytes (programs_shown bytes) in
+    elements r kind from (min (row_count r kind - from) count)

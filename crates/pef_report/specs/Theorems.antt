@@ -1,9 +1,11 @@
 -- Laws of the text of an inspection.
-use Rattle.std.specs.Prelude.{◌≡◌, ℕ, ◌<◌, ◌≤◌, List, [], ◌++◌, None, Some, length, map, take}
+use Rattle.std.specs.Prelude.{◌≡◌, ℕ, ◌+◌, ◌-◌, ◌<◌, ◌≤◌, List, [], ◌++◌, None, Some, length, map, take}
+use Rattle.pef_format.specs.declared.place.Part.{Part}
 use Rattle.pef_inspect.specs.declared.finding.Finding.{Finding}
 use Rattle.pef_loader.specs.CutNames.{cut_name}
 use Rattle.pef_report.specs.Tokens.{label_member, label_text, length_member, name_member}
-use Rattle.pef_report.specs.Inspection.{Row, findings_text, merged_left, merged_text}
+use Rattle.pef_report.specs.Inspection.{Row, elements, findings_text, merged_left, merged_text, object_count}
+use Rattle.pef_report.specs.Readable.{Readable}
 
 -- a row without its line
 abbrev pub blank : Row → Row
@@ -23,3 +25,10 @@ pub record PrintsNames : Type 0 where
       → label_member key (cut_name 4096 name) ≡ name_member key (take 1024 name) ++ length_member key (Some (length name))
   pub longer : (key name : List ℕ) → 4096 < length name
       → label_member key (cut_name 4096 name) ≡ name_member key (take 1024 name) ++ length_member key None
+
+-- the first rows of a kind and the ones after them are all rows: those after the first `most`, and those after any others
+pub record JoinsRows : Type 0 where
+  pub first : (most : ℕ) (r : Readable) (kind : Part) → 1 ≤ most
+      → elements r kind 0 (object_count (Some most) r kind) ++ elements r kind most (object_count None r kind - most)
+      ≡ elements r kind 0 (object_count None r kind)
+  pub more : (r : Readable) (kind : Part) (from n m : ℕ) → elements r kind from n ++ elements r kind (from + n) m ≡ elements r kind from (n + m)

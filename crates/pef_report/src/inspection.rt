@@ -1,19 +1,18 @@
 ghost use Rattle.std.specs.Prelude.{◌≡◌, IfOk, OnOk, true, false};
 ghost use Rattle.pef_ports.specs.Sent.{Sends};
-ghost use Rattle.pef_report.specs.Inspection.{AreAll, Inspects, InspectsWithin, count_chosen, inspection_object, inspection_text, list_json, rows_json};
+ghost use Rattle.pef_report.specs.Inspection.{AreAll, Inspects, InspectsWithin, count_chosen, excerpt_object, inspection_object, inspection_text};
 ghost use Rattle.pef_report.specs.Order.{IsInOrder};
 
-use crate::found::{Chosen, count_chosen, print_chosen, print_findings};
-use crate::members::{print_members, row_members};
+use crate::found::{count_chosen, print_findings};
+use crate::object::{Shown, print_object};
 use crate::order::finding_rank;
 use crate::reading::Reading;
-use crate::tokens::{Token, print_tokens};
 use crate::walk::Walk;
 use pef_format::Part;
 use pef_inspect::{
     Finding, Limits, find_errors_within, find_more_notes_within, find_notes_within, programs_shown,
 };
-use pef_ports::{Page, Sink, StreamFault, send};
+use pef_ports::{Page, Sink, StreamFault};
 use std::alloc::{AllocError, Allocator};
 
 /// The kinds of rows, in the order in which they are printed.
@@ -41,7 +40,7 @@ pub struct Inspection<'a, A: Allocator> {
 }
 
 impl<'a, A: Allocator + Copy> Inspection<'a, A> {
-    ghost use Rattle.pef_report.specs.Views.{inspected};
+    ghost use Rattle.pef_report.specs.Views.{inspected, shown_seen};
 
     /// Inspects the container `bytes`, which begins at the offset `base` of its file, within the limits for one container.
     ///
@@ -110,47 +109,41 @@ impl<'a, A: Allocator + Copy> Inspection<'a, A> {
     pub fn print_object<W: Sink>(&self, out: &mut W, page: &mut Page) -> Result<(), StreamFault>
         ensures { Sends result (W.stream out.old) (W.stream out.new) page.old.items page.new.items (inspection_object (inspected self.now)) }
     {
-        self.print_rows(out, page)?;
-        self.print_list(out, page, b"},\"errors\":[", true)?;
-        self.print_list(out, page, b"],\"notes\":[", false)?;
-        send(out, page, b"]}")
+        print_object(out, page, self.shown(), None)
     }
 
-    /// Prints the beginning of the object, up to its errors.
-    #[tactic(auto, unfolding(crate::specs::Inspection::rows_json))]
-    fn print_rows<W: Sink>(&self, out: &mut W, page: &mut Page) -> Result<(), StreamFault>
-        ensures { Sends result (W.stream out.old) (W.stream out.new) page.old.items page.new.items (rows_json (inspected self.now)) }
-    {
-        let mut reading = Reading::new(self.base, self.bytes, self.programs);
-        print_tokens(
-            out,
-            page,
-            &[Token::Text(b"{\"offset\":"), Token::Number(self.base)],
-        )?;
-        print_members(out, page, &mut reading, &row_members())
-    }
-
-    /// Prints the list of errors, or of notes, after its key.
-    #[tactic(auto, unfolding(crate::specs::Inspection::list_json))]
-    fn print_list<W: Sink>(
+    /// Prints the beginning of this object, as an object of the same form: at most so many rows of each kind, no instructions, and
+    /// of the errors and notes in their order the first so many.
+    pub fn print_excerpt<W: Sink>(
         &self,
         out: &mut W,
         page: &mut Page,
-        key: &[u8],
-        errors: bool,
+        most: u32,
     ) -> Result<(), StreamFault>
-        ensures { Sends result (W.stream out.old) (W.stream out.new) page.old.items page.new.items (list_json key.now (inspected self.now) errors) }
+        ensures { Sends result (W.stream out.old) (W.stream out.new) page.old.items page.new.items (excerpt_object most (inspected self.now)) }
     {
-        send(out, page, key)?;
-        print_chosen(
-            out,
-            page,
-            Chosen {
-                base: self.base,
-                findings: &self.findings,
-                errors,
-            },
-        )
+        let whole = self.shown();
+        let (findings, _) = whole
+            .findings
+            .split_at(whole.findings.len().min(most as usize));
+        let first = Shown {
+            programs: 0,
+            findings,
+            ..whole
+        };
+        print_object(out, page, first, Some(most))
+    }
+
+    /// Returns all that is shown.
+    fn shown(&self) -> Shown<'_, 'a>
+        ensures { shown_seen result ≡ inspected self.now }
+    {
+        Shown {
+            base: self.base,
+            bytes: self.bytes,
+            programs: self.programs,
+            findings: self.findings.as_slice(),
+        }
     }
 }
 

@@ -8,6 +8,7 @@ mod frames;
 mod inspection;
 mod lines;
 mod members;
+mod object;
 mod objects;
 mod optional;
 mod order;
@@ -31,6 +32,7 @@ pub use lines::{
     print_entry, print_export, print_header, print_import, print_library, print_loader,
     print_relocation, print_section,
 };
+pub use object::{RowRange, print_row_range};
 pub use objects::{
     print_entry_object, print_export_object, print_header_object, print_import_object,
     print_library_object, print_loader_object, print_section_object,
@@ -40,5 +42,5 @@ pub use rows::{
     Detail, EntryRow, ExportRow, FindingRow, HeaderRow, ImportRow, InstrRow, LibraryRow, LoaderRow,
     ProgramRow, RelocationRow, SectionRow,
 };
-pub use theorems::{each_finding_is_printed_once, names_are_printed};
+pub use theorems::{each_finding_is_printed_once, names_are_printed, rows_join};
 pub use tokens::{Token, print_tokens};

@@ -1,8 +1,8 @@
 //! The rows of a container as members of its object of JSON.
-ghost use Rattle.std.specs.Prelude.{◌≡◌, ◌==◌, ◌++◌, codes, map};
+ghost use Rattle.std.specs.Prelude.{◌≡◌, ◌==◌, ◌++◌, ◌-◌, codes, map};
 ghost use Rattle.std.specs.Option.{unwrap_or};
 ghost use Rattle.pef_ports.specs.Sent.{Sends};
-ghost use Rattle.pef_report.specs.Inspection.{element, elements, members_text, object_count, row_members};
+ghost use Rattle.pef_report.specs.Inspection.{at_most, element, elements, members_text, object_count, row_members};
 ghost use Rattle.pef_report.specs.Members.{member_seen};
 ghost use Rattle.pef_report.specs.Readable.{export_row_object, import_row_object, library_row_object, object_at};
 ghost use Rattle.pef_report.specs.RowViews.{object_of};
@@ -49,55 +49,70 @@ fn new_member(key: &'static [u8], part: Part) -> Member
     Member { key, part }
 }
 
-/// Prints members of an object.
+/// Prints members of an object, each with at most so many rows.
 pub(crate) fn print_members<W: Sink>(
     out: &mut W,
     page: &mut Page,
     reading: &mut Reading<'_>,
+    most: Option<u32>,
     members: &[Member],
 ) -> Result<(), StreamFault>
-    ensures { Sends result (W.stream out.old) (W.stream out.new) page.old.items page.new.items (members_text (readable reading.old) (map member_seen members.now)) }
+    ensures { Sends result (W.stream out.old) (W.stream out.new) page.old.items page.new.items (members_text most (readable reading.old) (map member_seen members.now)) }
 {
     for member in members {
-        print_member(out, page, reading, *member)?;
+        print_member(out, page, reading, most, *member)?;
     }
     Ok(())
 }
 
-/// Prints a member of an object.
+/// Prints a member of an object. If a container can have only one row of its kind, the object is `null` if it can't be read.
 fn print_member<W: Sink>(
     out: &mut W,
     page: &mut Page,
     reading: &mut Reading<'_>,
+    most: Option<u32>,
     member: Member,
 ) -> Result<(), StreamFault>
-    ensures sends { Sends result (W.stream out.old) (W.stream out.new) page.old.items page.new.items (member.key.now ++ elements (readable reading.old) member.part 0 (object_count (readable reading.old) member.part)) }
+    ensures sends { Sends result (W.stream out.old) (W.stream out.new) page.old.items page.new.items (member.key.now ++ elements (readable reading.old) member.part 0 (object_count most (readable reading.old) member.part)) }
     ensures same { readable reading.new ≡ readable reading.old }
 {
     send(out, page, member.key)?;
-    print_elements(out, page, reading, member.part)
+    let elements = Elements {
+        part: member.part,
+        from: 0,
+        end: object_count(most, reading, member.part),
+    };
+    print_elements(out, page, reading, elements)
 }
 
-/// Prints the objects of all rows of a kind. If a container can have only one row of it, its object is `null` if it can't be
-/// read.
-fn print_elements<W: Sink>(
+/// Rows of a kind that are printed as objects.
+#[derive(Clone, Copy)]
+pub(crate) struct Elements {
+    pub part: Part,
+    pub from: u32,
+    /// The row after the last one.
+    pub end: u32,
+}
+
+/// Prints the objects of rows of a kind.
+pub(crate) fn print_elements<W: Sink>(
     out: &mut W,
     page: &mut Page,
     reading: &mut Reading<'_>,
-    part: Part,
+    rows: Elements,
 ) -> Result<(), StreamFault>
-    ensures sends { Sends result (W.stream out.old) (W.stream out.new) page.old.items page.new.items (elements (readable reading.old) part 0 (object_count (readable reading.old) part)) }
+    ensures sends { Sends result (W.stream out.old) (W.stream out.new) page.old.items page.new.items (elements (readable reading.old) rows.part rows.from (rows.end - rows.from)) }
     ensures same { readable reading.new ≡ readable reading.old }
 {
-    for i in 0..object_count(reading, part) {
-        print_element(out, page, reading, part, i)?;
+    for i in rows.from..rows.end {
+        print_element(out, page, reading, rows.part, i)?;
     }
     Ok(())
 }
 
-/// Returns how many objects there are of a kind of row.
-fn object_count(reading: &Reading<'_>, part: Part) -> u32
-    ensures { result ≡ object_count (readable reading.now) part }
+/// Returns how many objects are printed of a kind of row.
+fn object_count(most: Option<u32>, reading: &Reading<'_>, part: Part) -> u32
+    ensures { result ≡ object_count most (readable reading.now) part }
 {
     match part {
         Part::Header | Part::LoaderHeader | Part::Main | Part::Init | Part::Term => 1,
@@ -108,7 +123,17 @@ fn object_count(reading: &Reading<'_>, part: Part) -> u32
         | Part::Export
         | Part::PackedData
         | Part::Program
-        | Part::Line => reading.count(part),
+        | Part::Line => at_most(most, reading.count(part)),
+    }
+}
+
+/// Returns a number of rows, or the most that are wanted.
+fn at_most(most: Option<u32>, count: u32) -> u32
+    ensures { result ≡ at_most most count }
+{
+    match most {
+        Some(most) => count.min(most),
+        None => count,
     }
 }
 

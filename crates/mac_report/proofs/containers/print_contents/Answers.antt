@@ -21,7 +21,7 @@ returns-in_err-print g c =
     let form = c.args.form in
     let bytes = c.args.contents.bytes.now in
     let row = row_seen c.read_row-row.result in
-    let here = row_text form (at.tally.containers == 0) row in
+    let here = row_text form (at.tally.turn.containers == 0) row in
     let next = tallied at.tally (rest_from bytes c.in-Some.place) row in
     let steps : Steps form bytes at.tally c.in-Some.place here next = record { row = row; is = c.read_row-row.ensures; printed = refl; counted = refl } in
     let w = walked-short c.in-Some.place (places_left c.next.new.self) here next at.invariant c.in-Some.ensures.steps steps c.in_err-print.ensures in
@@ -33,7 +33,7 @@ loop-place-preserved-in_ok-print g c =
     let form = c.args.form in
     let bytes = c.args.contents.bytes.now in
     let row = row_seen c.read_row-row.result in
-    let here = row_text form (at.tally.containers == 0) row in
+    let here = row_text form (at.tally.turn.containers == 0) row in
     let next = tallied at.tally (rest_from bytes c.in-Some.place) row in
     let steps : Steps form bytes at.tally c.in-Some.place here next = record { row = row; is = c.read_row-row.ensures; printed = refl; counted = refl } in
     let counted = c.with_row-tally.ensures ∙ ap (λ rest. tallied at.tally rest row) c.rest_from.ensures in
@@ -45,7 +45,7 @@ loop-place-preserved g c =
     let form = c.args.form in
     let bytes = c.args.contents.bytes.now in
     let row = row_seen c.read_row-row.result in
-    let here = row_text form (at.tally.containers == 0) row in
+    let here = row_text form (at.tally.turn.containers == 0) row in
     let next = tallied at.tally (rest_from bytes c.in-Some.place) row in
     let steps : Steps form bytes at.tally c.in-Some.place here next = record { row = row; is = c.read_row-row.ensures; printed = refl; counted = refl } in
     let counted = c.with_row-tally.ensures ∙ ap (λ rest. tallied at.tally rest row) c.rest_from.ensures in

@@ -1,6 +1,6 @@
 -- One part after the other.
 use Rattle.std.proofs.Common.{◌++◌, List, ap, ap₂, append_assoc, option_map, ◌∙◌}
-use Rattle.mac_report.specs.Faults.{entry_faults, faults_of, header_faults, parts_faults, wrapping_faults}
+use Rattle.mac_report.specs.Faults.{entry_faults, faults_of, head_faults, parts_faults, wrapping_faults}
 use Rattle.mac_report.specs.Views.{data_file_seen, wrapping_seen}
 use Rattle.mac_report.specs.declared.scene.Found.{Found}
 use Rattle.mac_report.proofs.faults.find_faults.Goals as goal
@@ -9,14 +9,12 @@ pub returns : goal.returns
 unfolding faults_of
 returns g c =
     let w = wrapping_seen c.of-wrapping.result in
-    let a = header_faults w.fault in
-    let rows = header_faults w.cut in
+    let a = head_faults w in
     let b = entry_faults w.data_fork in
     let d = entry_faults w.resource_fork in
     let parts = ap₂ parts_faults c.members_fork.ensures c.readable.ensures in
-    let first = c.in_ok-find_in_header.ensures ∙ ap (λ (xs : List Found). xs ++ a) c.new-found.ensures.items in
-    let cut = c.in_ok-find_in_header-2.ensures ∙ ap (λ (xs : List Found). xs ++ rows) first in
-    let second = c.in_ok-find_in_entry.ensures ∙ ap (λ (xs : List Found). xs ++ b) cut in
+    let first = c.in_ok-find_in_head.ensures ∙ ap (λ (xs : List Found). xs ++ a) c.new-found.ensures.items in
+    let second = c.in_ok-find_in_entry.ensures ∙ ap (λ (xs : List Found). xs ++ b) first in
     let third = c.in_ok-find_in_entry-2.ensures ∙ ap (λ (xs : List Found). xs ++ d) second in
     c.in_ok-find_in_parts.ensures ∙ ap₂ (λ (xs ys : List Found). xs ++ ys) third parts
-    ∙ append_assoc ((a ++ rows) ++ b) d _ ∙ append_assoc (a ++ rows) b _ ∙ append_assoc a rows _ ∙ ap (wrapping_faults (option_map data_file_seen c.args.data_file)) c.of-wrapping.ensures
+    ∙ append_assoc (a ++ b) d _ ∙ append_assoc a b _ ∙ ap (wrapping_faults (option_map data_file_seen c.args.data_file)) c.of-wrapping.ensures

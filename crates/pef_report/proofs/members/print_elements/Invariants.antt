@@ -1,5 +1,5 @@
 use Rattle.std.proofs.Common.{◌≡◌, ◌-◌}
-use Rattle.pef_report.specs.Inspection.{elements, object_count}
+use Rattle.pef_report.specs.Inspection.{elements}
 use Rattle.pef_report.specs.Views.{readable}
 use Rattle.pef_ports.proofs.Laws.Sending.{IsSentUpTo}
 use Rattle.pef_report.proofs.members.print_elements.Given as goal
@@ -7,7 +7,7 @@ use Rattle.pef_report.proofs.members.print_elements.Given as goal
 abbrev pub invariant-loop-i : goal.invariant-loop-i
 invariant-loop-i g l = record {
   sent : IsSentUpTo (g.W.Sink.stream l.fn.out) (g.W.Sink.stream l.out) l.fn.page.items l.page.items
-      (elements (readable l.fn.reading) l.part 0 (object_count (readable l.fn.reading) l.part))
-      (elements (readable l.fn.reading) l.part l.i (object_count (readable l.fn.reading) l.part - l.i));
+      (elements (readable l.fn.reading) l.rows.part l.rows.from (l.rows.end - l.rows.from))
+      (elements (readable l.fn.reading) l.rows.part l.i (l.rows.end - l.i));
   same : readable l.reading ≡ readable l.fn.reading;
 }

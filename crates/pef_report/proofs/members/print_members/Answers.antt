@@ -10,7 +10,7 @@ use Rattle.pef_report.proofs.members.print_members.Goals as goal
 
 pub loop-member-init : goal.loop-member-init
 loop-member-init g c = record {
-  sent = sent-nothing (g.W.Sink.stream c.args.out.now) c.args.page.now.items (members_text (readable c.args.reading.now) (map member_seen c.args.members.now));
+  sent = sent-nothing (g.W.Sink.stream c.args.out.now) c.args.page.now.items (members_text c.args.most (readable c.args.reading.now) (map member_seen c.args.members.now));
   same = refl;
 }
 
@@ -19,9 +19,9 @@ loop-member-preserved g c =
     let at = c.loop-member in
     let r = readable c.args.reading.now in
     let members = c.args.members.now in
-    let next = at_drop_more (λ ms. members_text r (map member_seen ms)) members at.member-index no_member c.loop-member-test.true in
+    let next = at_drop_more (λ ms. members_text c.args.most r (map member_seen ms)) members at.member-index no_member c.loop-member-test.true in
     record {
-      sent = sent-piece (members_text r (map member_seen (drop (at.member-index + 1) members))) at.invariant.sent next (rw at.invariant.same at c.in_ok-print_member.ensures.sends);
+      sent = sent-piece (members_text c.args.most r (map member_seen (drop (at.member-index + 1) members))) at.invariant.sent next (rw at.invariant.same at c.in_ok-print_member.ensures.sends);
       same = c.in_ok-print_member.ensures.same ∙ at.invariant.same;
     }
 
@@ -30,8 +30,8 @@ returns-in_err-print_member g c =
     let at = c.loop-member in
     let r = readable c.args.reading.now in
     let members = c.args.members.now in
-    let next = at_drop_more (λ ms. members_text r (map member_seen ms)) members at.member-index no_member c.loop-member-test.true in
-    Sends-short _ c.from_residual.result _ c.from_residual.ensures.1 (sent-short (members_text r (map member_seen (drop (at.member-index + 1) members))) at.invariant.sent next (rw at.invariant.same at c.in_err-print_member.ensures.sends))
+    let next = at_drop_more (λ ms. members_text c.args.most r (map member_seen ms)) members at.member-index no_member c.loop-member-test.true in
+    Sends-short _ c.from_residual.result _ c.from_residual.ensures.1 (sent-short (members_text c.args.most r (map member_seen (drop (at.member-index + 1) members))) at.invariant.sent next (rw at.invariant.same at c.in_err-print_member.ensures.sends))
 
 pub returns : goal.returns
-returns g c = sent-all c.loop-member.invariant.sent (ap (λ ms. members_text (readable c.args.reading.now) (map member_seen ms)) (drop_all c.loop-member.member-index c.args.members.now c.loop-member-test.false))
+returns g c = sent-all c.loop-member.invariant.sent (ap (λ ms. members_text c.args.most (readable c.args.reading.now) (map member_seen ms)) (drop_all c.loop-member.member-index c.args.members.now c.loop-member-test.false))

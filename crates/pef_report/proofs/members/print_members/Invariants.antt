@@ -8,7 +8,7 @@ use Rattle.pef_report.proofs.members.print_members.Given as goal
 abbrev pub invariant-loop-member : goal.invariant-loop-member
 invariant-loop-member g l = record {
   sent : IsSentUpTo (g.W.Sink.stream l.fn.out) (g.W.Sink.stream l.out) l.fn.page.items l.page.items
-      (members_text (readable l.fn.reading) (map member_seen l.members))
-      (members_text (readable l.fn.reading) (map member_seen (drop l.member-index l.members)));
+      (members_text l.most (readable l.fn.reading) (map member_seen l.members))
+      (members_text l.most (readable l.fn.reading) (map member_seen (drop l.member-index l.members)));
   same : readable l.reading ≡ readable l.fn.reading;
 }

@@ -1,7 +1,7 @@
 -- The offset and the members.
 use Rattle.pef_report.specs.Inspection.{rows_json}
 use Rattle.pef_ports.proofs.Laws.Sending.{Sends-short, Sends-then, StopsShort-longer}
-use Rattle.pef_report.proofs.inspection.Inspection.print_rows.Goals as goal
+use Rattle.pef_report.proofs.object.print_rows.Goals as goal
 
 pub returns-in_err-print_tokens : goal.returns-in_err-print_tokens
 unfolding rows_json
