@@ -1,27 +1,32 @@
-// Bytes in hexadecimal: of a container as it is in the file, or of a section's image with the words that are relocated.
+// Bytes in hexadecimal: of a file from a container on, or of a section's image with the words that are relocated.
 import { button, el } from "./dom.js";
-import { hex, macRoman } from "./text.js";
+import { PACKED } from "./files.js";
+import { hex } from "./text.js";
 
 const LINE = 16;
 
 /** How many lines are shown at first, and how many more each time. */
 const PART = 128;
 
-/** How many additions of a program are shown beside the bytes. */
-const MOST_FIXUPS = 100000;
+/** How many additions to the same word are shown. */
+const MOST_ADDED = 8;
 
-/** A view of bytes. `open` shows a source from an offset on. */
+/** A view of bytes. `open` shows a source from an offset on: 0 is the file, and the others are the sections. */
 export class BytesView {
-    constructor(container, nameOf) {
-        this.container = container;
-        this.nameOf = nameOf;
-        this.sources = [
-            { label: container.offset === 0 ? "the file" : "the file from the container on", first: container.offset, slice: () => container.slice, added: () => new Map() },
-            ...container.sections.map((section, i) => this.sectionSource(section, i)),
-        ];
-        this.source = 0;
+    /**
+     * The bytes of a container or of a file. `offset` is where they begin in the file. `imageOf` gives the image of a section by its
+     * number and what is added to its words, in a promise. `addedText` gives the text of an addition.
+     */
+    constructor({ bytes, offset, sections }, imageOf = null, addedText = null) {
+        this.bytes = bytes;
+        this.offset = offset;
+        this.sections = sections;
+        this.imageOf = imageOf;
+        this.addedText = addedText;
+        this.image = null;
+        this.added = new Map();
         this.mark = null;
-        this.select = el("select", { "aria-label": "Bytes of" }, ...this.sources.map((source, i) => el("option", { value: String(i) }, source.label)));
+        this.select = el("select", { "aria-label": "Bytes of" }, el("option", { value: "0" }, offset === 0 ? "the file" : "the file from the container on"));
         this.select.addEventListener("change", () => this.open(Number(this.select.value), null));
         this.goal = el("input", { type: "text", "aria-label": "Offset in hexadecimal", placeholder: "Offset", size: "10", spellcheck: "false", autocomplete: "off" });
         this.note = el("p", { class: "hint", role: "status" });
@@ -37,48 +42,39 @@ export class BytesView {
             }
         });
         this.element = el("section", { class: "bytes" }, form, this.note, this.before, this.lines, this.after);
-    }
-
-    sectionSource(section, i) {
-        const { container } = this;
-        const packed = section.kind === 2;
-        return {
-            label: `section ${i}${packed ? ", expanded" : ""}`,
-            first: 0,
-            slice: () => container.image(section),
-            added: () => this.additions(i),
-        };
-    }
-
-    /** Returns what is added to each word of a section, by the offset of the word. */
-    additions(section) {
-        const added = new Map();
-        let left = MOST_FIXUPS;
-        for (const relocation of this.container.relocations) {
-            if (relocation.section !== section || left <= 0) {
-                continue;
-            }
-            const table = this.container.fixups(relocation, left);
-            for (const { offset, kind, number } of table === null ? [] : table.rows) {
-                const words = added.get(offset) ?? [];
-                words.push(kind === "section" ? `section ${number}` : `import ${number} ${this.nameOf(number)}`);
-                added.set(offset, words);
-                left -= 1;
-            }
-        }
-        this.isCut = left <= 0;
-        return added;
+        this.open(0, null);
     }
 
     /** Shows a source, from a line before an offset on, and marks the byte there. */
-    open(source, offset) {
+    async open(source, offset) {
+        for (let i = this.select.length - 1; i < this.sections.length; i += 1) {
+            this.select.append(el("option", { value: String(i + 1) }, `section ${i}${this.sections[i].kind === PACKED ? ", expanded" : ""}`));
+        }
         this.source = source;
         this.select.value = String(source);
-        const { first, slice, added } = this.sources[source];
-        this.isCut = false;
-        this.added = added();
-        this.slice = slice();
-        this.mark = offset === null ? null : offset - first;
+        this.first = source === 0 ? this.offset : 0;
+        const opening = {};
+        this.opening = opening;
+        if (source === 0) {
+            this.show({ image: this.bytes, added: new Map(), isCut: false }, offset);
+            return;
+        }
+        this.show({ image: new Uint8Array(0), added: new Map(), isCut: false }, null);
+        this.note.textContent = "";
+        this.element.setAttribute("aria-busy", "true");
+        const shown = await this.imageOf(source - 1);
+        if (this.opening === opening) {
+            this.show(shown, offset);
+        }
+    }
+
+    /** Shows bytes, or says why there are none. */
+    show({ image, added, isCut }, offset) {
+        this.element.removeAttribute("aria-busy");
+        this.image = image;
+        this.added = added;
+        this.isCut = isCut;
+        this.mark = offset === null ? null : offset - this.first;
         this.from = this.mark === null ? 0 : Math.max(0, (Math.floor(this.mark / LINE) - 4) * LINE);
         this.note.textContent = this.hint();
         this.to = this.from;
@@ -92,13 +88,13 @@ export class BytesView {
     }
 
     hint() {
-        if (this.slice === null) {
-            return "The packed data can't be expanded, or is too long to be shown.";
+        if (this.image === null) {
+            return "The bytes aren't all there, can't be expanded, or are too many to be shown.";
         }
-        if (this.slice.length === 0) {
+        if (this.image.length === 0) {
             return "There are no bytes.";
         }
-        const cut = this.isCut ? ` Only the first ${MOST_FIXUPS.toLocaleString("en")} additions are shown.` : "";
+        const cut = this.isCut ? " There are more additions, which aren't shown." : "";
         return this.added.size === 0 ? "" : `${this.added.size.toLocaleString("en")} words are relocated. What is added is at the end of a line, after the word's offset.${cut}`;
     }
 
@@ -110,7 +106,7 @@ export class BytesView {
     }
 
     showAfter() {
-        const length = this.slice === null ? 0 : this.slice.length;
+        const length = this.image === null ? 0 : this.image.length;
         const from = Math.min(this.to, length);
         this.to = Math.min(length, from + PART * LINE);
         this.lines.append(...this.linesOf(from, this.to));
@@ -118,29 +114,28 @@ export class BytesView {
     }
 
     linesOf(from, to) {
-        const bytes = this.container.reader.bytes(this.slice ?? { length: 0 });
         const lines = [];
         for (let at = from; at < to; at += LINE) {
-            lines.push(this.line(at, bytes.subarray(at, Math.min(at + LINE, bytes.length))));
+            lines.push(this.line(at, this.image.subarray(at, Math.min(at + LINE, this.image.length))));
         }
         return lines;
     }
 
     line(at, bytes) {
-        const { first } = this.sources[this.source];
         const cells = el("span", { class: "cells" });
         const additions = [];
         for (let i = 0; i < LINE; i += 1) {
             const text = i < bytes.length ? hex(bytes[i], 2) : "  ";
             const kind = i < bytes.length ? this.kindAt(at + i) : null;
             cells.append(kind === null ? text : el("span", { class: kind }, text), i % 4 === 3 ? "  " : " ");
-            const words = this.added.get(at + i);
-            if (words !== undefined && i < bytes.length) {
-                additions.push(`${hex(first + at + i, 8)} + ${words.join(" + ")}`);
+            const added = this.added.get(at + i);
+            if (added !== undefined && i < bytes.length) {
+                const words = added.slice(0, MOST_ADDED).map(this.addedText);
+                additions.push([hex(this.first + at + i, 8), ...words, ...(added.length > MOST_ADDED ? ["…"] : [])].join(" + "));
             }
         }
-        const text = macRoman(bytes).replace(/[^ -~]/g, ".");
-        return el("div", {}, el("span", { class: "at" }, hex(first + at, 8)), "  ", cells, el("span", { class: "text" }, text), additions.length === 0 ? null : el("span", { class: "added" }, `  ${additions.join("; ")}`));
+        const text = String.fromCharCode(...bytes).replace(/[^ -~]/g, ".");
+        return el("div", {}, el("span", { class: "at" }, hex(this.first + at, 8)), "  ", cells, el("span", { class: "text" }, text), additions.length === 0 ? null : el("span", { class: "added" }, `  ${additions.join("; ")}`));
     }
 
     kindAt(offset) {

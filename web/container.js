@@ -1,6 +1,7 @@
 // The views of a container.
 import { BytesView } from "./bytes.js";
 import { button, el, terms } from "./dom.js";
+import { MOST_BESIDE, MOST_LISTED } from "./files.js";
 import { mapOf } from "./map.js";
 import { DataTable } from "./table.js";
 import * as text from "./text.js";
@@ -11,46 +12,34 @@ const SHARES = { 1: "process", 4: "global", 5: "protected" };
 
 const CLASSES = ["code", "data", "transition vector", "TOC", "glue"];
 
-/** How many additions of all programs are listed. */
-const MOST_FIXUPS = 20000;
+/** The tables of rows, by their tabs. */
+const TABLES = { Sections: "sections", Libraries: "libraries", Imports: "imports", Exports: "exports", Relocations: "relocations" };
 
-/** How many instructions of all programs are listed. */
-const MOST_INSTRUCTIONS = 20000;
-
-/** Returns a name as it is shown. */
-export function name(it) {
-    return it === null ? "–" : `${text.shownName(it.bytes)}${it.length > it.bytes.length ? "…" : ""}`;
-}
+/** The tab that has the row of a part. */
+const TABS = { section: "Sections", packed: "Sections", library: "Libraries", import: "Imports", relocation: "Relocations", program: "Relocations", export: "Exports" };
 
 function coded(words, code) {
     return words[code] === undefined ? String(code) : `${code} ${words[code]}`;
 }
 
-function versionText(number) {
-    const shown = text.version(number);
-    return shown === "-" ? text.hex(number, 8) : `${shown} (${text.hex(number, 8)})`;
-}
-
-/** The tabs of a container, each drawn when it is first shown. */
+/** The tabs of a container, each drawn when it is first shown. `helps` has what errors and notes mean, by their numbers. */
 export class ContainerView {
-    constructor(container, title) {
+    constructor(container, title, helps) {
         this.container = container;
-        this.drawn = new Map();
+        this.helps = helps;
+        this.drawn = new Set();
         this.tables = new Map();
-        const notes = container.findings.filter((it) => !it.isError).length;
-        const errors = container.findings.length - notes;
-        const { sections, libraries, imports, exports, relocations } = container;
         this.tabs = [
-            ["Overview", "Overview", () => this.overview(errors, notes)],
-            ["Findings", `Errors and notes ${container.findings.length}`, () => this.findings()],
-            ["Sections", `Sections ${sections.length}`, () => this.table("Sections", this.sections())],
-            ["Libraries", `Libraries ${this.counted(libraries, "page_libraries")}`, () => this.table("Libraries", this.libraries())],
-            ["Imports", `Imports ${this.counted(imports, "page_imports")}`, () => this.table("Imports", this.imports())],
-            ["Exports", `Exports ${this.counted(exports, "page_exports")}`, () => this.table("Exports", this.exports())],
-            ["Relocations", `Relocations ${this.counted(relocations, "page_relocations")}`, () => this.relocations()],
-            ["Bytes", "Bytes", () => this.bytes()],
+            ["Overview", () => this.overview()],
+            ["Findings", () => this.findings()],
+            ["Sections", () => this.table("Sections", this.sections())],
+            ["Libraries", () => this.table("Libraries", this.libraries())],
+            ["Imports", () => this.table("Imports", this.imports())],
+            ["Exports", () => this.table("Exports", this.exports())],
+            ["Relocations", () => this.relocations()],
+            ["Bytes", () => this.bytes()],
         ];
-        this.buttons = this.tabs.map(([key, label]) => button(label, () => this.show(key), { role: "tab", id: `tab-${key}`, "aria-controls": `panel-${key}`, "data-tab": key }));
+        this.buttons = this.tabs.map(([key]) => button(this.label(key), () => this.show(key), { role: "tab", id: `tab-${key}`, "aria-controls": `panel-${key}`, "data-tab": key }));
         this.panels = this.tabs.map(([key]) => el("div", { role: "tabpanel", id: `panel-${key}`, "aria-labelledby": `tab-${key}`, hidden: true }));
         const list = el("div", { role: "tablist", "aria-label": "Views of the container", class: "tabs" }, ...this.buttons);
         list.addEventListener("keydown", (event) => this.move(event));
@@ -58,8 +47,14 @@ export class ContainerView {
         this.show("Overview");
     }
 
-    counted(rows, name) {
-        return `${rows.length.toLocaleString("en")}${this.container.more.has(name) ? "+" : ""}`;
+    /** Returns the label of a tab: how many rows it has, with `+` if there may be more. */
+    label(key) {
+        const { container } = this;
+        if (key === "Findings") {
+            return `Errors and notes ${listed(container.errors.length + container.notes.length, container.isCut)}`;
+        }
+        const rows = container[TABLES[key]];
+        return rows === undefined ? key : `${key} ${listed(rows.length, container.more.has(TABLES[key]))}`;
     }
 
     /** Moves between the tabs by the arrow keys. */
@@ -75,13 +70,13 @@ export class ContainerView {
     }
 
     show(key) {
-        this.tabs.forEach(([it, , draw], i) => {
+        this.tabs.forEach(([it, draw], i) => {
             const isShown = it === key;
             this.buttons[i].setAttribute("aria-selected", String(isShown));
             this.buttons[i].tabIndex = isShown ? 0 : -1;
             this.panels[i].hidden = !isShown;
             if (isShown && !this.drawn.has(key)) {
-                this.drawn.set(key, true);
+                this.drawn.add(key);
                 this.panels[i].append(...[draw()].flat());
             }
         });
@@ -89,8 +84,17 @@ export class ContainerView {
 
     /** Shows the bytes of the file at an offset. */
     goTo(offset) {
+        this.showBytes(0, offset);
+    }
+
+    /** Shows the bytes of a section, at an offset if one is given. */
+    showSection(i, offset = null) {
+        this.showBytes(i + 1, offset);
+    }
+
+    showBytes(source, offset) {
         this.show("Bytes");
-        this.bytesView.open(0, offset);
+        this.bytesView.open(source, offset);
         this.bytesView.lines.focus();
     }
 
@@ -105,27 +109,26 @@ export class ContainerView {
         return made.element;
     }
 
-    overview(errors, notes) {
-        const { header, loader, offset } = this.container;
-        const parts = [el("p", { class: errors === 0 ? "verdict sound" : "verdict damaged" }, verdict(errors, notes))];
+    overview() {
+        const { header, loader, entries, offset } = this.container;
+        const parts = [verdict(this.container)];
         if (header !== null) {
             parts.push(
                 terms([
                     ["Begins at", text.at(offset)],
-                    ["Architecture", text.shownName([header.architecture >>> 24, (header.architecture >>> 16) & 255, (header.architecture >>> 8) & 255, header.architecture & 255])],
-                    ["Format version", String(header.format)],
-                    ["Date", text.date(header.date).replace("T", " ")],
-                    ["Current version", versionText(header.current)],
-                    ["Oldest definition", versionText(header.oldDef)],
-                    ["Oldest implementation", versionText(header.oldImp)],
+                    ["Architecture", text.shownName(header.architecture)],
+                    ["Format version", String(header.format_version)],
+                    ["Date", header.date_text.replace("T", " ")],
+                    ["Current version", text.version(header.current, header.current_text)],
+                    ["Oldest definition", text.version(header.olddef, header.olddef_text)],
+                    ["Oldest implementation", text.version(header.oldimp, header.oldimp_text)],
                     ["Sections", `${header.sections}, of which ${header.instantiated} get memory`],
                 ]),
             );
         }
         if (loader !== null) {
-            const shown = ({ section, value }) => (section === -1 ? "none" : `section ${section}, offset ${text.hex(value, 8)}`);
-            const [main, init, term] = loader.entries;
-            parts.push(terms([["Main entry point", shown(main)], ["Initialization routine", shown(init)], ["Termination routine", shown(term)]]));
+            const shown = (entry) => (entry === null ? "none" : `section ${entry.section}, offset ${text.hex(entry.value, 8)}`);
+            parts.push(terms([["Main entry point", shown(entries.main)], ["Initialization routine", shown(entries.init)], ["Termination routine", shown(entries.term)]]));
         } else {
             parts.push(el("p", { class: "hint" }, "There is no loader section that can be read."));
         }
@@ -134,82 +137,80 @@ export class ContainerView {
     }
 
     findings() {
-        const { reader } = this.container;
+        const { errors, notes, isCut } = this.container;
+        const rows = [...errors.map((it) => ({ ...it, kind: "error" })), ...notes.map((it) => ({ ...it, kind: "note" }))];
         const columns = [
-            { title: "Kind", text: (it) => (it.isError ? "error" : "note") },
+            { title: "Kind", text: (it) => it.kind },
             { title: "Number", text: (it) => String(it.number), value: (it) => it.number, class: "number" },
             { title: "Name", text: (it) => it.name },
             { title: "Part", text: (it) => partText(it), go: (it) => this.rowOf(it) },
             { title: "Offset", text: (it) => (it.offset === null ? "–" : text.at(it.offset)), value: (it) => it.offset, class: "number", go: (it) => (it.offset === null ? null : () => this.goTo(it.offset)) },
-            { title: "Meaning", text: (it) => meaning(reader, it), class: "wide" },
+            { title: "Meaning", text: (it) => meaning(this.helps, it), class: "wide" },
         ];
-        const parts = [this.table("Findings", new DataTable({ caption: "Errors and notes", columns, rows: this.container.findings, empty: "No errors and no notes." }))];
-        if (this.container.cut) {
-            parts.unshift(el("p", { class: "hint" }, "There are more errors or notes than the page keeps. These are the first ones."));
-        }
-        return parts;
+        const table = this.table("Findings", new DataTable({ caption: "Errors and notes", columns, rows, empty: "No errors and no notes." }));
+        return isCut ? [hint("There are more errors or notes. The saved JSON has all of them."), table] : [table];
     }
 
-    /** Returns how to go to the row that a finding is about, if there is one. */
-    rowOf(finding) {
-        const key = { 2: "Sections", 4: "Libraries", 5: "Imports", 9: "Relocations", 10: "Exports" }[finding.rank];
-        const { sections, libraries, imports, relocations, exports } = this.container;
-        const rows = { Sections: sections, Libraries: libraries, Imports: imports, Relocations: relocations, Exports: exports }[key];
-        return rows !== undefined && finding.row < rows.length ? () => this.goToRow(key, finding.row) : null;
+    /** Returns how to go to the row that a finding is about, if it was read. */
+    rowOf({ part, row }) {
+        const key = TABS[part];
+        return key !== undefined && row < this.container[TABLES[key]].length ? () => this.goToRow(key, row) : null;
     }
 
     offset() {
         return { title: "Offset", text: (it) => text.at(it.offset), value: (it) => it.offset, class: "number", go: (it) => () => this.goTo(it.offset) };
     }
 
+    /** Returns the table of a tab, which reads further rows if there are more. */
+    rows(key, caption, columns) {
+        const { container } = this;
+        const list = TABLES[key];
+        const read = async () => {
+            await container.readMore(list);
+            this.buttons[this.tabs.findIndex(([it]) => it === key)].textContent = this.label(key);
+        };
+        return new DataTable({ caption, columns, rows: container[list], more: { has: () => container.more.has(list), read } });
+    }
+
     sections() {
-        const columns = [
+        return this.rows("Sections", "Sections", [
             number("#"),
-            { title: "Name", text: (it) => name(it.name) },
+            { title: "Name", text: text.nameOf },
             { title: "Kind", text: (it) => coded(KINDS, it.kind), value: (it) => it.kind },
             { title: "Share", text: (it) => coded(SHARES, it.share), value: (it) => it.share },
             plain("Total", (it) => it.total),
             plain("Unpacked", (it) => it.unpacked),
             plain("Packed", (it) => it.packed),
-            plain("Align", (it) => it.alignment),
-            { title: "Default address", text: (it) => text.hex(it.address, 8), value: (it) => it.address, class: "number" },
+            plain("Align", (it) => it.align),
+            { title: "Default address", text: (it) => text.hex(it.default, 8), value: (it) => it.default, class: "number" },
             { title: "Raw bytes at", text: (it) => text.at(it.raw), value: (it) => it.raw, class: "number", go: (it) => () => this.goTo(it.raw) },
             { title: "Bytes", text: () => "show", go: (it, i) => () => this.showSection(i) },
             this.offset(),
-        ];
-        return new DataTable({ caption: "Sections", columns, rows: this.container.sections });
-    }
-
-    showSection(i) {
-        this.show("Bytes");
-        this.bytesView.open(i + 1, null);
-        this.bytesView.lines.focus();
+        ]);
     }
 
     libraries() {
-        const columns = [
+        return this.rows("Libraries", "Imported libraries", [
             number("#"),
-            { title: "Name", text: (it) => name(it.name) },
-            { title: "Current version", text: (it) => versionText(it.current), value: (it) => it.current },
-            { title: "Oldest implementation", text: (it) => versionText(it.oldImp), value: (it) => it.oldImp },
+            { title: "Name", text: text.nameOf },
+            { title: "Current version", text: (it) => text.version(it.current, it.current_text), value: (it) => it.current },
+            { title: "Oldest implementation", text: (it) => text.version(it.oldimp, it.oldimp_text), value: (it) => it.oldimp },
             { title: "Options", text: (it) => libraryOptions(it.options) },
             plain("First import", (it) => it.first),
             plain("Imports", (it) => it.count),
             this.offset(),
-        ];
-        return new DataTable({ caption: "Imported libraries", columns, rows: this.container.libraries, more: this.more("page_libraries") });
+        ]);
     }
 
     imports() {
-        const columns = [
+        return this.rows("Imports", "Imported symbols", [
             number("#"),
-            { title: "Name", text: (it) => name(it.name) },
-            { title: "Library", text: (it) => this.libraryName(it.library), go: (it) => (it.library === null ? null : () => this.goToRow("Libraries", it.library)) },
-            { title: "Class", text: (it) => coded(CLASSES, it.kind), value: (it) => it.kind },
+            { title: "Name", text: text.nameOf },
+            { title: "Library", text: (it) => this.libraryName(it.library), go: (it) => this.rowOf({ part: "library", row: it.library ?? Infinity }) },
+            { title: "Class", text: (it) => coded(CLASSES, it.class), value: (it) => it.class },
             { title: "Weak", text: (it) => (it.weak ? "weak" : "") },
             this.offset(),
-        ];
-        return new DataTable({ caption: "Imported symbols", columns, rows: this.container.imports, more: this.more("page_imports") });
+        ]);
     }
 
     libraryName(library) {
@@ -217,50 +218,48 @@ export class ContainerView {
             return "none";
         }
         const found = this.container.libraries[library];
-        return found === undefined || found.name === null ? `library ${library}` : name(found.name);
+        return found === undefined || found.name === null ? `library ${library}` : text.nameOf(found);
     }
 
     exports() {
-        const columns = [
+        return this.rows("Exports", "Exported symbols", [
             number("#"),
-            { title: "Name", text: (it) => name(it.name) },
-            { title: "Class", text: (it) => coded(CLASSES, it.kind), value: (it) => it.kind },
+            { title: "Name", text: text.nameOf },
+            { title: "Class", text: (it) => coded(CLASSES, it.class), value: (it) => it.class },
             { title: "Section", text: (it) => ({ "-2": "absolute", "-3": "reexport" })[it.section] ?? String(it.section), value: (it) => it.section, class: "number" },
             { title: "Value", text: (it) => text.hex(it.value, 8), value: (it) => it.value, class: "number" },
             this.offset(),
-        ];
-        return new DataTable({ caption: "Exported symbols", columns, rows: this.container.exports, more: this.more("page_exports") });
+        ]);
     }
 
     relocations() {
-        const columns = [
+        const headers = this.rows("Relocations", "Relocation headers", [
             number("#"),
-            { title: "Section", text: (it) => String(it.section), value: (it) => it.section, class: "number", go: (it) => (it.section < this.container.sections.length ? () => this.showSection(it.section) : null) },
+            this.sectionOf(),
             plain("Halfwords", (it) => it.halfwords),
             plain("First", (it) => it.first),
-            { title: "Program", text: (it) => (it.slice === null ? "passes the end" : text.at(this.container.place(it.slice))), go: (it) => (it.slice === null || it.slice.length === 0 ? null : () => this.goTo(this.container.place(it.slice))) },
             this.offset(),
-        ];
-        const headers = new DataTable({ caption: "Relocation headers", columns, rows: this.container.relocations, more: this.more("page_relocations") });
+        ]);
         return [
             el("h3", {}, "Relocation headers"),
             this.table("Relocations", headers),
             el("h3", {}, "Instructions"),
-            ...this.instructions(),
+            later(this.instructions()),
             el("h3", {}, "Words that are relocated"),
-            ...this.words(),
+            later(this.words()),
         ];
     }
 
+    /** Returns the column of the section that a relocation is for. */
+    sectionOf() {
+        const go = ({ section }) => (section < this.container.sections.length ? () => this.showSection(section) : null);
+        return { title: "Section", text: (it) => String(it.section), value: (it) => it.section, class: "number", go };
+    }
+
     /** Returns the table of the instructions of the programs, each up to the first bytes that aren't one. */
-    instructions() {
-        const rows = [];
-        this.container.relocations.forEach((relocation, header) => {
-            const left = MOST_INSTRUCTIONS + 1 - rows.length;
-            const listed = left > 0 ? this.container.instructions(relocation, left) : null;
-            rows.push(...(listed ?? []).map((it) => ({ ...it, header })));
-        });
-        const cut = rows.length > MOST_INSTRUCTIONS;
+    async instructions() {
+        const { cut, hasLong, lists } = (await this.container.instructions()) ?? { cut: false, hasLong: false };
+        const rows = lists?.rows ?? [];
         const columns = [
             { title: "Header", text: (it) => String(it.header), value: (it) => it.header, class: "number" },
             { title: "Code", text: (it) => it.code, class: "number" },
@@ -268,57 +267,74 @@ export class ContainerView {
             { title: "Numbers", text: (it) => it.numbers.join(" "), class: "number" },
             this.offset(),
         ];
-        const table = new DataTable({ caption: "Instructions", columns, rows: rows.slice(0, MOST_INSTRUCTIONS) });
-        return [table.element, ...(cut ? [el("p", { class: "hint" }, `Only the first ${MOST_INSTRUCTIONS.toLocaleString("en")} are listed.`)] : [])];
+        const parts = [new DataTable({ caption: "Instructions", columns, rows }).element];
+        if (hasLong) {
+            parts.push(hint("The instructions of the longest programs are only in the saved JSON."));
+        }
+        return cut ? [...parts, firstOnes(rows)] : parts;
     }
 
     /** Returns the table of the words that the programs relocate, with what is added. */
-    words() {
-        const rows = [];
-        let left = MOST_FIXUPS;
-        let cut = false;
-        for (const relocation of this.container.relocations) {
-            const table = left > 0 ? this.container.fixups(relocation, left) : null;
-            cut = cut || left <= 0 || (table !== null && table.more);
-            for (const it of table === null ? [] : table.rows) {
-                rows.push({ ...it, section: relocation.section });
-            }
-            left = MOST_FIXUPS - rows.length;
-        }
+    async words() {
+        const { rows, cut } = await this.container.additions(MOST_LISTED);
         const columns = [
             { title: "Section", text: (it) => String(it.section), value: (it) => it.section, class: "number" },
-            { title: "Word at", text: (it) => text.hex(it.offset, 8), value: (it) => it.offset, class: "number", go: (it) => (it.section < this.container.sections.length ? () => this.showWord(it) : null) },
+            { title: "Word at", text: (it) => text.hex(it.offset, 8), value: (it) => it.offset, class: "number", go: (it) => (it.section < this.container.sections.length ? () => this.showSection(it.section, it.offset) : null) },
             { title: "Adds the address of", text: (it) => this.addedText(it) },
         ];
-        const table = new DataTable({ caption: "Words that are relocated", columns, rows });
-        return [table.element, ...(cut ? [el("p", { class: "hint" }, `Only the first ${MOST_FIXUPS.toLocaleString("en")} are listed.`)] : [])];
+        const table = new DataTable({ caption: "Words that are relocated", columns, rows }).element;
+        return cut ? [table, firstOnes(rows)] : [table];
     }
 
-    addedText(it) {
-        return it.kind === "section" ? `section ${it.number}` : `import ${it.number} ${this.importName(it.number)}`;
-    }
-
-    showWord(it) {
-        this.show("Bytes");
-        this.bytesView.open(it.section + 1, it.offset);
-        this.bytesView.lines.focus();
-    }
-
-    importName(i) {
-        const found = this.container.imports[i];
-        return found === undefined ? "" : name(found.name);
+    addedText({ kind, number }) {
+        const found = this.container.imports[number];
+        return kind === "section" ? `section ${number}` : `import ${number} ${found === undefined ? "" : text.nameOf(found)}`;
     }
 
     bytes() {
-        this.bytesView = new BytesView(this.container, (i) => this.importName(i));
-        this.bytesView.open(0, null);
+        this.bytesView = new BytesView(this.container, (i) => this.imageOf(i), (it) => text.shortened(this.addedText(it)));
         return this.bytesView.element;
     }
 
-    /** Returns how a table reads further rows. */
-    more(key) {
-        return { has: () => this.container.more.has(key), read: () => this.container.readMore(key) };
+    /** Returns the image of a section, and what is added to each word, by the offset of the word. */
+    async imageOf(i) {
+        const [image, { rows, cut }] = await Promise.all([this.container.image(this.container.sections[i]), this.container.additions(MOST_BESIDE, i)]);
+        const added = new Map();
+        for (const it of rows) {
+            const all = added.get(it.offset) ?? [];
+            all.push(it);
+            added.set(it.offset, all);
+        }
+        return { image, added, isCut: cut };
     }
+}
+
+/** Returns the view of a container that isn't inspected, because the ones before take what a file may. */
+export function uninspectedView({ offset, bytes }, title) {
+    const why = "This container isn't inspected: those before it in the file pass a limit.";
+    return el("article", {}, el("h2", {}, title), hint(why), new BytesView({ offset, bytes, sections: [] }).element);
+}
+
+/** Returns an element for parts that are promised. It is busy until they are there. */
+function later(promised) {
+    const place = el("div", { "aria-busy": "true" });
+    promised.then((parts) => {
+        place.removeAttribute("aria-busy");
+        place.append(...parts);
+    });
+    return place;
+}
+
+function hint(words) {
+    return el("p", { class: "hint" }, words);
+}
+
+function firstOnes(rows) {
+    return hint(`Only the first ${rows.length.toLocaleString("en")} are listed.`);
+}
+
+function listed(count, hasMore) {
+    return `${count.toLocaleString("en")}${hasMore ? "+" : ""}`;
 }
 
 function number(title) {
@@ -340,27 +356,31 @@ function libraryOptions(options) {
     return words.length === 0 ? String(options) : `${options} ${words.join(", ")}`;
 }
 
-function counted(n, word) {
-    return `${n.toLocaleString("en")} ${word}${n === 1 ? "" : "s"}`;
+/** Returns how many errors and notes there are, if that is known. */
+function verdict({ errors, notes, isCut }) {
+    const words = [errors.length === 0 ? "no errors" : text.counted(errors.length, "error"), notes.length === 0 ? "no notes" : text.counted(notes.length, "note")].join(", ");
+    const kind = errors.length > 0 ? "damaged" : isCut ? "" : "sound";
+    const said = isCut ? `Of those that were read: ${words}.` : `${words[0].toUpperCase()}${words.slice(1)}.`;
+    return el("p", { class: `verdict ${kind}` }, said);
 }
 
-function verdict(errors, notes) {
-    return `${errors === 0 ? "No errors" : counted(errors, "error")}, ${notes === 0 ? "no notes" : counted(notes, "note")}.`;
-}
+const ROWLESS = ["header", "loader", "main", "init", "term"];
 
-const ROWLESS = ["header", "loader", "main", "init", "term", "line"];
-
-function partText(finding) {
-    const rowed = ROWLESS.includes(finding.part) ? finding.part : `${finding.part} ${finding.row}`;
-    if (finding.part === "packed") {
-        return `packed data of section ${finding.row}`;
+function partText({ part, row }) {
+    if (part === null) {
+        return "–";
     }
-    return finding.part === "program" ? `program of relocation header ${finding.row}` : rowed;
+    if (part === "packed") {
+        return `packed data of section ${row}`;
+    }
+    if (part === "program") {
+        return `program of relocation header ${row}`;
+    }
+    return ROWLESS.includes(part) ? part : `${part} ${row}`;
 }
 
-function meaning(reader, finding) {
-    const help = reader.help(finding.number);
-    return `${help}${detailText(finding)}`;
+function meaning(helps, finding) {
+    return `${helps[finding.number]?.help ?? ""}${detailText(finding)}`;
 }
 
 function detailText({ word, length, sections }) {
@@ -370,5 +390,5 @@ function detailText({ word, length, sections }) {
     if (length !== undefined) {
         return ` ${length.toLocaleString("en")} bytes.`;
     }
-    return sections === undefined ? "" : ` ${counted(sections, "section")} may be instantiated.`;
+    return sections === undefined ? "" : ` ${text.counted(sections, "section")} may be instantiated.`;
 }

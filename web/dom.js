@@ -44,9 +44,9 @@ export function terms(pairs) {
     return list;
 }
 
-/** Offers a text as a file to be saved. */
-export function save(name, content) {
-    const url = URL.createObjectURL(new Blob([content], { type: "application/json" }));
+/** Offers a blob as a file to be saved. */
+export function save(name, blob) {
+    const url = URL.createObjectURL(blob);
     const link = el("a", { href: url, download: name });
     document.body.append(link);
     link.click();

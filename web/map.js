@@ -1,6 +1,5 @@
 // A map of a container: which bytes of the file are which part, with the errors marked.
 import { el, svg } from "./dom.js";
-import { isPadding, namesEnd, namesStart } from "./notes.js";
 import { DataTable } from "./table.js";
 import { at } from "./text.js";
 
@@ -8,62 +7,99 @@ const WIDTH = 1000;
 
 const HEIGHT = 56;
 
-/** How many errors are marked in a part. */
+/** How many errors are marked in a part, and how many parts a bar has. */
 const MOST_MARKS = 50;
+
+const MOST_PARTS = 120;
 
 /** The least width of a part, so that it can be seen and pointed at. */
 const LEAST = 5;
 
-/** Returns the parts of a container in the order of their beginnings, with the bytes between them that belong to none. */
+const CONTAINER_HEADER = 40;
+
+const SECTION_HEADER = 28;
+
+/** The kind of a loader section. */
+const LOADER = 4;
+
+/** The notes on bytes of no part. */
+const UNOWNED = ["UnownedBytes", "TrailingBytes"];
+
+/** Returns the parts of a container in the order of their beginnings, with the bytes between them. */
 export function partsOf(container) {
-    const { sections, loader, offset } = container;
-    const end = offset + container.slice.length;
-    const found = [];
-    const bytes = container.reader.bytes(container.slice);
-    if (container.header !== null) {
-        found.push(part("container header", "header", offset, 40));
-        const names = namesStart(container);
-        const past = namesEnd(container, bytes);
-        if (past > names) {
-            found.push(part("section names", "header", offset + names, past - names));
-        }
-    }
+    const { header, sections, notes, offset } = container;
+    const end = offset + container.rest;
+    const found = header === null ? [] : [part("container header", "header", offset, CONTAINER_HEADER)];
     sections.forEach((section, i) => {
-        found.push(part(`section header ${i}`, "header", section.offset, 28));
+        found.push(part(`section header ${i}`, "header", section.offset, SECTION_HEADER));
         if (section.packed > 0 && section.raw < end) {
-            const kind = loader !== null && section.raw === loader.offset ? "loader" : "section";
+            const kind = isLoader(section, container) ? "loader" : "section";
             const length = Math.min(section.packed, end - section.raw);
             found.push(part(kind === "loader" ? `section ${i}, loader` : `section ${i}`, kind, section.raw, length));
         }
     });
+    for (const note of notes.filter(({ name }) => UNOWNED.includes(name))) {
+        found.push(part("bytes of no part", "gap", note.offset, note.length));
+    }
     found.sort((a, b) => a.from - b.from || b.to - a.to);
-    return withGaps(found, offset, end, bytes);
+    return withGaps(found, container, end);
+}
+
+function isLoader({ raw, kind }, { loader }) {
+    return loader !== null && kind === LOADER && raw === loader.offset;
+}
+
+/** Adds the bytes between the parts: the names of the sections follow their headers, and others align the next part. */
+function withGaps(parts, container, end) {
+    const { sections, offset } = container;
+    const headersEnd = offset + CONTAINER_HEADER + SECTION_HEADER * sections.length;
+    const hasNames = sections.some(({ name }) => name !== null);
+    // The notes on bytes of no part may be among those that weren't read, and so may the last section headers.
+    const isWhole = !container.isCut && !container.more.has("sections");
+    const all = [];
+    let reached = offset;
+    const addGap = (to) => {
+        if (reached < to) {
+            const isNames = isWhole && hasNames && reached === headersEnd;
+            const name = isWhole ? "alignment" : "other bytes";
+            all.push(isNames ? part("section names", "header", reached, to - reached) : part(name, "gap", reached, to - reached));
+        }
+    };
+    for (const it of parts) {
+        addGap(it.from);
+        all.push(it);
+        reached = Math.max(reached, it.to);
+    }
+    addGap(end);
+    return all;
 }
 
 /** Returns the parts of a loader section. */
 export function loaderParts(container) {
-    const { loader } = container;
+    const { loader, sections, relocations, offset } = container;
     if (loader === null) {
         return [];
     }
-    const imports = 56 + 24 * loader.libraries;
-    const relocations = imports + 4 * loader.imports;
-    const programs = loader.programs;
-    const programsEnd = Math.max(programs, ...container.relocations.slice(0, 1000).map((it) => programs + it.first + 2 * it.halfwords));
+    const section = sections.find((it) => isLoader(it, container));
+    const length = Math.min(section?.packed ?? Infinity, offset + container.rest - loader.offset);
+    const importsAt = 56 + 24 * loader.libraries;
+    const relocationsAt = importsAt + 4 * loader.imports;
+    const { programs } = loader;
+    const programsEnd = Math.max(programs, ...relocations.slice(0, 1000).map((it) => programs + it.first + 2 * it.halfwords));
     const slots = 4 * 2 ** Math.min(loader.power, 30);
-    const exports = loader.hash + slots + 4 * loader.exports;
+    const exportsAt = loader.hash + slots + 4 * loader.exports;
     const all = [
         ["loader header", 0, 56],
-        ["libraries", 56, imports],
-        ["imports", imports, relocations],
-        ["relocation headers", relocations, relocations + 12 * loader.relocations],
+        ["libraries", 56, importsAt],
+        ["imports", importsAt, relocationsAt],
+        ["relocation headers", relocationsAt, relocationsAt + 12 * loader.relocations],
         ["relocation programs", programs, programsEnd],
         ["strings", loader.strings, Math.max(loader.strings, loader.hash)],
         ["export hash slots", loader.hash, loader.hash + slots],
-        ["export keys", loader.hash + slots, exports],
-        ["exports", exports, exports + 10 * loader.exports],
+        ["export keys", loader.hash + slots, exportsAt],
+        ["exports", exportsAt, exportsAt + 10 * loader.exports],
     ];
-    const found = all.map(([name, from, to]) => part(name, "loader", loader.offset + from, Math.max(0, Math.min(to, loader.length) - from)));
+    const found = all.map(([name, from, to]) => part(name, "loader", loader.offset + from, Math.max(0, Math.min(to, length) - from)));
     return found.filter((it) => it.to > it.from).sort((a, b) => a.from - b.from);
 }
 
@@ -71,29 +107,11 @@ function part(name, kind, from, length) {
     return { name, kind, from, to: from + length };
 }
 
-/** Adds the bytes that no part has. */
-function withGaps(parts, from, end, bytes) {
-    const all = [];
-    let reached = from;
-    for (const it of parts) {
-        if (it.from > reached) {
-            const padding = isPadding(bytes.subarray(reached - from, it.from - from));
-            all.push(part(padding ? "alignment" : "bytes of no part", "gap", reached, it.from - reached));
-        }
-        all.push(it);
-        reached = Math.max(reached, it.to);
-    }
-    if (reached < end) {
-        all.push(part("bytes of no part", "gap", reached, end - reached));
-    }
-    return all;
-}
-
 /** Returns the map. `go` is called with the offset of a part that is chosen. */
 export function mapOf(container, go) {
     const parts = partsOf(container);
     const inside = loaderParts(container);
-    const errors = container.findings.filter((it) => it.isError && it.offset !== null).map((it) => it.offset).sort((a, b) => a - b);
+    const errors = container.errors.filter((it) => it.offset !== null).map((it) => it.offset).sort((a, b) => a - b);
     const list = [...parts, ...inside];
     const columns = [
         { title: "From", text: (it) => at(it.from), value: (it) => it.from, class: "number", go: (it) => () => go(it.from) },
@@ -135,7 +153,7 @@ function before(numbers, limit) {
 
 /** Returns a bar of parts. Each is as wide as its bytes, but no narrower than can be seen. */
 function bar(label, parts, errors, go) {
-    const shown = parts.slice(0, 120);
+    const shown = parts.slice(0, MOST_PARTS);
     const whole = shown.reduce((sum, it) => sum + it.to - it.from, 0) || 1;
     const room = WIDTH - LEAST * shown.length;
     const picture = svg("svg", { viewBox: `0 0 ${WIDTH} ${HEIGHT}`, preserveAspectRatio: "none", role: "group", "aria-label": label });

@@ -1,33 +1,39 @@
 // A table that can be sorted and searched, and shows its rows in parts.
 import { button, el } from "./dom.js";
 
-/** How many rows are shown at first, and how many more each time. */
+/** How many rows are shown at first, and how many more each time: fewer if they have more characters than this together. */
 const PART = 200;
+
+const MOST_CHARACTERS = 50000;
+
+/** How many rows are shown before one that is far down. */
+const BEFORE = 10;
 
 /**
  * A table of rows. A column has a title, the text that it shows of a row, and maybe a value to sort by, a place to go to and
- * `class`.
+ * `class`. `more` says whether there are further rows, and reads some of them into `rows`.
  */
 export class DataTable {
-    constructor({ caption, columns, rows, more = null, empty = "None." }) {
+    constructor({ caption, columns, rows, more = { has: () => false }, empty = "None." }) {
         this.columns = columns;
         this.rows = rows;
-        this.shown = PART;
         this.order = null;
         this.wanted = "";
         this.marked = null;
         this.empty = empty;
-        this.readMore = more;
+        this.more = more;
+        this.isReading = false;
         this.search = el("input", { type: "search", "aria-label": `Search in ${caption}`, placeholder: "Search", autocomplete: "off" });
         this.search.addEventListener("input", () => this.setSearch(this.search.value));
         this.count = el("span", { class: "count", role: "status" });
         this.heads = columns.map((column, i) => el("th", { scope: "col", class: column.class }, button(column.title, () => this.sortBy(i), { title: `Sort by ${column.title}` })));
         this.body = el("tbody");
+        this.before = button("Show earlier rows", () => this.fillBefore());
         this.rest = button("Show more rows", () => this.showMore(), { class: "more" });
         this.element = el(
             "section",
             { class: "data" },
-            el("div", { class: "tools" }, this.search, this.count),
+            el("div", { class: "tools" }, this.search, this.count, this.before),
             el(
                 "div",
                 { class: "scroller", tabindex: "0", role: "region", "aria-label": caption },
@@ -40,7 +46,6 @@ export class DataTable {
 
     setSearch(wanted) {
         this.wanted = wanted.toLowerCase();
-        this.shown = PART;
         this.draw();
     }
 
@@ -62,9 +67,7 @@ export class DataTable {
         this.marked = row;
         this.search.value = "";
         this.wanted = "";
-        const place = this.ordered().indexOf(row);
-        this.shown = Math.max(this.shown, Math.ceil((place + 1) / PART) * PART);
-        this.draw();
+        this.draw(this.order === null ? row : this.ordered().indexOf(row));
         const marked = this.body.querySelector(".marked");
         if (marked !== null) {
             marked.scrollIntoView({ block: "center" });
@@ -72,18 +75,38 @@ export class DataTable {
         }
     }
 
-    showMore() {
-        const first = this.body.children.length;
-        if (this.shown >= this.rows.length && this.readMore !== null) {
-            this.readMore.read();
+    /** Shows further rows. If all that were read are shown, it reads more. */
+    async showMore() {
+        if (this.isReading) {
+            return;
         }
-        this.shown += PART;
-        this.draw();
-        this.body.children[first]?.focus();
+        const first = this.body.children.length;
+        const isRead = this.to === this.numbers.length;
+        if (isRead) {
+            this.isReading = true;
+            await this.more.read();
+            this.isReading = false;
+        }
+        const isLeft = ![this.rest, document.body].includes(document.activeElement);
+        if (isRead && this.order !== null) {
+            this.draw();
+        } else {
+            this.numbers = isRead ? this.ordered() : this.numbers;
+            this.fillAfter();
+        }
+        if (!isLeft) {
+            this.body.children[first]?.focus();
+        }
     }
 
-    /** Returns the numbers of the rows that are searched for, in their order. */
+    /**
+     * Returns the numbers of the rows that are searched for, in their order. If that is all rows in their own order, there may be
+     * millions. Then it is only how many they are.
+     */
     ordered() {
+        if (this.wanted === "" && this.order === null) {
+            return { length: this.rows.length };
+        }
         const numbers = [...this.rows.keys()].filter((i) => this.wanted === "" || this.matches(this.rows[i], i));
         if (this.order === null) {
             return numbers;
@@ -99,21 +122,58 @@ export class DataTable {
         return this.columns.some((column) => column.text(row, i).toLowerCase().includes(this.wanted));
     }
 
-    draw() {
-        const numbers = this.ordered();
-        const visible = numbers.slice(0, this.shown);
-        this.body.replaceChildren(...visible.map((i) => this.line(i)));
-        if (visible.length === 0) {
+    /** Shows the first rows, or those at a place among the rows that are searched for. */
+    draw(place = 0) {
+        this.numbers = this.ordered();
+        this.body.replaceChildren();
+        if (this.numbers.length === 0) {
             this.body.append(el("tr", {}, el("td", { colspan: String(this.columns.length), class: "none" }, this.rows.length === 0 ? this.empty : "No row has this.")));
         }
-        const more = this.readMore !== null && this.readMore.has();
-        this.rest.hidden = visible.length === numbers.length && !more;
+        this.from = place < PART ? 0 : place - BEFORE;
+        this.to = this.from;
+        this.fillAfter(place);
+    }
+
+    /** Shows the next rows, at least up to a place. */
+    fillAfter(place = 0) {
+        const end = Math.min(this.to + PART, this.numbers.length);
+        let characters = 0;
+        while (this.to < end && (characters < MOST_CHARACTERS || this.to <= place)) {
+            const line = this.line(this.to);
+            characters += line.textContent.length;
+            this.body.append(line);
+            this.to += 1;
+        }
+        this.drawCount();
+    }
+
+    /** Shows the rows before those that are shown. */
+    fillBefore() {
+        const first = Math.max(0, this.from - PART);
+        const lines = [];
+        let characters = 0;
+        while (this.from > first && characters < MOST_CHARACTERS) {
+            this.from -= 1;
+            lines.unshift(this.line(this.from));
+            characters += lines[0].textContent.length;
+        }
+        this.body.prepend(...lines);
+        this.drawCount();
+    }
+
+    drawCount() {
+        const more = this.more.has();
+        this.before.hidden = this.from === 0;
+        this.rest.hidden = this.to === this.numbers.length && !more;
+        const shown = this.to - this.from;
         const all = `${this.rows.length.toLocaleString("en")}${more ? " or more" : ""}`;
-        const part = visible.length === this.rows.length ? "" : `${visible.length.toLocaleString("en")} of `;
+        const part = shown === this.rows.length ? "" : `${shown.toLocaleString("en")} of `;
         this.count.textContent = this.rows.length === 1 ? "1 row" : `${part}${all} rows`;
     }
 
-    line(i) {
+    /** Returns the element of the row at a place among those that are searched for. */
+    line(place) {
+        const i = this.numbers[place] ?? place;
         const row = this.rows[i];
         const cells = this.columns.map((column) => el("td", { class: column.class }, this.cell(column, row, i)));
         return el("tr", { class: i === this.marked ? "marked" : null, tabindex: "-1" }, ...cells);

@@ -1,4 +1,2 @@
 mod Filling
 mod Numbered
-mod Keeping
-mod Listed

@@ -4,22 +4,10 @@ use Rattle.mac_forks.specs.Faults.{fault_number, fault_offset}
 use Rattle.mac_forks.specs.MacFile.{MacFileIs, comment_in, fault_in, mac_file_of, name_in}
 use Rattle.mac_forks.specs.Parts.{Lying}
 use Rattle.mac_forks.specs.declared.fault.ForkFault.{ForkFault}
-use Rattle.mac_forks.specs.declared.fault.ForkFault.TheVariants.{BadMacBinaryCrc, AppleHeaderCut, BadAppleVersion, AppleEntryCut, AppleEntryOutside, AppleEntryShort}
+use Rattle.mac_forks.specs.declared.fault.ForkFault.TheVariants.{BadMacBinaryCrc, AppleHeaderCut, BadAppleVersion, AppleEntryCut, AppleEntryOutside, AppleEntryShort, DataForkCut, ResourceForkCut, CommentCut}
 use Rattle.cfm_members.specs.Forks.{data_fork_of, resource_fork_of}
 use Rattle.cfm_members.specs.Search.{containers_in}
-use Rattle.cfm_members.specs.declared.file_kind.FileKind.{FileKind}
-use Rattle.cfm_members.specs.declared.file_kind.FileKind.TheVariants as kind
 use Rattle.pef_page.specs.Rows.{Row, new_row, number_or_none, rows_from}
-
--- the codes of what a file is
-abbrev pub kind_code : FileKind → ℕ
-kind_code kind.Other = 0
-kind_code kind.Container = 1
-kind_code kind.MacBinary = 2
-kind_code kind.AppleSingle = 3
-kind_code kind.AppleDouble = 4
-kind_code kind.DamagedApple = 5
-kind_code kind.ResourceFork = 6
 
 -- the number of the entry that an error is about
 abbrev pub entry_of : ForkFault → Option ℕ
@@ -29,6 +17,9 @@ entry_of BadAppleVersion = None
 entry_of (AppleEntryCut entry) = Some entry
 entry_of (AppleEntryOutside entry) = Some entry
 entry_of (AppleEntryShort entry) = Some entry
+entry_of DataForkCut = None
+entry_of ResourceForkCut = None
+entry_of CommentCut = None
 
 -- an error with its offset and its entry
 abbrev pub error_row : ForkFault → Row

@@ -1,13 +1,8 @@
-pub mod Containers
 pub mod Files
-pub mod Findings
 pub mod Fixups
-pub mod Fragments
-pub mod Instructions
-pub mod Kept
-pub mod Loaders
 pub mod Names
 pub mod Packed
-pub mod Reports
-pub mod RowNames
+pub mod Parts
+pub mod Resources
 pub mod Rows
+pub mod Views

@@ -1,35 +1,17 @@
 //! Files of the classic Mac OS, and the containers in them.
 ghost use Rattle.std.specs.Prelude.{◌≡◌, Ok, map, option_map};
-ghost use Rattle.cfm_members.specs.Kinds.{kind_of};
 ghost use Rattle.mac_forks.specs.Views.{mac_file_seen, part_seen};
 ghost use Rattle.pef_words.specs.Refusals.{result_map};
 ghost use Rattle.pef_page.specs.Rows.{TableAnswers, row_shown};
-ghost use Rattle.pef_page.specs.Files.{entry_of, error_row, fork_row, fork_rows, header_cells, kind_code, no_part, part_cells, part_or_error, place_row, place_rows, row_of_file, unread_row};
+ghost use Rattle.pef_page.specs.Files.{entry_of, error_row, fork_row, fork_rows, header_cells, no_part, part_cells, part_or_error, place_row, place_rows, row_of_file, unread_row};
 
 use crate::row::{PageRow, number_or_none};
 use crate::table::{Rows, Table, fill_from, fill_table};
-use cfm_members::{Containers, FileKind, Forks};
+use cfm_members::{Containers, Forks};
 use mac_forks::{ForkFault, MacFile, Part};
 
 /// Nothing is there.
 const NOT_THERE: u64 = 201;
-
-/// Returns what a file is: 1 for a container, 2 for MacBinary, 3 for AppleSingle, 4 for AppleDouble, 5 for one of the last two
-/// that is damaged, 6 for a resource fork, and 0 for anything else.
-#[unsafe(no_mangle)]
-pub extern "C" fn page_kind(file: &[u8]) -> u32
-    ensures { result ≡ kind_code (kind_of file.now) }
-{
-    match FileKind::of(file) {
-        FileKind::Other => 0,
-        FileKind::Container => 1,
-        FileKind::MacBinary => 2,
-        FileKind::AppleSingle => 3,
-        FileKind::AppleDouble => 4,
-        FileKind::DamagedApple => 5,
-        FileKind::ResourceFork => 6,
-    }
-}
 
 /// Reads the parts of a file as a table of five rows: the data fork, the resource fork, the name, the comment, and the error of
 /// the file's header. The bytes are those of a part, if it is there. The numbers are 0, or 201 if the file doesn't have the
@@ -181,7 +163,12 @@ fn entry_of(fault: ForkFault) -> Option<usize>
     ensures { result ≡ entry_of fault }
 {
     match fault {
-        ForkFault::BadMacBinaryCrc | ForkFault::AppleHeaderCut | ForkFault::BadAppleVersion => None,
+        ForkFault::BadMacBinaryCrc
+        | ForkFault::AppleHeaderCut
+        | ForkFault::BadAppleVersion
+        | ForkFault::DataForkCut
+        | ForkFault::ResourceForkCut
+        | ForkFault::CommentCut => None,
         ForkFault::AppleEntryCut { entry }
         | ForkFault::AppleEntryOutside { entry }
         | ForkFault::AppleEntryShort { entry } => Some(usize::from(entry)),

@@ -1,34 +1,28 @@
 //! The calls for a page in a browser. They write only into memory that the caller owns, and allocate nothing but in memory that
 //! is lent for a call.
 //!
+//! What `pef inspect --json` says of a file comes in parts, as text: [`page_head`], [`page_container`] for each place that
+//! [`page_containers`] finds, and [`page_end`].
+//!
 //! A table of rows comes in one form, [`PageRow`]. Each call of a table takes the number of the first row that is wanted and
-//! places for rows. It fills the first places, stores how many those are, and returns 0, or the number of an error. A
-//! container or a file may be damaged: the rows are those that can be read.
+//! places for rows. It fills the first places, stores how many those are, and returns 0, or the number of an error.
 #![tactic(auto)]
 
-mod containers;
+mod container;
 mod expand;
 mod files;
-mod findings;
 mod fixups;
-mod fragments;
-mod instructions;
-mod kept;
-mod loader;
 mod names;
-mod report;
+mod parts;
+mod resources;
 mod row;
-mod row_name;
 mod table;
 
-pub use containers::{page_header, page_sections};
+pub use container::{PageContainer, page_first, page_next, page_rest};
 pub use expand::page_expand;
-pub use files::{page_containers, page_forks, page_kind};
-pub use findings::{page_errors, page_notes};
-pub use fixups::page_fixups;
-pub use fragments::{page_fragment_table, page_members, page_resource_fork, page_resources};
-pub use instructions::page_instructions;
-pub use loader::{page_exports, page_imports, page_libraries, page_loader, page_relocations};
+pub use files::{page_containers, page_forks};
+pub use fixups::{PageProgram, page_fixups};
 pub use names::page_error;
-pub use report::page_report;
+pub use parts::{PageRange, page_container, page_end, page_excerpt, page_head, page_rows};
+pub use resources::page_resources;
 pub use row::PageRow;
