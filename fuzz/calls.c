@@ -159,6 +159,27 @@ static void list_in_parts(const uint8_t *bytes, size_t length, const uint8_t *li
     free(part);
 }
 
+/* Reads the report on a container part by part, and the report on a file of these bytes, which has the container's if it is one. */
+static void report_in_parts(const uint8_t *bytes, size_t length)
+{
+    struct pef_report report = PEF_NO_REPORT;
+    uint8_t part[97];
+    size_t written = sizeof part, all = 0;
+    uint8_t last = 0;
+    uint32_t answer = length % 2 == 0 ? pef_report_open(&report, part, 0, bytes, length) : pef_report_open_container(&report, bytes, length);
+    if (!is_ok("pef_report_open", answer))
+        return;
+    while (written == sizeof part) {
+        if (pef_report_next(&report, part, sizeof part, &written) != PEF_OK || written > sizeof part || (all == 0 && part[0] != '{'))
+            fails("pef_report_next", (uint32_t)all);
+        all += written;
+        last = written == 0 ? last : part[written - 1];
+    }
+    if (last != (length % 2 == 0 ? '\n' : '}') || pef_report_next(&report, part, sizeof part, &written) != PEF_OK || written != 0)
+        fails("pef_report_next, at the end", (uint32_t)all);
+    pef_report_free(&report);
+}
+
 /* Lists into a room that is too small by one byte, and into one that isn't. The first stays as it is. */
 static void list(const uint8_t *bytes, size_t length)
 {
@@ -353,6 +374,7 @@ static bool read_container(const uint8_t *bytes, size_t length)
     uint32_t read = pef_loader(bytes, length, &loader);
     find(bytes, length, read, prepare(bytes, length));
     read_partly(bytes, length);
+    report_in_parts(bytes, length);
     if (!is_ok("pef_header", pef_header(bytes, length, &header)))
         return false;
     for (size_t number = 0; number <= header.section_count && number < 32; number++)

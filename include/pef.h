@@ -12,19 +12,21 @@
  * - No pointer is null, but one with a length of 0 may be: such bytes, names, buffers and places are none.
  * - A pointer with a length points to at least that many bytes, which nobody else changes during the call.
  * - What a call fills, it fills whatever was there: structs may come as zero bytes, or not initialized. What a call leaves
- *   unchanged keeps the bytes that it had. Only a struct pef_context and a struct pef_listing have to start as zero bytes.
+ *   unchanged keeps the bytes that it had. Only a struct pef_context, a struct pef_listing and a struct pef_report have to start as
+ *   zero bytes.
  * - What a call writes overlaps nothing else that it takes.
  * - A context is used by one thread at a time; but several may read it at once by the calls whose names end in `_const`. A
- *   listing is used by one thread at a time. Apart from that, several threads may make calls at once: the library has no state
- *   outside of contexts and listings.
- * - A thread that makes calls has 64 KB of stack for them. No call takes more, whatever it reads.
+ *   listing or a report is used by one thread at a time. Apart from that, several threads may make calls at once: the library has
+ *   no state outside of contexts, listings and reports.
+ * - A thread that makes calls has 64 KB of stack for them, and 96 KB for pef_report_open() and pef_report_open_container(). No call
+ *   takes more, whatever it reads.
  * - No call is made from a signal handler.
  * - malloc, realloc and free are those of the C library, or others whose blocks are aligned to 16 bytes.
  *
  * What is borrowed is read during the call only, unless a call says that a result points into it. Then the bytes have to
  * stay, unchanged, while the result is used. What pef_add() takes has to stay until pef_free() of that context returns, or until
  * pef_open() of it, which frees it first. What pef_list_open() takes has to stay until pef_list_free() of that listing returns, or
- * until pef_list_open() of it. Nothing that the library gives has to be freed, except for a context and a listing.
+ * until pef_list_open() of it. Nothing that the library gives has to be freed, except for a context, a listing and a report.
  */
 #ifndef PEF_H
 #define PEF_H
@@ -130,6 +132,9 @@ struct pef_bytes {
 #define PEF_TOO_MANY_BYTES 75
 
 /* A file of the classic Mac OS has no container with this name or number, or a part of it is damaged. */
+#define PEF_DATA_FORK_CUT 76
+#define PEF_RESOURCE_FORK_CUT 77
+#define PEF_COMMENT_CUT 78
 #define PEF_NO_CONTAINER 80
 #define PEF_BAD_MAC_BINARY_CRC 81
 #define PEF_APPLE_HEADER_CUT 82
@@ -409,6 +414,64 @@ uint32_t pef_findings(const uint8_t *container, size_t container_length, size_t 
 uint32_t pef_more_notes(const uint8_t *container, size_t container_length, size_t from, struct pef_finding *places, size_t place_count, size_t *count);
 
 /*
+ * A report that is read part by part. It starts as zero bytes:
+ *
+ *     struct pef_report report = PEF_NO_REPORT;
+ *
+ * Only the four calls below change it, and it isn't copied. Several reports may be open at once.
+ */
+struct pef_report {
+    void *handle;
+    bool is_open;
+};
+
+/* No report, which are zero bytes: struct pef_report report = PEF_NO_REPORT; */
+#define PEF_NO_REPORT {NULL, false}
+
+/*
+ * Makes the report on a file, to be read by pef_report_next(): the object of JSON that `pef inspect --json` prints of it, on one line
+ * with its end. docs/INSPECT.md says what it has. `path` is what the object calls the file. A report that is open already is freed
+ * first. Neither `path` nor `file` is kept.
+ *
+ * The whole text is kept in memory until pef_report_free(). If there is too little memory to look into a container, its object has
+ * the error 99.
+ *
+ * Returns PEF_OK; or PEF_OUT_OF_MEMORY, and then the report isn't open.
+ */
+uint32_t pef_report_open(struct pef_report *report, const uint8_t *path, size_t path_length, const uint8_t *file, size_t file_length);
+
+/*
+ * Makes the object that such a report has for a container, of bytes that are looked at as a container whatever they are. The offsets
+ * are those in these bytes, and there is no end of a line. The bytes aren't kept.
+ *
+ * Returns PEF_OK; or PEF_OUT_OF_MEMORY, and then the report isn't open.
+ */
+uint32_t pef_report_open_container(struct pef_report *report, const uint8_t *container, size_t container_length);
+
+/*
+ * Writes the next bytes of a report to the front of `buffer`, as many as fit.
+ *
+ * Returns PEF_OK, and stores the number of bytes in `*written`: it is less than `buffer_length` only at the end of the report, and
+ * 0 after it. Or returns PEF_NOT_OPEN, if the report isn't open, or PEF_OUT_OF_MEMORY, and then the next call goes on where this one
+ * began. After both `buffer` and `*written` are left unchanged.
+ */
+uint32_t pef_report_next(struct pef_report *report, uint8_t *buffer, size_t buffer_length, size_t *written);
+
+/*
+ * Frees a report. It may be opened again. A report that isn't open stays as it is, so one may be freed twice.
+ *
+ * A program that includes this header may also free NULL, which does nothing.
+ */
+void pef_report_free(struct pef_report *report);
+
+static inline void pef_report_free_unless_null(struct pef_report *report)
+{
+    if (report != NULL)
+        pef_report_free(report);
+}
+#define pef_report_free pef_report_free_unless_null
+
+/*
  * The calls below read a container anew from its bytes each time, and allocate nothing. They return PEF_OK; or the first
  * refusal of what they read, and then they leave all that they would write unchanged.
  */
@@ -610,7 +673,10 @@ uint32_t pef_partial_exports(const uint8_t *container, size_t container_length, 
 /* Returns what a file is: one of the numbers above. */
 uint32_t pef_file_kind(const uint8_t *file, size_t file_length);
 
-/* A part of a file: its bytes, where they begin in the file, and its error. */
+/*
+ * A part of a file: its bytes, where they begin in the file, and its error. Only a fork of MacBinary that passes the end of the file has
+ * both: PEF_DATA_FORK_CUT or PEF_RESOURCE_FORK_CUT, and the bytes that are there.
+ */
 struct pef_part {
     struct pef_bytes bytes;
     size_t offset;
@@ -635,7 +701,7 @@ struct pef_finder {
 
 /*
  * The forks of a file, its name, its comment and what the Finder knows of it; the error of its header, which is PEF_OK or
- * PEF_BAD_MAC_BINARY_CRC; and what it is. A file in no format is a resource fork if it can be one, else a data fork.
+ * PEF_BAD_MAC_BINARY_CRC; and what it is. A file in no format is a resource fork if it has the form of one, else a data fork.
  */
 struct pef_forks {
     struct pef_part data_fork;

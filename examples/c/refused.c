@@ -11,7 +11,7 @@
 enum { ROOM = 1 << 20 };
 
 /* One of the calls, the bytes that it takes, and what it writes when it has memory. */
-enum kind { LINK, LIST, PART, PARTS, NOTES };
+enum kind { LINK, LIST, PART, PARTS, REPORT, NOTES };
 
 struct trial {
     const char *name;
@@ -52,6 +52,17 @@ static uint32_t list_in_parts(const uint8_t *bytes, size_t length, uint8_t *out,
     return answer;
 }
 
+/* Reads the object of a container. */
+static uint32_t report_container(const uint8_t *bytes, size_t length, uint8_t *out, size_t *written)
+{
+    struct pef_report report = PEF_NO_REPORT;
+    uint32_t answer = pef_report_open_container(&report, bytes, length);
+    if (answer == PEF_OK)
+        answer = pef_report_next(&report, out, ROOM, written);
+    pef_report_free(&report);
+    return answer;
+}
+
 static uint32_t call(const struct trial *trial, uint8_t *out, size_t *written)
 {
     size_t line;
@@ -64,6 +75,8 @@ static uint32_t call(const struct trial *trial, uint8_t *out, size_t *written)
         return pef_list_part(trial->bytes, trial->length, 50, out, ROOM, written);
     case PARTS:
         return list_in_parts(trial->bytes, trial->length, out, written);
+    case REPORT:
+        return report_container(trial->bytes, trial->length, out, written);
     default:
         return find_notes(trial->bytes, trial->length, out, written);
     }
@@ -118,7 +131,7 @@ static bool sweep(struct trial *trial)
 
 int main(int count, char **words)
 {
-    static uint8_t container[ROOM], lines[ROOM], part[ROOM], parts[ROOM], numbers[ROOM];
+    static uint8_t container[ROOM], lines[ROOM], part[ROOM], parts[ROOM], object[ROOM], numbers[ROOM];
     if (count != 2) {
         fputs("usage: refused SCRIPT\n", stderr);
         return 2;
@@ -127,6 +140,7 @@ int main(int count, char **words)
     struct trial list = {.name = "pef_list", .kind = LIST, .wanted = lines};
     struct trial list_part = {.name = "pef_list_part", .kind = PART, .wanted = part};
     struct trial list_parts = {.name = "pef_list_open, pef_list_next", .kind = PARTS, .wanted = parts};
+    struct trial report = {.name = "pef_report_open_container", .kind = REPORT, .wanted = object};
     struct trial notes = {.name = "pef_more_notes", .kind = NOTES, .wanted = numbers};
     uint8_t *script = read_file(words[1], &link.length);
     if (script == NULL) {
@@ -138,9 +152,9 @@ int main(int count, char **words)
     free(script);
     list.bytes = container;
     list.length = link.wanted_length;
-    list_part.bytes = list_parts.bytes = container;
-    list_part.length = list_parts.length = list.length;
-    right = right && sweep(&list) && sweep(&list_part) && sweep(&list_parts);
+    list_part.bytes = list_parts.bytes = report.bytes = container;
+    list_part.length = list_parts.length = report.length = list.length;
+    right = right && sweep(&list) && sweep(&list_part) && sweep(&list_parts) && sweep(&report);
     right = right && list_part.wanted_length == list.wanted_length - 50 && memcmp(part, lines + 50, list_part.wanted_length) == 0;
     right = right && list_parts.wanted_length == list.wanted_length && memcmp(parts, lines, list.wanted_length) == 0;
     memset(container + link.wanted_length, 1, 6);

@@ -2,7 +2,7 @@
  * Measures how much stack each call takes: stack FILE.. has every call read, list and prepare the containers of the files, and
  * then containers that were made to take much: libraries out of order, 256 fragments that need one another in a row, and a
  * chain of exports that are passed on. A call runs in a thread whose stack is full of one byte, and what it changed is counted.
- * A call that takes more than 64 KB is told, and the status is then 1.
+ * A call that takes more than 64 KB, or one that opens a report and takes more than 96 KB, is told, and the status is then 1.
  */
 #define _DEFAULT_SOURCE
 #include "file.h"
@@ -12,7 +12,7 @@
 #include <string.h>
 #include <sys/mman.h>
 
-enum { STACK = 1 << 21, LIMIT = 1 << 16, FILLED = 0xA5, ROOM = 1 << 20, PLACES = 1024 };
+enum { STACK = 1 << 21, LIMIT = 1 << 16, REPORT_LIMIT = 96 << 10, FILLED = 0xA5, ROOM = 1 << 20, PLACES = 1024 };
 
 /* --- what a piece of work takes --- */
 
@@ -46,16 +46,21 @@ static void nothing(void)
 
 static size_t most, failures;
 
-static void measure(const char *name, const char *what, void (*work)(void))
+static void measure_within(size_t limit, const char *name, const char *what, void (*work)(void))
 {
     size_t all = changed_by(work), thread = changed_by(nothing);
     size_t taken = all > thread ? all - thread : 0;
     if (taken > most)
         most = taken;
-    if (taken > LIMIT) {
+    if (taken > limit) {
         printf("%s takes %zu bytes of stack: %s\n", name, taken, what);
         failures++;
     }
+}
+
+static void measure(const char *name, const char *what, void (*work)(void))
+{
+    measure_within(LIMIT, name, what, work);
 }
 
 /* --- the calls --- */
@@ -93,6 +98,28 @@ static void call_list(void)
 static void call_list_part(void)
 {
     answer = pef_list_part(it.at, it.length, 100, room, ROOM, &written);
+}
+
+static struct pef_report report;
+
+static void call_report_open(void)
+{
+    answer = pef_report_open(&report, NULL, 0, it.at, it.length);
+}
+
+static void call_report_open_container(void)
+{
+    answer = pef_report_open_container(&report, it.at, it.length);
+}
+
+static void call_report_next(void)
+{
+    answer = pef_report_next(&report, room, ROOM, &written);
+}
+
+static void call_report_free(void)
+{
+    pef_report_free(&report);
 }
 
 static struct pef_listing listing;
@@ -291,6 +318,10 @@ static void measure_container(const char *what)
     measure("pef_container_place", what, call_container_place);
     measure("pef_list", what, call_list);
     measure("pef_list_part", what, call_list_part);
+    measure_within(REPORT_LIMIT, "pef_report_open", what, call_report_open);
+    measure_within(REPORT_LIMIT, "pef_report_open_container", what, call_report_open_container);
+    measure("pef_report_next", what, call_report_next);
+    measure("pef_report_free", what, call_report_free);
     measure("pef_list_open", what, call_list_open);
     measure("pef_list_next", what, call_list_next);
     measure("pef_list_free", what, call_list_free);

@@ -30,6 +30,7 @@ import ctypes.util
 import dataclasses
 import enum
 import functools
+import json
 import os
 import pathlib
 import threading
@@ -61,6 +62,7 @@ __all__ = [
     "library",
     "link",
     "name_of",
+    "report",
     "version",
 ]
 
@@ -253,10 +255,6 @@ class _Place(ctypes.Structure):
     _fields_ = _fields(uint32="part", size_t="row field offset")
 
 
-class _Finding(ctypes.Structure):
-    _fields_ = [("place", _Place), *_fields(uint64="detail", uint32="number", bool="is_error")]
-
-
 class _Header(ctypes.Structure):
     _fields_ = _fields(
         uint32="date_time_stamp old_def_version old_imp_version current_version",
@@ -305,6 +303,10 @@ class _Context(ctypes.Structure):
 
 
 class _Listing(ctypes.Structure):
+    _fields_ = _fields(void_p="handle", bool="is_open")
+
+
+class _Report(ctypes.Structure):
     _fields_ = _fields(void_p="handle", bool="is_open")
 
 
@@ -362,8 +364,10 @@ _CALLS: Dict[str, List[Any]] = {
     "pef_help": [ctypes.c_uint32, ctypes.POINTER(_Bytes)],
     "pef_container_place": _IN + [ctypes.POINTER(_Place)],
     "pef_script_place": _IN + [ctypes.POINTER(_Place)] + _SIZE,
-    "pef_findings": _IN + [ctypes.c_size_t, ctypes.POINTER(_Finding), ctypes.c_size_t] + _SIZE,
-    "pef_more_notes": _IN + [ctypes.c_size_t, ctypes.POINTER(_Finding), ctypes.c_size_t] + _SIZE,
+    "pef_report_open": [ctypes.POINTER(_Report)] + _IN * 2,
+    "pef_report_open_container": [ctypes.POINTER(_Report)] + _IN,
+    "pef_report_next": [ctypes.POINTER(_Report)] + _ROOM + _SIZE,
+    "pef_report_free": [ctypes.POINTER(_Report)],
     "pef_header": _IN + [ctypes.POINTER(_Header)],
     "pef_section": _IN + [ctypes.c_size_t, ctypes.POINTER(_Section), ctypes.POINTER(_Bytes)],
     "pef_section_name": _IN + [ctypes.c_size_t, ctypes.POINTER(_Bytes)],
@@ -421,7 +425,7 @@ def library() -> ctypes.CDLL:
     for name, arguments in _CALLS.items():
         if hasattr(loaded, name):  # an older library lacks some calls
             call = getattr(loaded, name)
-            call.argtypes, call.restype = arguments, None if name in ("pef_free", "pef_list_free") else ctypes.c_uint32
+            call.argtypes, call.restype = arguments, None if name.endswith("_free") else ctypes.c_uint32
     return loaded
 
 
@@ -494,9 +498,6 @@ def link(script: Text) -> bytes:
 
 # --- what is wrong with a container ---
 
-#: The errors and notes that have a detail: those about a relocated word, those about a number of bytes, and that about sections.
-_DETAILED = {37, 38, 39, 107, 114} | {109, 112, 113} | {116}
-
 
 @dataclasses.dataclass(frozen=True)
 class Finding:
@@ -534,14 +535,24 @@ class Finding:
         return f"{self.number} {self.name} in {word}{row}{at}"
 
 
-def _finding(row: _Finding) -> Finding:
-    offset = None if row.place.offset == _NO_OFFSET else row.place.offset
-    detail = row.detail if row.number in _DETAILED else None
-    return Finding(row.number, name_of(row.number) or "Unknown", row.is_error, Part(row.place.part), row.place.row, row.place.field, offset, detail)
+#: The parts by their names in JSON.
+_PARTS = {
+    "header": Part.CONTAINER_HEADER,
+    "loader": Part.LOADER_HEADER,
+    "packed": Part.PACKED_DATA,
+    **{part.name.lower(): part for part in Part},
+}
+
+
+def _finding(row: Dict[str, Any], is_error: bool) -> Finding:
+    """An error or a note of a report. What is about no field is about the bytes at its offset."""
+    field = row["offset"] if row["field"] is None else row["field"]
+    detail = next((row[name] for name in ("word", "length", "sections") if name in row), None)
+    return Finding(row["number"], row["name"], is_error, _PARTS[row["part"]], row["row"], field, row["offset"], detail)
 
 
 def inspect(contents: bytes) -> List[Finding]:
-    """All errors of a container, and then what is odd about it.
+    """All errors of a container, and then what is odd about it, each in the order of the rows that they are about.
 
     Bytes that are no container have one error. A container without errors is refused by no preparation, as far as its own bytes are
     concerned. Raises PefError: 99.
@@ -551,9 +562,33 @@ def inspect(contents: bytes) -> List[Finding]:
     >>> [(finding.number, finding.name) for finding in inspect(b"Joy!")]
     [(1, 'TooShort')]
     """
-    raw = bytes(contents)
-    calls = ["pef_findings"] + ["pef_more_notes"] * hasattr(library(), "pef_more_notes")
-    return [_finding(row) for call in calls for row in _all_rows(call, raw, _Finding)]
+    found = json.loads(_report("pef_report_open_container", contents))
+    return [_finding(row, is_error) for key, is_error in (("errors", True), ("notes", False)) for row in found[key]]
+
+
+def report(contents: bytes, path: Text = "") -> Dict[str, Any]:
+    """What `pef inspect --json` prints of a file, whatever it is: its forks, fragments and containers, with all errors and notes. The
+    members are those of docs/INSPECT.md. `path` is what the report calls the file. Raises PefError: 99.
+
+    >>> report(b"Joy!", "a file")["file"]
+    'a%20file'
+    """
+    found: Dict[str, Any] = json.loads(_report("pef_report_open", path.encode() if isinstance(path, str) else path, contents))
+    return found
+
+
+def _report(call: str, *given: bytes) -> bytes:
+    """The text of a report that a call opens."""
+    it, room, written = _Report(), _room(1 << 16), ctypes.c_size_t(1 << 16)
+    parts: List[bytes] = []
+    try:
+        _check(getattr(library(), call)(ctypes.byref(it), *(word for raw in map(bytes, given) for word in (raw, len(raw)))))
+        while written.value == len(room):
+            _check(library().pef_report_next(ctypes.byref(it), room, len(room), ctypes.byref(written)))
+            parts.append(ctypes.string_at(room, written.value))
+    finally:
+        library().pef_report_free(ctypes.byref(it))
+    return b"".join(parts)
 
 
 def _all_rows(call: str, contents: bytes, row: Any, slice_name: Optional[str] = None) -> List[Any]:

@@ -11,6 +11,8 @@ from typing import Any, Dict, Iterator, List, Optional, Tuple, Union
 from . import _CALLS, _IN, _NO_OFFSET, _SIZE, ENCODING, NOT_THERE, OK, PefError, Text, _Bytes, _check, _Code, _code, _fields, _no_bytes, _raw, library, name_of
 
 NO_CONTAINER, FRAGMENT_OUTSIDE = 80, 98
+#: A fork passes the end of the file, and is read as far as it goes.
+_CUT = (76, 77)
 
 
 class FileKind(_Code):
@@ -335,7 +337,7 @@ class MacFile:
             return None
         it = getattr(forks, name)
         self._note(it.error, it.error_offset, part)
-        return it.bytes.value() if it.error == OK else None
+        return it.bytes.value() if it.error in (OK, *_CUT) else None
 
     def _text(self, name: str) -> Optional[str]:
         it = self._part(name, "file")
@@ -458,7 +460,7 @@ def _read(path: pathlib.Path) -> Optional[bytes]:
 def _has_resource_fork(contents: bytes) -> bool:
     """Whether a file has a resource fork that can be read."""
     forks: _Forks = _empty(_Forks)
-    if library().pef_forks(contents, len(contents), ctypes.byref(forks)) != OK or forks.resource_fork.error != OK:
+    if library().pef_forks(contents, len(contents), ctypes.byref(forks)) != OK or forks.resource_fork.error not in (OK, *_CUT):
         return False
     fork = forks.resource_fork.bytes.value()
     return bool(fork) and library().pef_resource_map(fork, len(fork), ctypes.byref(_ResourceMap())) == OK
@@ -475,4 +477,6 @@ def resource_files(path: Union[str, os.PathLike[str]]) -> List[pathlib.Path]:
         folder / ".rsrc" / name,
         folder / f"{name}.rsrc",
         folder / f"%{name}",
+        folder / "resource.frk" / name,
+        folder / ".resource" / name,
     ]

@@ -9,8 +9,8 @@ use Rattle.std.specs.declared.alloc.Global.{Global}
 use Rattle.std.specs.contracts.impls.GlobalAllocator.TheImpl.{ghosts}
 use Rattle.cfm_prepare.specs.contracts.context.Context as context
 use Rattle.cfm_prepare.specs.Contexts.{ContextState}
-use Rattle.pef_listing.specs.contracts.reader.ListingReader as reader
-use Rattle.pef_listing.specs.declared.reader.ListingReader.{ListingReader}
+use Rattle.pef_c.specs.contracts.unread.Unread as unread
+use Rattle.pef_c.specs.declared.unread.Unread.{Unread}
 
 -- a value on the heap, with the right to free its block; or nothing
 abbrev pub boxed : (R : RattleType) → Ptr → Option R.Denot → Fml
@@ -21,6 +21,6 @@ boxed R p (Some x) = fex Global (λ heap. box_owns (ghosts.dealloc_token heap) R
 abbrev pub handle_owns : Ptr → Option ContextState → Fml
 handle_owns p held = boxed (context.the_row static_lft) p held
 
--- a reader of a listing, or nothing
-abbrev pub reader_owns : Ptr → Option ListingReader → Fml
-reader_owns p held = boxed (reader.the_row static_lft) p held
+-- a text that is read part by part, or nothing
+abbrev pub text_owns : Ptr → Option Unread → Fml
+text_owns p held = boxed (unread.the_row static_lft) p held

@@ -1,6 +1,8 @@
 pub mod Buffers
 pub mod Link
 pub mod List
+pub mod Unread
+pub mod Reports
 pub mod Names
 pub mod Containers
 pub mod Options

@@ -3,7 +3,7 @@
 use Rattle.std.specs.Prelude.{ℕ, pos, List, [], Option, None, Some, Result, Ok, Err}
 use Rattle.std.specs.Option.{unwrap_or}
 use Rattle.mac_forks.specs.Faults.{fault_number, fault_offset}
-use Rattle.mac_forks.specs.MacFile.{MacFileIs, comment_in, fault_in, finder_of_file, name_in}
+use Rattle.mac_forks.specs.MacFile.{MacFileIs, comment_in, cuts_of, fault_in, finder_of_file, name_in}
 use Rattle.mac_forks.specs.Parts.{Lying}
 use Rattle.mac_forks.specs.declared.fault.ForkFault.{ForkFault}
 use Rattle.mac_forks.specs.declared.finder.FinderInfo.{FinderInfo}
@@ -33,6 +33,11 @@ abbrev pub part_row : Option (Result Lying ForkFault) → PartRow
 part_row None = record { bytes = []; offset = 0; error = 201; error_offset = no_offset }
 part_row (Some (Ok part)) = record { bytes = part.bytes; offset = part.offset; error = 0; error_offset = no_offset }
 part_row (Some (Err fault)) = record { bytes = []; offset = 0; error = fault_number fault; error_offset = offset_or_none (fault_offset fault) }
+
+-- a part of MacBinary that passes the end: it has its error beside the bytes that are there
+abbrev pub cut_row : Option ForkFault → PartRow → PartRow
+cut_row None part = part
+cut_row (Some fault) part = record part { error = fault_number fault; error_offset = offset_or_none (fault_offset fault) }
 
 -- what the Finder knows of a file. If that isn't there, all its fields are 0
 abbrev pub finder_with : FinderInfo → PefFinder
@@ -107,10 +112,10 @@ header_error_offset (Some fault) = offset_or_none (fault_offset fault)
 
 abbrev pub forks_row : List ℕ → MacFileIs → ForksRow
 forks_row bytes file = record {
-  data_fork = part_row (data_fork_of bytes file);
-  resource_fork = part_row (resource_fork_of bytes file);
+  data_fork = cut_row (cuts_of file).data_fork (part_row (data_fork_of bytes file));
+  resource_fork = cut_row (cuts_of file).resource_fork (part_row (resource_fork_of bytes file));
   name = part_row (name_in file);
-  comment = part_row (comment_in file);
+  comment = cut_row (cuts_of file).comment (part_row (comment_in file));
   finder = finder_row (finder_of_file file);
   error = header_error (fault_in file);
   error_offset = header_error_offset (fault_in file);

@@ -15,7 +15,6 @@ mod fragments;
 mod handle;
 mod link;
 mod list;
-mod list_handle;
 mod loader;
 mod log;
 mod mac_errors;
@@ -29,11 +28,14 @@ mod partial_rows;
 mod place;
 mod pointer;
 mod refusal_names;
+mod report;
 mod resources;
 mod rows;
 mod structs;
 mod text;
+mod text_handle;
 mod theorems;
+mod unread;
 
 pub use connections::{pef_export_address, pef_import_target, pef_new_fragments, pef_released_by};
 pub use container::{pef_header, pef_section, pef_section_name};
@@ -50,7 +52,6 @@ pub use fragments::{
 pub use handle::PefContext;
 pub use link::pef_link;
 pub use list::{pef_list, pef_list_free, pef_list_next, pef_list_open, pef_list_part};
-pub use list_handle::PefListing;
 pub use loader::pef_loader;
 pub use mac_file::{
     pef_file_container, pef_file_kind, pef_fork_container, pef_forks, pef_numbered_container,
@@ -66,12 +67,14 @@ pub use partial_rows::{
     pef_partial_exports, pef_partial_imports, pef_partial_libraries, pef_partial_relocations,
 };
 pub use place::{pef_container_place, pef_script_place};
+pub use report::{pef_report_free, pef_report_next, pef_report_open, pef_report_open_container};
 pub use resources::{pef_find_resource, pef_resource_map, pef_resources};
 pub use rows::{pef_export_named, pef_exports, pef_imports, pef_libraries, pef_relocations};
 pub use structs::{
     PefEntries, PefExport, PefFinding, PefFixup, PefFragmentSection, PefHeader, PefImport,
     PefLibrary, PefLoader, PefNames, PefPlace, PefRelocation, PefSection, PefTarget,
 };
+pub use text_handle::PefText;
 pub use theorems::{
     container_names, finding_names, listing_names, loader_names, packed_names, script_names,
 };

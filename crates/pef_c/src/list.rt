@@ -3,8 +3,9 @@ ghost use Rattle.std.specs.Prelude.{◌≡◌, None};
 ghost use Rattle.pef_c.specs.List.{ListAnswers, NextAnswers, OpenListAnswers, PartAnswers, unread};
 
 use crate::answers::{NOT_OPEN, OUT_OF_MEMORY, ROOM_TOO_SMALL, copy_out, given, list_number};
-use crate::list_handle::{PefListing, put, take};
 use crate::text::{listing_text, read_from};
+use crate::text_handle::{PefText, put, take};
+use crate::unread::Unread;
 use pef_listing::{Listing, ListingReader};
 use std::alloc::Global;
 
@@ -67,7 +68,7 @@ pub extern "C" fn pef_list_part(
 #[unsafe(no_mangle)]
 pub extern "C" fn pef_list_open(
     alloc: Global,
-    listing: &mut PefListing,
+    listing: &mut PefText,
     container: &'static [u8],
 ) -> u32
     ensures { OpenListAnswers container.entry.now (unread listing.new) result }
@@ -77,7 +78,7 @@ pub extern "C" fn pef_list_open(
         Ok(read) => read.lines(),
         Err(fault) => return list_number(fault),
     };
-    match Box::new(alloc, ListingReader::new(alloc, lines)) {
+    match Box::new(alloc, Unread::Lines(ListingReader::new(alloc, lines))) {
         Ok(boxed) => {
             put(listing, boxed);
             0
@@ -93,29 +94,43 @@ pub extern "C" fn pef_list_open(
 #[unsafe(no_mangle)]
 pub extern "C" fn pef_list_next(
     alloc: Global,
-    listing: &mut PefListing,
+    listing: &mut PefText,
     buffer: &mut [u8],
     written: &mut usize,
 ) -> u32
     ensures { NextAnswers (unread listing.old) (unread listing.new) buffer.old buffer.new written.old written.new result }
 {
-    let Some(mut reader) = take(alloc, listing) else {
+    read_next(alloc, listing, buffer, written)
+}
+
+/// Copies the next bytes of a text to the front of `buffer`, as many as it has.
+///
+/// Returns 0, and writes the number of bytes to `written`; or 202 if the text isn't open; or 99, and then nothing is read.
+pub(crate) fn read_next(
+    alloc: Global,
+    text: &mut PefText,
+    buffer: &mut [u8],
+    written: &mut usize,
+) -> u32
+    ensures { NextAnswers (unread text.old) (unread text.new) buffer.old buffer.new written.old written.new result }
+{
+    let Some(mut left) = take(alloc, text) else {
         return NOT_OPEN;
     };
-    let answer = match reader.read(alloc, buffer) {
+    let answer = match left.read(alloc, buffer) {
         Ok(count) => {
             *written = count;
             0
         }
         Err(_) => OUT_OF_MEMORY,
     };
-    put(listing, reader);
+    put(text, left);
     answer
 }
 
 /// Frees a listing. Does nothing if it isn't open.
 #[unsafe(no_mangle)]
-pub extern "C" fn pef_list_free(alloc: Global, listing: &mut PefListing)
+pub extern "C" fn pef_list_free(alloc: Global, listing: &mut PefText)
     ensures { unread listing.new ≡ None }
 {
     let _closed = take(alloc, listing);

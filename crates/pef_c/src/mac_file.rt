@@ -7,7 +7,7 @@ ghost use Rattle.mac_forks.specs.Views.{mac_file_seen, part_seen};
 ghost use Rattle.cfm_members.specs.Fragments.{container_named, container_numbered, named_in_forks};
 ghost use Rattle.cfm_members.specs.Kinds.{kind_of};
 ghost use Rattle.pef_c.specs.MacForks.{ForksAnswers, FoundAnswers, NumberedAnswers};
-ghost use Rattle.pef_c.specs.MacParts.{finder_row, finder_without, forks_row, forks_shown, header_error, header_error_offset, kind_code, part_row, part_shown};
+ghost use Rattle.pef_c.specs.MacParts.{cut_row, finder_row, finder_without, forks_row, forks_shown, header_error, header_error_offset, kind_code, part_row, part_shown};
 
 use crate::answers::{NOT_THERE, given};
 use crate::mac_errors::{fork_number, fragment_number, offset_or_none};
@@ -120,11 +120,12 @@ fn forks_given<'a>(bytes: &'a [u8], file: &MacFile<'a>) -> PefForks<'a>
     ensures { forks_shown result ≡ forks_row bytes.entry.now (mac_file_seen file.now) }
 {
     let forks = Forks::of(bytes, file);
+    let cuts = file.cuts();
     PefForks {
-        data_fork: part_given(forks.data_fork),
-        resource_fork: part_given(forks.resource_fork),
+        data_fork: with_cut(part_given(forks.data_fork), cuts.data_fork),
+        resource_fork: with_cut(part_given(forks.resource_fork), cuts.resource_fork),
         name: part_given(file.name()),
-        comment: part_given(file.comment()),
+        comment: with_cut(part_given(file.comment()), cuts.comment),
         finder: finder_given(file.finder()),
         error_offset: header_error_offset(file.fault()),
         error: header_error(file.fault()),
@@ -139,6 +140,20 @@ fn part_given<'a>(part: Option<Result<Part<'a>, ForkFault>>) -> PefPart<'a>
     match part {
         Some(part) => part_or_error(part),
         None => no_part(NOT_THERE, NO_OFFSET),
+    }
+}
+
+/// Returns a part with the error that it passes the end, if it does.
+fn with_cut<'a>(part: PefPart<'a>, cut: Option<ForkFault>) -> PefPart<'a>
+    ensures { part_shown result ≡ cut_row cut (part_shown part.entry) }
+{
+    match cut {
+        Some(fault) => PefPart {
+            error_offset: offset_or_none(fault.offset()),
+            error: fork_number(fault),
+            ..part
+        },
+        None => part,
     }
 }
 

@@ -1,16 +1,16 @@
 -- The pointer is the same, and owns the same.
 use Rattle.pef_c.proofs.WalkSteps.{◌≡◌, ◌++◌, List, [], ◌∷◌, refl, proved_at, leaves, Goes-blank, SProp, emp, ftrue, fact, fact_i, tables, Fn, Val, WpFn, alloc_all, pass_all, free_all, look_at, get, get_in, sets, ‵, raw, ◌⊛◌, prop, ◌$◌, ◌∵◌, !, qed, by, move, drop, split, fsplit, fjoin, use0, regoal, agg, sub, whole, stop, fld, of_opd, no_more, and_then, returns, enter, owns, types_at, plain, static_lft, nothing, alive, Stays, stay_dropped, walk_of}
 use Rattle.pef_c.proofs.Pointers.{word, pointer_typed, word_typed, opened, closed}
-use Rattle.pef_listing.specs.contracts.reader.ListingReader as reader
-use Rattle.pef_c.specs.contracts.pointer.Pointer as pointer
-use Rattle.pef_c.specs.contracts.list_handle.seal as f
-use Rattle.pef_c.proofs.list_handle.seal.Statement.{statement}
-use Rattle.pef_c.proofs.list_handle.seal.Code as code
+use Rattle.pef_c.specs.contracts.unread.Unread as unread
+use Rattle.pef_c.specs.contracts.text_handle.TextHandle as handle
+use Rattle.pef_c.specs.contracts.text_handle.unseal as f
+use Rattle.pef_c.proofs.text_handle.unseal.Statement.{statement}
+use Rattle.pef_c.proofs.text_handle.unseal.Code as code
 
-pub seal_spec : {M : Type 1} → statement M
-seal_spec 𝓤 𝓛 𝓜 𝓡 wired =
+pub unseal_spec : {M : Type 1} → statement M
+unseal_spec 𝓤 𝓛 𝓜 𝓡 wired =
     let 𝓣 = tables 𝓤 𝓛.H 𝓜 𝓡 𝓡.env in let c = f.clauses 𝓛 𝓜.mem 𝓡.returns in let fn : Fn = code.function in
-    let R = reader.the_row static_lft in let given = plain (λ _. pointer.the_row R) in
+    let R = unread.the_row static_lft in let given = plain (λ _. handle.the_row) in
     let stays : Stays f.ended.signature.params f.ended.kept = (stay_dropped given f.ended.kept.0, tt) in
     proved_at 𝓛 f.ended stays c 𝓜 𝓡 (Goes-blank 𝓛 0 given f.ended.kept.0 (λ κs x w. tt), tt) f.Key.name fn (code.unfolded 𝓤 𝓛.H 𝓜 𝓡 wired) (λ z are.
     let x = z.0.3.0 in let vs = z.0.4.0 in let Post : Val → SProp 𝓤 = (walk_of 𝓛 f.ended stays c).post z in let Same : Type 0 = x.value ≡ x.value in

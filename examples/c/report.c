@@ -1,0 +1,114 @@
+/*
+ * Reads reports part by part. All parts together have to be the whole report. What differs is printed, a line each, and the status
+ * is then 1. With the word `print` and a file it prints the report on it, as `pef inspect --json` does.
+ */
+#include "expect.h"
+#include "file.h"
+
+enum { ROOM = 4096, UNWRITTEN = 0x7A };
+
+/* The report on no bytes under the name `a b`, as docs/INSPECT.md has it. */
+static const char empty[] = "{\"file\":\"a%20b\",\"size\":0,\"format\":\"other\",\"forks\":[],\"fragments\":[],\"containers\":[],\"errors\":[],\"notes\":[]}\n";
+
+/* The object of the bytes `Joy!` as a container. */
+static const char refused[] =
+    "{\"offset\":0,\"header\":null,\"sections\":[],\"loader\":null,\"libraries\":[],\"imports\":[],\"relocations\":[],\"exports\":[],"
+    "\"entries\":{\"main\":null,\"init\":null,\"term\":null},\"errors\":[{\"number\":1,\"name\":\"TooShort\",\"part\":\"header\",\"row\":0,"
+    "\"field\":null,\"offset\":0}],\"notes\":[]}";
+
+/* Reads a report in parts of one size, and compares all of them with a text. */
+static void read_in_parts(struct pef_report *report, size_t size, const char *text)
+{
+    size_t left = strlen(text), written = 7;
+    for (size_t parts = 0; parts < 2 || left != 0; parts++) {
+        uint8_t buffer[ROOM];
+        size_t wanted = size < left ? size : left;
+        memset(buffer, UNWRITTEN, ROOM);
+        EXPECT(pef_report_next(report, buffer, size, &written) == PEF_OK && written == wanted);
+        EXPECT(memcmp(buffer, text, wanted) == 0 && buffer[wanted] == UNWRITTEN);
+        if (written != wanted)
+            return;
+        text += wanted;
+        left -= wanted;
+    }
+}
+
+static void test_parts(void)
+{
+    static const size_t sizes[] = {1, 2, 7, 100, sizeof empty - 2, sizeof empty - 1, sizeof empty, ROOM - 1};
+    struct pef_report report = PEF_NO_REPORT;
+    for (size_t i = 0; i < sizeof sizes / sizeof sizes[0]; i++) {
+        EXPECT(pef_report_open(&report, TEXT("a b"), NULL, 0) == PEF_OK && report.is_open);
+        read_in_parts(&report, sizes[i], empty);
+        EXPECT(pef_report_open_container(&report, TEXT("Joy!")) == PEF_OK && report.is_open);
+        read_in_parts(&report, sizes[i], refused);
+    }
+    pef_report_free(&report);
+    EXPECT(!report.is_open);
+}
+
+/* A report that isn't open, one of which no byte is asked, and one that is freed twice. */
+static void test_not_open(void)
+{
+    struct pef_report report = PEF_NO_REPORT;
+    uint8_t byte = 7;
+    size_t written = 7;
+    pef_report_free(NULL);
+    pef_report_free(&report);
+    EXPECT(pef_report_next(&report, &byte, 1, &written) == PEF_NOT_OPEN && byte == 7 && written == 7);
+    EXPECT(pef_report_open(&report, NULL, 0, NULL, 0) == PEF_OK);
+    EXPECT(pef_report_next(&report, NULL, 0, &written) == PEF_OK && written == 0);
+    EXPECT(pef_report_next(&report, &byte, 1, &written) == PEF_OK && written == 1 && byte == '{');
+    EXPECT(pef_report_open_container(&report, NULL, 0) == PEF_OK);
+    EXPECT(pef_report_next(&report, &byte, 1, &written) == PEF_OK && written == 1 && byte == '{');
+    pef_report_free(&report);
+    pef_report_free(&report);
+    EXPECT(pef_report_next(&report, &byte, 1, &written) == PEF_NOT_OPEN);
+}
+
+/* What was given may change once a report is open. */
+static void test_kept(void)
+{
+    struct pef_report report = PEF_NO_REPORT;
+    uint8_t path[] = {'a', ' ', 'b'}, bytes[] = {'J', 'o', 'y', '!'};
+    EXPECT(pef_report_open(&report, path, 3, bytes, 0) == PEF_OK);
+    memset(path, 0, sizeof path);
+    read_in_parts(&report, 10, empty);
+    EXPECT(pef_report_open_container(&report, bytes, 4) == PEF_OK);
+    memset(bytes, 0, sizeof bytes);
+    read_in_parts(&report, 10, refused);
+    pef_report_free(&report);
+}
+
+/* Prints the report on a file. */
+static int print(const char *path)
+{
+    struct pef_report report = PEF_NO_REPORT;
+    size_t length, written = 0;
+    uint8_t *bytes = read_file(path, &length), buffer[ROOM];
+    if (bytes == NULL) {
+        perror(path);
+        return 1;
+    }
+    uint32_t answer = pef_report_open(&report, (const uint8_t *)path, strlen(path), bytes, length);
+    free(bytes);
+    do {
+        if (answer == PEF_OK)
+            answer = pef_report_next(&report, buffer, ROOM, &written);
+        if (answer != PEF_OK || fwrite(buffer, 1, written, stdout) != written)
+            break;
+    } while (written == ROOM);
+    pef_report_free(&report);
+    return answer == PEF_OK ? 0 : 1;
+}
+
+int main(int count, char **words)
+{
+    if (count == 3 && strcmp(words[1], "print") == 0)
+        return print(words[2]);
+    test_parts();
+    test_not_open();
+    test_kept();
+    printf("%zu failures\n", failures);
+    return failures == 0 ? 0 : 1;
+}
