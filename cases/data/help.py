@@ -2,12 +2,12 @@
 
 HELP = {
     1: b"The file ends inside the headers of a container. It is truncated, or it isn't a PEF container.\n",
-    2: b"The file doesn't begin with Joy!peff, so it isn't a PEF container. Pass the data fork, and cut out what comes before the container.\n",
+    2: b"The file doesn't begin with Joy!peff, so it isn't a PEF container. If one is inside, `pef extract FILE '#0' OUT` takes it out.\n",
     3: b"The container isn't for PowerPC. CFM-68K containers aren't read.\n",
     4: b"The container's format version isn't 1, and the format has no other. The file is damaged.\n",
     5: b"The header counts more instantiated sections than sections. The file is damaged.\n",
     6: b"A section's raw data passes the end of the file. The file is truncated, or a section header is damaged.\n",
-    7: b"An instantiated section has a kind that can't be instantiated. The file is damaged, or its linker instantiates debug or traceback sections.\n",
+    7: b"An instantiated section has a kind that can't be instantiated. The file is a stub library, which only linkers read, or it is damaged.\n",
     8: b"A section's image is larger than its memory, or larger than its raw data. The file is damaged.\n",
     9: b"A section's alignment is above 31. The file is damaged.\n",
     10: b"The container has no loader section. Without one it can be neither listed nor loaded.\n",

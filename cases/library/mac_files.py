@@ -106,10 +106,10 @@ KINDS = [
     ("no bytes", b"", "OTHER"),
 ]
 
-# No padding is needed after the resource fork, which ends at 259.
+# The CRC is right, so a file with fewer bytes was cut.
 KINDS += [
     (f"{length} bytes of MacBinary", MAC_BINARY[:length], kind)
-    for length, kind in ((0, "OTHER"), (127, "OTHER"), (128, "OTHER"), (258, "OTHER"), (259, "MAC_BINARY"), (512, "MAC_BINARY"))
+    for length, kind in ((0, "OTHER"), (127, "OTHER"), (128, "MAC_BINARY"), (258, "MAC_BINARY"), (259, "MAC_BINARY"), (512, "MAC_BINARY"))
 ]
 
 # Whether data and map are inside, after the header and apart, and the type list is inside the map, after its fields.
@@ -125,6 +125,9 @@ KINDS += [
         (((8, b"\x00\x00\x00\x19"),), "OTHER"),
         (((12, b"\x00\x00\x00\x58"),), "OTHER"),
         (((64, b"\x00\x1B"),), "OTHER"),
+        # the map begins where the data ends, and passes the end: the fork was cut
+        (((4, b"\x00\x00\x00\x23"), (12, b"\x00\x00\x00\x5D")), "RESOURCE_FORK"),
+        (((4, b"\x00\x00\x00\x24"), (12, b"\x00\x00\x00\x5D")), "OTHER"),
         # data after the map, of no length
         (((0, b"\x00\x00\x00\x7F"), (8, b"\x00\x00\x00\x00")), "RESOURCE_FORK"),
     )
@@ -158,9 +161,11 @@ HEADERS = [
     # forks that end with the file or past it: 384 and 256 bytes are left
     (((83, b"\x80\x00\x00\x00\x00\x00\x00\x00"),), True, "OTHER", 0),
     (((83, b"\x00\x00\x01\x80\x00\x00\x00\x00"),), True, "MAC_BINARY", 0),
-    (((83, b"\x00\x00\x01\x81\x00\x00\x00\x00"),), True, "OTHER", 0),
+    (((83, b"\x00\x00\x01\x81\x00\x00\x00\x00"),), True, "MAC_BINARY", 0),
     (((87, b"\x00\x00\x01\x00"),), True, "MAC_BINARY", 0),
-    (((87, b"\x00\x00\x01\x01"),), True, "OTHER", 0),
+    (((87, b"\x00\x00\x01\x01"),), True, "MAC_BINARY", 0),
+    # .. which MacBinary I can't have
+    ((*NO_EXTENSION, (87, b"\x00\x00\x01\x01")), False, "OTHER", 0),
     (((87, b"\x80\x00\x00\x00"),), True, "OTHER", 0),
     # no forks at all
     (((83, b"\x00\x00\x00\x00\x00\x00\x00\x00"),), True, "MAC_BINARY", 0),
@@ -172,8 +177,11 @@ FORKS = [
     # The CRC is wrong, and the forks are read all the same. The comment passes the end.
     (
         "a second header", changed(bytes(515), (0, MAC_BINARY), (120, b"\x00\x82"), (124, bytes(2)), (384, b"DATA!"), (512, b"RES")),
-        (81, 124), {"data_fork": (384, b"DATA!"), "resource_fork": (512, b"RES"), "comment": NONE},
+        (81, 124), {"data_fork": (384, b"DATA!"), "resource_fork": (512, b"RES"), "comment": (78, 99)},
     ),
+    # The last byte of the resource fork is gone, and so is the comment.
+    ("a file that was cut", MAC_BINARY[:258], (0, None), {"data_fork": (128, b"DATA!"), "resource_fork": (77, 87), "comment": (78, 99)}),
+    ("a file that was cut in its data fork", MAC_BINARY[:131], (0, None), {"data_fork": (76, 83), "resource_fork": (77, 87)}),
     (
         "the longest name", changed(bytes(128), (1, b"\x3F"), (2, LETTERS), (122, b"\x82\x81")),
         (81, 124), {"name": (2, LETTERS), "data_fork": (128, b""), "resource_fork": (128, b"")},

@@ -674,6 +674,26 @@ error 9 BadAlignment section 0 alignment at 000000CA""", 0x88)
 error 6 SectionOutside section 3 containerOffset at 00000118
 error 6 SectionOutside section 4 containerOffset at 00000134
 error 19 BadExportTable loader exportHashOffset at 000001B4""", 0x88)
+    # The file was cut: inside the container, and 20 bytes after the beginning of the resource fork.
+    whole = mac_binary(b"not yet." + WHOLE, calc)
+    inside("macbinary-broken-off", whole[: 0x88 + 0x1E1], "macbinary", """
+error 76 DataForkCut fork at 00000053
+error 77 ResourceForkCut fork at 00000057
+error 6 SectionOutside section 3 containerOffset at 00000118
+error 6 SectionOutside section 4 containerOffset at 00000134
+error 19 BadExportTable loader exportHashOffset at 000001B4""", 0x88)
+    inside("macbinary-resources-broken-off", whole[: 0x280 + 20], "macbinary", """
+error 77 ResourceForkCut fork at 00000057
+error 87 ResourceMapOutside resource at 00000284""", 0x88)
+    # One bit of the data fork's length is wrong, and so is the CRC. The comment's length, without a comment.
+    inside("macbinary-wrong-length", changed(whole, "53 40"), "macbinary", """
+error 81 BadMacBinaryCrc fork at 0000007C
+error 76 DataForkCut fork at 00000053
+error 77 ResourceForkCut fork at 00000057
+note 109 TrailingBytes container at 00000274 length 268""", 0x88)
+    inside("macbinary-without-its-comment", changed(mac_binary(b"", b""), "63 0005"), "macbinary", """
+error 81 BadMacBinaryCrc fork at 0000007C
+error 78 CommentCut fork at 00000063""")
     inside("macbinary-wrong-crc", changed(mac_binary(bad, b""), "7C 0000"), "macbinary", """
 error 81 BadMacBinaryCrc fork at 0000007C
 error 9 BadAlignment section 0 alignment at 000000C2""", 0x80)
@@ -685,6 +705,13 @@ error 9 BadAlignment section 0 alignment at 000000C2""", 0x80)
 error 80 NoContainer fragment at 00000080
 error 80 NoContainer fragment at 00000084
 error 98 FragmentOutside fragment 2 at 000001AC""")
+
+    # The resource fork was cut: in the reference at 8A, which is the last row of its map at 64, and after its header.
+    alone = resource_fork(b"cfrg", 0, fragments((b"Calc", 1, 0, 0)))
+    inside("resource-fork-broken-off", alone[:-1], "resources", """
+error 87 ResourceMapOutside resource at 00000004
+error 91 ReferenceCut resource at 0000008A""")
+    inside("resource-fork-header-alone", alone[:16], "resources", "error 87 ResourceMapOutside resource at 00000004")
 
     # A resource's bytes begin at 14. After them are the 50 bytes of the map.
     inside("resource", resource_fork(b"ndrv", 1, bad), "resources", """

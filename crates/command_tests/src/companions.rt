@@ -22,6 +22,8 @@ const CALLS: &[(Contents, &[&str], u64, u64, u64)] = &[
     (&[("d/.rsrc/a", b"r")], &["inspect", "d/a"], 5, 3, 0),
     (&[("d/a.rsrc", b"r")], &["inspect", "d/a"], 6, 4, 0),
     (&[("d/%a", b"r")], &["inspect", "d/a"], 7, 5, 0),
+    (&[("d/resource.frk/a", b"r")], &["inspect", "d/a"], 8, 6, 0),
+    (&[("d/.resource/a", b"r")], &["inspect", "d/a"], 9, 7, 0),
     (
         &[("d/%a", b"r"), ("d/a.rsrc", b"r")],
         &["inspect", "d/a"],
@@ -36,7 +38,7 @@ const CALLS: &[(Contents, &[&str], u64, u64, u64)] = &[
         2,
         0,
     ),
-    (&[("d/._a", b"")], &["inspect", "d/a"], 7, 5, 0),
+    (&[("d/._a", b"")], &["inspect", "d/a"], 9, 7, 0),
     // No other file is looked for.
     (&[("._b", b"text")], &["inspect", "._b"], 1, 0, 0),
     (&[("d/._b", b"text")], &["inspect", "d/._b"], 1, 0, 0),
@@ -87,8 +89,8 @@ const CALLS: &[(Contents, &[&str], u64, u64, u64)] = &[
     (
         &[("._a", b"r")],
         &["extract", "d/a", "Calc", "out"],
-        7,
-        6,
+        9,
+        8,
         0,
     ),
     (

@@ -3,7 +3,7 @@ use std::test::Fail;
 use test_bench::runs::{Handed, assert_cut_output, assert_prints};
 
 /// The number of places at which a resource fork is looked for.
-const PLACES: u64 = 6;
+const PLACES: u64 = 8;
 
 /// A file that can't be read, or whose reading lacks memory, is an error of that file.
 const UNREAD: &[(FileFault, &[u8])] = &[

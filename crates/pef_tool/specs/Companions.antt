@@ -34,7 +34,8 @@ companion_places path =
     let at = place_of (folder_of path) (name_of path) in
     at (codes "._") []
     ∷ at (codes "__MACOSX/._") []
-    ∷ at (codes ".AppleDouble/") [] ∷ at (codes ".rsrc/") [] ∷ at [] (codes ".rsrc") ∷ at (codes "%") [] ∷ []
+    ∷ at (codes ".AppleDouble/") [] ∷ at (codes ".rsrc/") [] ∷ at [] (codes ".rsrc") ∷ at (codes "%") []
+    ∷ at (codes "resource.frk/") [] ∷ at (codes ".resource/") [] ∷ []
 
 -- a file may have a companion: it can be a data fork, and its name isn't that of a companion of macOS
 unfoldable pub may_have_companion : List ℕ → List ℕ → Bool

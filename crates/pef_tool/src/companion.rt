@@ -124,6 +124,14 @@ pub(crate) fn find_companion<'a, F: Files>(
             before: b"%",
             after: b"",
         },
+        Place {
+            before: b"resource.frk/",
+            after: b"",
+        },
+        Place {
+            before: b".resource/",
+            after: b"",
+        },
     ];
     look_at_places(alloc, files, SplitPath::of(path), &places)
 }
