@@ -298,15 +298,9 @@ class _Export(ctypes.Structure):
     _fields_ = [("name", _Bytes), *_fields(int32="section", uint32="value", uint8="symbol_class")]
 
 
-class _Context(ctypes.Structure):
-    _fields_ = _fields(void_p="handle", bool="is_open")
+class _Handle(ctypes.Structure):
+    """A context, a listing or a report. Zero bytes are one that isn't open."""
 
-
-class _Listing(ctypes.Structure):
-    _fields_ = _fields(void_p="handle", bool="is_open")
-
-
-class _Report(ctypes.Structure):
     _fields_ = _fields(void_p="handle", bool="is_open")
 
 
@@ -350,24 +344,23 @@ _IN: List[Any] = [ctypes.c_char_p, ctypes.c_size_t]
 _ROOM: List[Any] = [ctypes.c_void_p, ctypes.c_size_t]
 _SIZE: List[Any] = [ctypes.POINTER(ctypes.c_size_t)]
 _PLACES: List[Any] = [ctypes.POINTER(ctypes.c_size_t), ctypes.c_size_t]
-_IN_LISTING: List[Any] = [ctypes.POINTER(_Listing)]
-_IN_CONTEXT: List[Any] = [ctypes.POINTER(_Context)]
-_OF_FRAGMENT: List[Any] = _IN_CONTEXT + [ctypes.c_uint32, ctypes.c_size_t]
+_IN_HANDLE: List[Any] = [ctypes.POINTER(_Handle)]
+_OF_FRAGMENT: List[Any] = _IN_HANDLE + [ctypes.c_uint32, ctypes.c_size_t]
 _CALLS: Dict[str, List[Any]] = {
     "pef_link": _IN + _ROOM + _SIZE * 2,
     "pef_list": _IN + _ROOM + _SIZE,
     "pef_list_part": _IN + [ctypes.c_size_t] + _ROOM + _SIZE,
-    "pef_list_open": _IN_LISTING + _IN,
-    "pef_list_next": _IN_LISTING + _ROOM + _SIZE,
-    "pef_list_free": _IN_LISTING,
+    "pef_list_open": _IN_HANDLE + _IN,
+    "pef_list_next": _IN_HANDLE + _ROOM + _SIZE,
+    "pef_list_free": _IN_HANDLE,
     "pef_name": [ctypes.c_uint32, ctypes.POINTER(_Bytes)],
     "pef_help": [ctypes.c_uint32, ctypes.POINTER(_Bytes)],
     "pef_container_place": _IN + [ctypes.POINTER(_Place)],
     "pef_script_place": _IN + [ctypes.POINTER(_Place)] + _SIZE,
-    "pef_report_open": [ctypes.POINTER(_Report)] + _IN * 2,
-    "pef_report_open_container": [ctypes.POINTER(_Report)] + _IN,
-    "pef_report_next": [ctypes.POINTER(_Report)] + _ROOM + _SIZE,
-    "pef_report_free": [ctypes.POINTER(_Report)],
+    "pef_report_open": _IN_HANDLE + _IN * 2,
+    "pef_report_open_container": _IN_HANDLE + _IN,
+    "pef_report_next": _IN_HANDLE + _ROOM + _SIZE,
+    "pef_report_free": _IN_HANDLE,
     "pef_header": _IN + [ctypes.POINTER(_Header)],
     "pef_section": _IN + [ctypes.c_size_t, ctypes.POINTER(_Section), ctypes.POINTER(_Bytes)],
     "pef_section_name": _IN + [ctypes.c_size_t, ctypes.POINTER(_Bytes)],
@@ -387,24 +380,24 @@ _CALLS: Dict[str, List[Any]] = {
     "pef_partial_imports": _IN + [ctypes.c_size_t, ctypes.POINTER(_Import), ctypes.c_size_t] + _SIZE,
     "pef_partial_relocations": _IN + [ctypes.c_size_t, ctypes.POINTER(_Relocation), ctypes.c_size_t] + _SIZE,
     "pef_partial_exports": _IN + [ctypes.c_size_t, ctypes.POINTER(_Export), ctypes.c_size_t] + _SIZE,
-    "pef_open": _IN_CONTEXT + [ctypes.c_uint32],
-    "pef_open_with": _IN_CONTEXT + [ctypes.POINTER(_Options)],
+    "pef_open": _IN_HANDLE + [ctypes.c_uint32],
+    "pef_open_with": _IN_HANDLE + [ctypes.POINTER(_Options)],
     "pef_version": [],
-    "pef_free": _IN_CONTEXT,
-    "pef_add": _IN_CONTEXT + _IN * 2,
-    "pef_prepare": _IN_CONTEXT + _IN + [ctypes.POINTER(ctypes.c_uint32), ctypes.POINTER(_Names)],
-    "pef_prepare_with_place": _IN_CONTEXT + _IN + [ctypes.POINTER(ctypes.c_uint32), ctypes.POINTER(_Names), ctypes.POINTER(_Place)],
-    "pef_reserve": _IN_CONTEXT + [ctypes.c_uint32] * 2,
-    "pef_close": _IN_CONTEXT + [ctypes.c_uint32],
-    "pef_new_fragments": _IN_CONTEXT + [ctypes.c_uint32] + _PLACES + _SIZE,
-    "pef_released_by": _IN_CONTEXT + [ctypes.c_uint32] + _PLACES + _SIZE,
-    "pef_fragments": _IN_CONTEXT + [ctypes.c_uint32] + _PLACES + _SIZE,
-    "pef_init_order": _IN_CONTEXT + [ctypes.c_uint32] + _PLACES + _SIZE,
-    "pef_fragment_name": _IN_CONTEXT + [ctypes.c_size_t, ctypes.POINTER(_Bytes)],
-    "pef_is_present": _IN_CONTEXT + _IN + [ctypes.POINTER(ctypes.c_bool)],
-    "pef_fragment_sections": _IN_CONTEXT + [ctypes.c_size_t] + _SIZE,
+    "pef_free": _IN_HANDLE,
+    "pef_add": _IN_HANDLE + _IN * 2,
+    "pef_prepare": _IN_HANDLE + _IN + [ctypes.POINTER(ctypes.c_uint32), ctypes.POINTER(_Names)],
+    "pef_prepare_with_place": _IN_HANDLE + _IN + [ctypes.POINTER(ctypes.c_uint32), ctypes.POINTER(_Names), ctypes.POINTER(_Place)],
+    "pef_reserve": _IN_HANDLE + [ctypes.c_uint32] * 2,
+    "pef_close": _IN_HANDLE + [ctypes.c_uint32],
+    "pef_new_fragments": _IN_HANDLE + [ctypes.c_uint32] + _PLACES + _SIZE,
+    "pef_released_by": _IN_HANDLE + [ctypes.c_uint32] + _PLACES + _SIZE,
+    "pef_fragments": _IN_HANDLE + [ctypes.c_uint32] + _PLACES + _SIZE,
+    "pef_init_order": _IN_HANDLE + [ctypes.c_uint32] + _PLACES + _SIZE,
+    "pef_fragment_name": _IN_HANDLE + [ctypes.c_size_t, ctypes.POINTER(_Bytes)],
+    "pef_is_present": _IN_HANDLE + _IN + [ctypes.POINTER(ctypes.c_bool)],
+    "pef_fragment_sections": _IN_HANDLE + [ctypes.c_size_t] + _SIZE,
     "pef_fragment_section": _OF_FRAGMENT + [ctypes.c_size_t, ctypes.POINTER(_FragmentSection)],
-    "pef_fragment_bytes": _IN_CONTEXT + [ctypes.c_size_t] * 2 + _ROOM + _SIZE,
+    "pef_fragment_bytes": _IN_HANDLE + [ctypes.c_size_t] * 2 + _ROOM + _SIZE,
     "pef_fragment_entries": _OF_FRAGMENT + [ctypes.POINTER(_Entries)],
     "pef_fragment_symbol": _OF_FRAGMENT + _IN + [ctypes.POINTER(ctypes.c_uint32)],
     "pef_import_target": _OF_FRAGMENT + [ctypes.c_size_t, ctypes.POINTER(_Target)],
@@ -579,16 +572,21 @@ def report(contents: bytes, path: Text = "") -> Dict[str, Any]:
 
 def _report(call: str, *given: bytes) -> bytes:
     """The text of a report that a call opens."""
-    it, room, written = _Report(), _room(1 << 16), ctypes.c_size_t(1 << 16)
-    parts: List[bytes] = []
+    it = _Handle()
     try:
         _check(getattr(library(), call)(ctypes.byref(it), *(word for raw in map(bytes, given) for word in (raw, len(raw)))))
-        while written.value == len(room):
-            _check(library().pef_report_next(ctypes.byref(it), room, len(room), ctypes.byref(written)))
-            parts.append(ctypes.string_at(room, written.value))
+        return b"".join(_parts("pef_report_next", it, 1 << 16))
     finally:
         library().pef_report_free(ctypes.byref(it))
-    return b"".join(parts)
+
+
+def _parts(call: str, handle: _Handle, size: int) -> Iterator[bytes]:
+    """The bytes that a call gives in parts of this size, up to the last one."""
+    room, written = _room(size), ctypes.c_size_t(size)
+    while written.value == size:
+        _check(getattr(library(), call)(ctypes.byref(handle), room, size, ctypes.byref(written)))
+        if written.value > 0:
+            yield ctypes.string_at(room, written.value)
 
 
 def _all_rows(call: str, contents: bytes, row: Any, slice_name: Optional[str] = None) -> List[Any]:
@@ -908,13 +906,11 @@ class Container:
     def listing_parts(self, size: int = 65536) -> Iterator[str]:
         """The lines of `pef list`, in parts of `size` characters; the last part may be shorter. However many lines there are, only
         one part is in memory. Raises what `listing` raises, when the first part is asked for."""
-        listing, room, written = _Listing(), _room(size), ctypes.c_size_t(size)
+        listing = _Handle()
         try:
             _check(library().pef_list_open(ctypes.byref(listing), *self._bytes))
-            while written.value == size:
-                _check(library().pef_list_next(ctypes.byref(listing), room, size, ctypes.byref(written)))
-                if written.value > 0:
-                    yield ctypes.string_at(room, written.value).decode("ascii")
+            for part in _parts("pef_list_next", listing, size):
+                yield part.decode("ascii")
         finally:
             library().pef_list_free(ctypes.byref(listing))
 
@@ -1115,7 +1111,7 @@ class Context:
         steps: Optional[int] = None,
         bytes: Optional[int] = None,  # pylint: disable=redefined-builtin
     ):
-        self._context = _Context()
+        self._context = _Handle()
         #: Held during each call: a call writes to the struct, even if it only reads.
         self._lock = threading.RLock()
         #: The names and containers that were added: the library reads them until the context is freed.
