@@ -3,10 +3,10 @@ use Rattle.std.specs.Prelude.{ℕ, List, [], ◌∷◌, Option, None, Some, Resu
 use Rattle.std.specs.Option.{option_and_then}
 use Rattle.std.specs.Result.{result_ok}
 use Rattle.pef_words.specs.Refusals.{◌>>=◌}
-use Rattle.pef_views.specs.Container.{Contained}
 use Rattle.pef_views.specs.Partial as views
 use Rattle.pef_loader.specs.Loader.{Loaded}
-use Rattle.pef_loader.specs.Partial.{partial_of, relocation_row}
+use Rattle.pef_loader.specs.Partial.{relocation_row}
+use Rattle.pef_report.specs.Readable.{loader_in}
 use Rattle.pef_reloc.specs.Faults.{fault_number}
 use Rattle.pef_reloc.specs.Traces.{fixups_of}
 use Rattle.pef_reloc.specs.Unrolled.{program_fault}
@@ -35,9 +35,6 @@ fixup_rows None = Err 201
 fixup_rows (Some program) = rows_unless (program_fault program) (fixups_of program)
 
 -- the program of relocation header k of the container that begins some bytes, if it is all there
-abbrev pub loader_in : Contained → Option Loaded
-loader_in c = result_ok (partial_of (views.sections_allowed c) c.loader)
-
 abbrev pub program_in : Option Loaded → ℕ → Option (List ℕ)
 program_in loader k = loader >>= (λ l. relocation_row l k >>= (λ row. row.program))
 
