@@ -2,6 +2,7 @@
 use Rattle.std.specs.Prelude.{◌≡◌, ◌≢◌, ℕ, ◌+◌, ◌-◌, ◌<◌, ◌≤◌, ◌^◌, ⊤, Bool, true, false, List, [], ◌++◌, Option, None, Some, Result, Ok, Err, length, min, take}
 use Rattle.pef_ports.specs.declared.ports.FileFault.{FileFault}
 use Rattle.pef_ports.specs.declared.ports.FileFault.TheVariants.{Failed, OutOfMemory}
+use Rattle.pef_ports.specs.declared.ports.FileReason.{FileReason}
 
 -- the state of an input or an output: its bytes, if it reports them, how many of its calls failed, up to the greatest
 -- number of 64 bits, and whether its last call failed
@@ -85,10 +86,11 @@ abbrev pub WritesFile : {A : Type 0} → Result A FileFault → FilesState → F
 WritesFile (Ok done) before after path bytes = IsAt after.contents path bytes × OthersStay before.contents after.contents path × (after.failures ≡ before.failures)
 WritesFile (Err fault) before after path bytes = OthersStay before.contents after.contents path × (after.failures ≡ counted fault before.failures)
 
--- what is reported of files that a command gets: their state, and which call leads from which files to which, with
--- which result
+-- what is reported of files that a command gets: their state, why their last call that failed did, and which call leads
+-- from which files to which, with which result
 pub record FilesPort (F : Type 0) : Type 1 where
   pub state : F → FilesState
+  pub reason : F → FileReason
   pub was_read : F → List ℕ → Result (List ℕ) FileFault → F → Type 0
   pub was_written : F → List ℕ → List ℕ → Result (Unit {0}) FileFault → F → Type 0
 

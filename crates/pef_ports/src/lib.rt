@@ -20,5 +20,5 @@ pub use line::{Line, push_hex};
 pub use name::print_name;
 pub use page::{Page, flush, send};
 pub use pieces::{Piece, print_pieces};
-pub use ports::{FileFault, Files, Sink, Source, StreamFault};
+pub use ports::{FileFault, FileReason, Files, Sink, Source, StreamFault};
 pub use text::Text;

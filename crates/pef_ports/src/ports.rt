@@ -1,7 +1,8 @@
-ghost use Rattle.std.specs.Prelude.{ℕ, List, Result};
+ghost use Rattle.std.specs.Prelude.{◌≡◌, ℕ, List, Result};
 ghost use Rattle.pef_words.specs.Refusals.{result_map};
 ghost use Rattle.pef_ports.specs.Ports.{FilesState, ReadsFile, ReadsSome, Stream, WritesFile, WritesSome};
 ghost use Rattle.pef_ports.specs.declared.ports.FileFault.{FileFault};
+ghost use Rattle.pef_ports.specs.declared.ports.FileReason.{FileReason};
 
 use std::alloc::Global;
 use thiserror::Error;
@@ -20,6 +21,23 @@ pub enum FileFault {
     /// An allocation failed.
     #[error("out of memory")]
     OutOfMemory,
+}
+
+/// Why a file could not be read or written, for the user: nothing else depends on it.
+#[derive(Clone, Copy, Debug, PartialEq, Eq)]
+pub enum FileReason {
+    /// There is no such file, or a link leads to none.
+    Missing,
+    /// It is a folder.
+    Folder,
+    /// The user may not read or write it.
+    Forbidden,
+    /// No room is left for its bytes.
+    Full,
+    /// Its path isn't valid UTF-8.
+    NotUtf8,
+    /// Another reason, or none is known.
+    Other,
 }
 
 /// The output of a command.
@@ -54,6 +72,13 @@ pub trait Files {
 
     /// The same for a call of `write` by a path with some bytes.
     ghost was_written: { Self → List ℕ → List ℕ → Result (Unit {0}) FileFault → Self → Type 0 } = { λ _ _ _ _ _. Unit {0} };
+
+    /// Why the last call that failed did.
+    ghost reason: { Self → FileReason };
+
+    /// Returns why the last call that failed did.
+    fn reason(&self) -> FileReason
+        ensures { result ≡ reason self.now };
 
     /// Returns all bytes of the file at `path`. No file is changed.
     fn read(&mut self, alloc: Global, path: &[u8]) -> Result<Vec<u8>, FileFault>

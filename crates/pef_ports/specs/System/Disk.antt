@@ -1,5 +1,5 @@
 -- The results of the port over a disk, by what the disk did.
-use Rattle.std.specs.Prelude.{◌≡◌, ◌⊎◌, ℕ, List, Result, Ok, Err}
+use Rattle.std.specs.Prelude.{◌≡◌, ◌⊎◌, ⊤, ℕ, List, Result, Ok, Err}
 use Rattle.std.specs.Str.{IsUtf8}
 use Rattle.std.specs.IoError.{error_kind}
 use Rattle.std.specs.declared.io.Error.{Error}
@@ -7,6 +7,8 @@ use Rattle.std.specs.declared.io.ErrorKind.{ErrorKind}
 use Rattle.std.specs.declared.io.ErrorKind.TheVariants as kind
 use Rattle.pef_ports.specs.declared.ports.FileFault.{FileFault}
 use Rattle.pef_ports.specs.declared.ports.FileFault.TheVariants.{Failed, OutOfMemory}
+use Rattle.pef_ports.specs.declared.ports.FileReason.{FileReason}
+use Rattle.pef_ports.specs.declared.ports.FileReason.TheVariants.{Missing, Folder, Forbidden, Full, NotUtf8, Other}
 
 -- what a disk did, by the kind of its error
 abbrev pub seen : {A B : Type 0} → (A → B) → Result A Error → Result B ErrorKind
@@ -18,14 +20,30 @@ abbrev pub fault_of : ErrorKind → FileFault
 fault_of kind.OutOfMemory = OutOfMemory
 fault_of _ = Failed
 
+-- why the system refused
+abbrev pub reason_of : ErrorKind → FileReason
+reason_of kind.NotFound = Missing
+reason_of kind.NotADirectory = Missing
+reason_of kind.IsADirectory = Folder
+reason_of kind.PermissionDenied = Forbidden
+reason_of kind.ReadOnlyFilesystem = Forbidden
+reason_of kind.StorageFull = Full
+reason_of kind.QuotaExceeded = Full
+reason_of _ = Other
+
+-- the reason of what a disk did, if it failed
+abbrev pub IsReason : {A : Type 0} → Result A ErrorKind → FileReason → Type 0
+IsReason (Ok value) reason = ⊤
+IsReason (Err kind) reason = reason ≡ reason_of kind
+
 -- the port's result
 abbrev pub answer_of : {A : Type 0} → Result A ErrorKind → Result A FileFault
 answer_of (Ok value) = Ok value
 answer_of (Err kind) = Err (fault_of kind)
 
--- the disk was called with exactly this path, and the result is what it did; or the path isn't UTF-8, so no file can
--- be named by it
-abbrev pub IsAnswered : {A : Type 0} → (Result A ErrorKind → Type 0) → List ℕ → Result A FileFault → Type 0
-IsAnswered {A} Did path answer =
-    (IsUtf8 path × ((did : Result A ErrorKind) × Did did × (answer ≡ answer_of did)))
-    ⊎ (¬ (IsUtf8 path) × (answer ≡ Err Failed))
+-- the disk was called with exactly this path, the result is what it did, and the reason is its own; or the path isn't
+-- UTF-8, so no file can be named by it
+abbrev pub IsAnswered : {A : Type 0} → (Result A ErrorKind → Type 0) → List ℕ → Result A FileFault → FileReason → Type 0
+IsAnswered {A} Did path answer reason =
+    (IsUtf8 path × ((did : Result A ErrorKind) × Did did × (answer ≡ answer_of did) × IsReason did reason))
+    ⊎ (¬ (IsUtf8 path) × (answer ≡ Err Failed) × (reason ≡ NotUtf8))

@@ -1,11 +1,12 @@
 ghost use Rattle.std.specs.Prelude.{◌≡◌, ℕ, List, IfErr, OnOk, Result};
 ghost use Rattle.std.specs.IoError.{error_kind};
 ghost use Rattle.std.specs.declared.io.ErrorKind.{ErrorKind};
-ghost use Rattle.pef_ports.specs.System.Disk.{answer_of, fault_of, seen};
+ghost use Rattle.pef_ports.specs.System.Disk.{IsReason, answer_of, fault_of, reason_of, seen};
 ghost use Rattle.pef_ports.specs.Ports.{counted};
 ghost use Rattle.pef_ports.specs.declared.ports.FileFault.TheVariants.{Failed};
+ghost use Rattle.pef_ports.specs.declared.ports.FileReason.TheVariants.{NotUtf8};
 
-use crate::{FileFault, Files};
+use crate::{FileFault, FileReason, Files};
 use std::alloc::Global;
 use std::io::{self, ErrorKind};
 use std::{fs, rt, str};
@@ -44,18 +45,25 @@ impl<R: rt::Files + AllocGlobal> Disk for R {
 pub struct DiskFiles<'a, D> {
     disk: &'a D,
     failures: u64,
+    /// Why the last call that failed did.
+    reason: FileReason,
 }
 
 impl<'a, D: Disk> DiskFiles<'a, D> {
     pub fn new(disk: &'a D) -> DiskFiles<'a, D> {
-        DiskFiles { disk, failures: 0 }
+        DiskFiles {
+            disk,
+            failures: 0,
+            reason: FileReason::Other,
+        }
     }
 
-    /// Returns the result for what the disk did. A failure is counted.
+    /// Returns the result for what the disk did. A failure is counted, and its reason is kept.
     fn answer<T: Drop>(&mut self, did: io::Result<T>) -> Result<T, FileFault>
         ensures answer { result ≡ answer_of (seen (λ value. value) did) }
         ensures done { OnOk result (self.new.failures ≡ self.old.failures) }
         ensures fails { IfErr result (λ fault. self.new.failures ≡ counted fault self.old.failures) }
+        ensures reason { IsReason (seen (λ value. value) did) self.new.reason }
     {
         match did {
             Ok(value) => Ok(value),
@@ -66,7 +74,9 @@ impl<'a, D: Disk> DiskFiles<'a, D> {
     fn fault(&mut self, kind: ErrorKind) -> FileFault
         ensures fault { result ≡ fault_of kind }
         ensures count { self.new.failures ≡ counted result self.old.failures }
+        ensures reason { self.new.reason ≡ reason_of kind }
     {
+        self.reason = reason_of(kind);
         match kind {
             ErrorKind::OutOfMemory => FileFault::OutOfMemory,
             _ => self.failed(),
@@ -76,9 +86,33 @@ impl<'a, D: Disk> DiskFiles<'a, D> {
     fn failed(&mut self) -> FileFault
         ensures fault { result ≡ Failed }
         ensures count { self.new.failures ≡ counted result self.old.failures }
+        ensures reason { self.new.reason ≡ self.old.reason }
     {
         self.failures = self.failures.saturating_add(1);
         FileFault::Failed
+    }
+
+    /// Returns the fault of a path that isn't UTF-8.
+    fn misnamed(&mut self) -> FileFault
+        ensures fault { result ≡ Failed }
+        ensures count { self.new.failures ≡ counted result self.old.failures }
+        ensures reason { self.new.reason ≡ NotUtf8 }
+    {
+        self.reason = FileReason::NotUtf8;
+        self.failed()
+    }
+}
+
+/// Returns why the system refused, by the kind of its error.
+fn reason_of(kind: ErrorKind) -> FileReason
+    ensures { result ≡ reason_of kind }
+{
+    match kind {
+        ErrorKind::NotFound | ErrorKind::NotADirectory => FileReason::Missing,
+        ErrorKind::IsADirectory => FileReason::Folder,
+        ErrorKind::PermissionDenied | ErrorKind::ReadOnlyFilesystem => FileReason::Forbidden,
+        ErrorKind::StorageFull | ErrorKind::QuotaExceeded => FileReason::Full,
+        _ => FileReason::Other,
     }
 }
 
@@ -88,21 +122,27 @@ impl<'a, D: Disk> Files for DiskFiles<'a, D> {
 
     ghost state = { λ files. record { contents = None; failures = files.failures } };
 
-    ghost was_read = { λ before path answer after. IsAnswered (D.did_read before.disk.now path) path answer };
+    ghost was_read = { λ before path answer after. IsAnswered (D.did_read before.disk.now path) path answer after.reason };
 
-    ghost was_written = { λ before path bytes answer after. IsAnswered (D.did_write before.disk.now path bytes) path answer };
+    ghost was_written = { λ before path bytes answer after. IsAnswered (D.did_write before.disk.now path bytes) path answer after.reason };
+
+    ghost reason = { λ files. files.reason };
+
+    fn reason(&self) -> FileReason {
+        self.reason
+    }
 
     fn read(&mut self, _alloc: Global, path: &[u8]) -> Result<Vec<u8>, FileFault> {
         match str::from_utf8(path) {
             Ok(path) => self.answer(self.disk.read_file(path)),
-            Err(_) => Err(self.failed()),
+            Err(_) => Err(self.misnamed()),
         }
     }
 
     fn write(&mut self, path: &[u8], bytes: &[u8]) -> Result<(), FileFault> {
         match str::from_utf8(path) {
             Ok(path) => self.answer(self.disk.write_file(path, bytes)),
-            Err(_) => Err(self.failed()),
+            Err(_) => Err(self.misnamed()),
         }
     }
 }
