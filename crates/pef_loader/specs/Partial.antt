@@ -47,6 +47,10 @@ library_row l i = if nat_lt i l.header.library_count then option_map (λ e. reco
   options = e.options;
 }) (library_at l.bytes i) else None
 
+-- where its name begins
+abbrev pub library_name_at : Loaded → ℕ → Option ℕ
+library_name_at l i = if nat_lt i l.header.library_count then option_map (λ e. l.header.strings_offset + e.name_offset) (library_at l.bytes i) else None
+
 -- the same with at most so many bytes of its name
 pub record CutLibraryRow : Type 0 where
   pub name : Option CutName
@@ -92,6 +96,10 @@ import_row l j = if nat_lt j l.header.import_count then option_map (λ e. record
   library = owner_of l.bytes l.header j;
 }) (import_at l.bytes l.header j) else None
 
+-- where its name begins
+abbrev pub import_name_at : Loaded → ℕ → Option ℕ
+import_name_at l j = if nat_lt j l.header.import_count then option_map (λ e. l.header.strings_offset + e.name_offset) (import_at l.bytes l.header j) else None
+
 -- the same with at most so many bytes of its name
 pub record CutImportRow : Type 0 where
   pub name : Option CutName
@@ -136,6 +144,10 @@ export_row_of t i = option_map (λ e. record { name = name_of t i; class = e.cla
 
 abbrev pub export_row : Loaded → ℕ → Option ExportRow
 export_row l i = if has_exports l.bytes l.header then export_row_of (export_table l.bytes l.header) i else None
+
+-- where its name begins
+abbrev pub export_name_at : Loaded → ℕ → Option ℕ
+export_name_at l i = if has_exports l.bytes l.header then option_map (λ e. l.header.strings_offset + e.name_offset) (entry_of (export_table l.bytes l.header) i) else None
 
 -- the tests of each row that is in the bytes
 abbrev pub tests_of_library : Loaded → ℕ → Option (List (Bool × LoaderFault))

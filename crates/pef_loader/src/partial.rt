@@ -11,7 +11,7 @@ ghost use Rattle.pef_loader.specs.Import.{owner_of};
 ghost use Rattle.pef_loader.specs.Kept.Names.{NamesEndAt};
 ghost use Rattle.pef_loader.specs.Kept.Ranges.{AreInOrder};
 ghost use Rattle.pef_loader.specs.Loader.{entry_tests};
-ghost use Rattle.pef_loader.specs.Partial.{export_row, export_row_of, export_table_tests, exports_in, import_row, library_row, library_versions, partial_of, relocation_reserved, relocation_row, rows_in, table_tests, tests_of_export, tests_of_import, tests_of_library, tests_of_relocation};
+ghost use Rattle.pef_loader.specs.Partial.{export_row, export_row_of, export_name_at, export_table_tests, exports_in, import_name_at, import_row, library_name_at, library_row, library_versions, partial_of, relocation_reserved, relocation_row, rows_in, table_tests, tests_of_export, tests_of_import, tests_of_library, tests_of_relocation};
 ghost use Rattle.pef_loader.specs.Places.{place_of};
 
 use crate::export::{has_exports, tests_of_export, unsearched_exports};
@@ -214,6 +214,13 @@ impl<'a> PartialLoader<'a> {
         (room / size).min(count as usize)
     }
 
+    /// Returns where the tables after the header end, if they are whole.
+    pub fn tables_end(&self) -> usize
+        ensures { result ≡ tables_end (partly_loaded self.now).header }
+    {
+        self.tables.header.end()
+    }
+
     /// Returns whether all libraries are in the loader section.
     pub fn has_libraries(&self) -> bool
         ensures { result ≡ nat_le (imports_from (partly_loaded self.now).header) (length (partly_loaded self.now).bytes) }
@@ -264,6 +271,17 @@ impl<'a> PartialLoader<'a> {
         })
     }
 
+    /// Returns where the name of library `i` begins in the loader section, or `None` past the last library that is in it.
+    pub fn library_name_at(&self, i: usize) -> Option<usize>
+        ensures { result ≡ library_name_at (partly_loaded self.now) i }
+    {
+        if i >= self.tables.header.library_count as usize {
+            return None;
+        }
+        let library = read_library(self.tables.cut, i)?;
+        Some(self.tables.header.name(library.name_offset))
+    }
+
     /// Returns the versions and the reserved bytes of library `i`, or `None` past the last one that is in the loader section.
     /// No name is looked for.
     pub fn library_versions(&self, i: usize) -> Option<LibraryVersions>
@@ -303,6 +321,17 @@ impl<'a> PartialLoader<'a> {
         })
     }
 
+    /// Returns where the name of import `j` begins in the loader section, or `None` past the last import that is in it.
+    pub fn import_name_at(&self, j: usize) -> Option<usize>
+        ensures { result ≡ import_name_at (partly_loaded self.now) j }
+    {
+        if j >= self.tables.header.import_count as usize {
+            return None;
+        }
+        let import = read_import(self.tables, j)?;
+        Some(self.tables.header.name(import.name_offset))
+    }
+
     /// Returns relocation header `k`, or `None` past the last one that is in the loader section.
     pub fn relocation(&self, k: usize) -> Option<PartialRelocation<'a>>
         ensures { option_map relocation_seen result ≡ relocation_row (partly_loaded self.now) k }
@@ -336,6 +365,20 @@ impl<'a> PartialLoader<'a> {
     {
         match self.exports {
             Some(exports) => PartialExport::read(exports, i),
+            None => None,
+        }
+    }
+
+    /// Returns where the name of export `i` begins in the loader section, or `None` past the last one and if the export table
+    /// isn't in the loader section as a whole.
+    pub fn export_name_at(&self, i: usize) -> Option<usize>
+        ensures { result ≡ export_name_at (partly_loaded self.now) i }
+    {
+        match self.exports {
+            Some(exports) => {
+                let entry = exports.entry(i)?;
+                Some(self.tables.header.name(entry.name_offset))
+            }
             None => None,
         }
     }

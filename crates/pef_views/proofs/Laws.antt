@@ -14,3 +14,5 @@ pub use Rattle.pef_views.proofs.FindingLemmas.{first_is_reported, unrefused_cont
 pub use Rattle.pef_views.proofs.FindingLemmas.{sections-in-order}
 -- the own bytes of a container are the same container
 pub use Rattle.pef_views.proofs.ExtentLemmas.{kept_whole}
+-- the greatest of some numbers, found one after the other
+pub use Rattle.pef_views.proofs.ExtentLemmas.{greatest-end, greatest-next}
