@@ -47,13 +47,16 @@ fn printed(alloc: Global, inspection: &Inspection<'_, Global>, as_object: bool) 
 }
 
 /// What is printed of 39 bytes, 16 bytes into a file. They have no header, so no command takes them for a container.
-const SHORT_TEXT: &str = "error 1 TooShort container at 00000010\n";
+const SHORT_TEXT: &str = "error 1 TooShort container at 00000010\n\
+verdict cut needs 40 has 39 sections damaged imports damaged exports damaged relocations damaged\n";
 
 const SHORT_OBJECT: &str =
     "{\"offset\":16,\"header\":null,\"sections\":[],\"loader\":null,\"libraries\":[],\"imports\":[],\
      \"relocations\":[],\"exports\":[],\"entries\":{\"main\":null,\"init\":null,\"term\":null},\
      \"errors\":[{\"number\":1,\"name\":\"TooShort\",\"part\":\"header\",\"row\":0,\"field\":null,\
-     \"offset\":16}],\"notes\":[]}";
+     \"offset\":16}],\"notes\":[],\"verdict\":{\"state\":\"cut\",\"needs\":40,\"has\":39,\
+     \"sections\":\"damaged\",\"imports\":\"damaged\",\"exports\":\"damaged\",\"relocations\":\"damaged\",\
+     \"as_text\":false}}";
 
 #[test]
 fn bytes_without_a_header_are_printed(rt: HostRuntime) {

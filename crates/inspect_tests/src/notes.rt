@@ -45,8 +45,13 @@ const ODDITIES: &[Oddity] = &[
     (VECTORS_LEAST, &[(80, 8)], &[(107, 228, 8)], &[]),
     // A key that isn't the hash word of its name.
     (VECTORS_LEAST, &[(236, 0x0002_00A2)], &[(108, 204, 0)], &[]),
-    // The loader section ends before the container.
-    (VECTORS_LEAST, &[(112, 80)], &[], &[(109, 240, 10)]),
+    // The loader section ends before the container, and in its exports, so that nothing has the name at 230.
+    (
+        VECTORS_LEAST,
+        &[(112, 80)],
+        &[],
+        &[(109, 240, 10), (113, 230, 2)],
+    ),
     // The code's raw bytes are 24, and those of the data begin 16 bytes after theirs.
     (VECTORS_LEAST, &[(56, 24)], &[], &[(112, 88, 8)]),
     // A byte between the images that isn't 0.
@@ -56,12 +61,12 @@ const ODDITIES: &[Oddity] = &[
     (SPELLED, &[(188, 0x0004_6600)], &[], &[(114, 180, 4)]),
     // The second program adds to the words at 0 and 4, the first one to that at 4.
     (TWICE, &[], &[], &[(114, 198, 4)]),
-    // 512 words, and 2,048 times 512 more.
+    // 512 words, and 2,048 times 512 more. The last three halfwords are no program's.
     (
         SPELLED,
         &[(172, 3), (180, 0x41FF_B000), (184, 0x0800_0000)],
         &[(107, 180, 8)],
-        &[(110, 168, 0)],
+        &[(113, 186, 6), (110, 168, 0)],
     ),
     // The two sections at 219 share three bytes, and the program goes back to the word at 4.
     (RICH, &[], &[(107, 377, 4)], &[(112, 172, 3), (114, 377, 4)]),

@@ -12,7 +12,8 @@ use Rattle.pef_views.specs.Header.{names_from}
 use Rattle.pef_views.specs.Partial as views
 use Rattle.pef_views.specs.declared.section.SectionHeader.{SectionHeader}
 use Rattle.pef_words.specs.Refusals.{◌>>=◌}
-use Rattle.pef_inspect.specs.Extents.{Extent, greatest_end, last_name, later, name_begins, name_offset, part_note, parts_notes}
+use Rattle.pef_inspect.specs.Extents.{Extent, greatest_end, last_name, later, name_begins, name_offset, parts_notes}
+use Rattle.pef_inspect.specs.declared.finding.Finding.{Finding}
 
 pub last_name-next : (c : Contained) (i n : ℕ) → i < n → last_name c i (n - i) ≡ later (name_offset c i) (last_name c (i + 1) (n - (i + 1)))
 last_name-next c i n under =
@@ -91,9 +92,9 @@ greatest_end-more (x ∷ extents) e =
     rw rest (sym (max-assoc x.2 (greatest_end extents) e.2))
 
 -- the note on a part, and those on the parts after it
-pub parts_notes-next : (c : Contained) (extents : List Extent) (i : ℕ) (d : Extent) → i < length extents → parts_notes c (take i extents) (drop i extents) ≡ option_to_list (part_note c (greatest_end (take i extents)) (get_or extents i d)) ++ parts_notes c (take (i + 1) extents) (drop (i + 1) extents)
-parts_notes-next c extents i d under =
+pub parts_notes-next : (note : ℕ → Extent → Option Finding) (extents : List Extent) (i : ℕ) (d : Extent) → i < length extents → parts_notes note (take i extents) (drop i extents) ≡ option_to_list (note (greatest_end (take i extents)) (get_or extents i d)) ++ parts_notes note (take (i + 1) extents) (drop (i + 1) extents)
+parts_notes-next note extents i d under =
     let e : suc i ≡ i + 1 = omega arith in
     let left : drop i extents ≡ get_or extents i d ∷ drop (i + 1) extents = drop-cons extents i d under ∙ ap (λ n. get_or extents i d ∷ drop n extents) e in
-    ap (parts_notes c (take i extents)) left
-    ∙ ap (λ front. option_to_list (part_note c (greatest_end (take i extents)) (get_or extents i d)) ++ parts_notes c front (drop (i + 1) extents)) (sym (take_more extents i d under))
+    ap (parts_notes note (take i extents)) left
+    ∙ ap (λ front. option_to_list (note (greatest_end (take i extents)) (get_or extents i d)) ++ parts_notes note front (drop (i + 1) extents)) (sym (take_more extents i d under))

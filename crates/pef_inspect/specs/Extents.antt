@@ -6,6 +6,7 @@ use Rattle.std.specs.Option.{option_map_or, option_to_list, unwrap_or}
 use Rattle.std.specs.Ordering.{nat_cmp, ordering_then}
 use Rattle.std.specs.declared.cmp.Ordering.{Ordering}
 use Rattle.pef_format.specs.declared.place.Part.TheVariants as part
+use Rattle.pef_format.specs.declared.place.Place.{Place}
 use Rattle.pef_views.specs.Container.{Contained}
 use Rattle.pef_views.specs.Header.{names_from}
 use Rattle.pef_views.specs.Partial as views
@@ -89,11 +90,11 @@ are_zero (b ∷ bytes) = b == 0 && are_zero bytes
 abbrev pub is_padding : List ℕ → Bool
 is_padding bytes = nat_lt (length bytes) 16 && are_zero bytes
 
--- the note on the bytes between two parts
-unfoldable pub gap_note : Contained → ℕ → ℕ → Option Finding
-gap_note c from to =
-    if option_map_or is_padding (part_of c.bytes from (to - from)) false then None
-    else Some (note_finding (UnownedBytes (to - from)) (whole_place from))
+-- the note on the bytes between two parts, by the place of the first of them
+unfoldable pub gap_note : List ℕ → Place → ℕ → ℕ → Option Finding
+gap_note bytes place from to =
+    if option_map_or is_padding (part_of bytes from (to - from)) false then None
+    else Some (note_finding (UnownedBytes (to - from)) place)
 
 -- the note on the bytes that a section shares with the parts before it
 unfoldable pub overlap_note : Contained → ℕ → ℕ → Option Finding
@@ -101,19 +102,19 @@ overlap_note c which len = if which == 0 || len == 0 then None else Some (note_a
 
 -- the note on a part, if the parts before it end here
 abbrev pub part_note : Contained → ℕ → Extent → Option Finding
-part_note c end e = if nat_lt end e.0 then gap_note c end e.0 else overlap_note c e.1 (min end e.2 - e.0)
+part_note c end e = if nat_lt end e.0 then gap_note c.bytes (whole_place end) end e.0 else overlap_note c e.1 (min end e.2 - e.0)
 
 -- the note on the bytes after all parts
 abbrev pub trailing_note : Contained → ℕ → Option Finding
 trailing_note c end = if nat_lt end (length c.bytes) then Some (note_finding (TrailingBytes (length c.bytes - end)) (whole_place end)) else None
 
--- the notes on some parts, each beside those before it
-abbrev pub parts_notes : Contained → List Extent → List Extent → List Finding
-parts_notes c before [] = []
-parts_notes c before (e ∷ extents) = option_to_list (part_note c (greatest_end before) e) ++ parts_notes c (before ++ e ∷ []) extents
+-- the notes on some parts, each beside those before it, by the note on a part after the end of those
+abbrev pub parts_notes : (ℕ → Extent → Option Finding) → List Extent → List Extent → List Finding
+parts_notes note before [] = []
+parts_notes note before (e ∷ extents) = option_to_list (note (greatest_end before) e) ++ parts_notes note (before ++ e ∷ []) extents
 
 abbrev pub extent_notes : Contained → List Extent → List Finding
-extent_notes c extents = parts_notes c [] extents ++ option_to_list (trailing_note c (greatest_end extents))
+extent_notes c extents = parts_notes (part_note c) [] extents ++ option_to_list (trailing_note c (greatest_end extents))
 
 -- these are the parts of a container, in their order
 pub record AreParts (c : Contained) (extents : List Extent) : Type 0 where

@@ -8,6 +8,7 @@ pub mod Limits
 pub mod More
 pub mod Notes
 pub mod Runs
+pub mod LoaderParts
 pub mod Loads
 pub mod Oddities
 pub mod PartsSeen

@@ -1,12 +1,13 @@
-ghost use Rattle.std.specs.Prelude.{◌≡◌, ◌++◌, ◌∷◌, ◌-◌, [], IfOk, OnOk, Some, zero};
+ghost use Rattle.std.specs.Prelude.{◌≡◌, ◌++◌, ◌∷◌, ◌-◌, ℕ, [], IfOk, OnOk, Option, Some, zero};
 ghost use Rattle.std.specs.Option.{option_to_list};
 ghost use Rattle.pef_views.specs.PartialViews.{partly};
+ghost use Rattle.pef_inspect.specs.declared.finding.Finding.{Finding};
 ghost use Rattle.pef_inspect.specs.Extents.{AddsExtents, AreParts, Extent, are_zero, extent_in, extents_of, gap_note, greatest_end, head_extent, is_padding, last_name, later, name_begins, name_end, name_offset, names_end, overlap_note, part_note, parts_notes, raw_end, section_extent, trailing_note};
 
 use crate::finding::{Finding, whole_place};
 use crate::note::Note;
-use pef_format::Part;
 use pef_format::layout::CONTAINER_OFFSET_AT;
+use pef_format::{Part, Place};
 use pef_loader::partial_place;
 use pef_views::{PartialContainer, SectionHeader};
 use pef_words::Cut;
@@ -17,7 +18,7 @@ const ALIGNED: usize = 16;
 
 /// A run of bytes that belongs to a part: where it begins, the number of its section and 1, or 0 for the headers and the names,
 /// and where it ends. Runs are sorted by their beginnings.
-type Extent = (usize, u32, usize);
+pub(crate) type Extent = (usize, u32, usize);
 
 /// Adds the notes on bytes that two parts have, on bytes between parts that belong to none, and on bytes after the last part.
 pub(crate) fn add_extents<A: Allocator + Copy>(
@@ -28,7 +29,7 @@ pub(crate) fn add_extents<A: Allocator + Copy>(
     ensures { OnOk result (AddsExtents (partly container.now) found.old.items found.new.items) }
 {
     let extents = sorted_extents(alloc, container)?;
-    let end = compare(container, &extents, found)?;
+    let end = compare(&ContainerParts { container }, &extents, found)?;
     push_some(trailing_note(container, end), found)?;
     Ok(())
 }
@@ -45,18 +46,45 @@ fn sorted_extents<A: Allocator + Copy>(
     Ok(extents)
 }
 
+/// Parts that are looked at in the order of their beginnings.
+pub(crate) trait NotedParts {
+    /// The note on a part, if the parts before it end at an offset.
+    ghost note: { Self → ℕ → Extent → Option Finding };
+
+    /// Returns the note on a part, if the parts before it end at `end`.
+    fn note(&self, end: usize, part: Extent) -> Option<Finding>
+        ensures { result ≡ note self.now end part };
+}
+
+/// The parts of a container.
+#[derive(Clone, Copy)]
+struct ContainerParts<'c, 'a> {
+    container: &'c PartialContainer<'a>,
+}
+
+impl<'c, 'a> NotedParts for ContainerParts<'c, 'a> {
+    ghost use Rattle.pef_views.specs.PartialViews.{partly};
+    ghost use Rattle.pef_inspect.specs.Extents.{part_note};
+
+    ghost note = { λ parts end part. part_note (partly parts.container.now) end part };
+
+    fn note(&self, end: usize, part: Extent) -> Option<Finding> {
+        part_note(self.container, end, part)
+    }
+}
+
 /// Adds the notes on parts, each beside those before it, and returns where the last of them ends.
-fn compare<A: Allocator>(
-    container: &PartialContainer<'_>,
+pub(crate) fn compare<P: NotedParts, A: Allocator>(
+    parts: &P,
     extents: &[Extent],
     found: &mut Vec<Finding, A>,
 ) -> Result<usize, AllocError>
     ensures end { IfOk result (λ end. end ≡ greatest_end extents.now) }
-    ensures notes { OnOk result (found.new.items ≡ found.old.items ++ parts_notes (partly container.now) [] extents.now) }
+    ensures notes { OnOk result (found.new.items ≡ found.old.items ++ parts_notes (P.note parts.now) [] extents.now) }
 {
     let mut end = 0;
     for extent in extents {
-        push_some(part_note(container, end, *extent), found)?;
+        push_some(parts.note(end, *extent), found)?;
         end = end.max(extent.2);
     }
     Ok(end)
@@ -84,21 +112,21 @@ fn part_note(container: &PartialContainer<'_>, end: usize, extent: Extent) -> Op
 {
     let (from, part, to) = extent;
     if end < from {
-        gap_note(container, end, from)
+        gap_note(container.bytes(), whole_place(end), end, from)
     } else {
         overlap_note(container, part, end.min(to).saturating_sub(from))
     }
 }
 
-/// Returns the note on bytes that belong to no part, unless they only align the next one.
+/// Returns the note on bytes that belong to no part and begin at a place, unless they only align the next part.
 #[tactic(auto, unfolding(crate::specs::Extents::gap_note))]
-fn gap_note(container: &PartialContainer<'_>, from: usize, to: usize) -> Option<Finding>
-    ensures { result ≡ gap_note (partly container.now) from to }
+pub(crate) fn gap_note(bytes: &[u8], place: Place, from: usize, to: usize) -> Option<Finding>
+    ensures { result ≡ gap_note bytes.now place from to }
 {
     let length = to.saturating_sub(from);
-    match Cut::new(container.bytes()).part(from, length) {
+    match Cut::new(bytes).part(from, length) {
         Some(gap) if is_padding(gap.bytes()) => None,
-        _ => Some(Finding::of_note(Note::UnownedBytes { length }, whole_place(from))),
+        _ => Some(Finding::of_note(Note::UnownedBytes { length }, place)),
     }
 }
 
@@ -205,7 +233,7 @@ fn names_end(container: &PartialContainer<'_>) -> usize
 }
 
 /// Returns where the zero-ended name at an offset ends.
-fn name_end(bytes: &[u8], from: usize) -> Option<usize>
+pub(crate) fn name_end(bytes: &[u8], from: usize) -> Option<usize>
     ensures { result ≡ name_end bytes.now from }
 {
     let name = Cut::new(bytes).name_at(from)?;

@@ -13,6 +13,7 @@ mod finding;
 mod images;
 mod left;
 mod limits;
+mod loader_parts;
 mod more;
 mod note;
 mod notes;

@@ -4,12 +4,13 @@ ghost use Rattle.pef_inspect.specs.More.{AreMore, AreMoreWithin};
 use crate::extents::add_extents;
 use crate::finding::Finding;
 use crate::limits::Limits;
+use crate::loader_parts::add_gaps;
 use crate::twice::add_twice;
 use pef_views::PartialContainer;
 use std::alloc::{AllocError, Allocator};
 
 /// Returns the notes that need memory: bytes that two parts have, bytes between parts that belong to none, bytes after the
-/// last part, and the first word of each program to which it or an earlier one has already added. Programs with too many words
+/// last part, bytes of the loader section that belong to none of its parts, and the first word of each program to which it or an earlier one has already added. Programs with too many words
 /// together aren't searched for such words, and the note on programs that weren't verified says from which one on.
 ///
 /// # Errors
@@ -42,6 +43,7 @@ pub fn find_more_notes_within<A: Allocator + Copy>(
     match PartialContainer::read(bytes) {
         Ok(container) => {
             add_extents(alloc, &container, &mut found)?;
+            add_gaps(alloc, &container, &mut found)?;
             add_twice(alloc, &container, limits, &mut found)?;
             Ok(found)
         }

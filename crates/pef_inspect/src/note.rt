@@ -29,7 +29,7 @@ pub enum Note {
     ImagesUnverified,
     /// A part has bytes that an earlier part has, too. `length` bytes of the part are shared.
     Overlap { length: usize },
-    /// `length` bytes belong to no part.
+    /// `length` bytes belong to no part: of the container, or of its loader section if the place is there.
     UnownedBytes { length: usize },
     /// An address is added to a word to which one was added already, by the same program or by an earlier one of the section.
     /// `word` is its offset in the section. The note is at the beginning of the program, once for its first such word.
