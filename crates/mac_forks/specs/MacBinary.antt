@@ -117,6 +117,10 @@ resource_fork_from h = data_fork_from h + padded h.data_length
 abbrev pub comment_from : MacBinaryHeader → ℕ
 comment_from h = resource_fork_from h + padded h.resource_length
 
+-- .. and where the last part ends, with the zeros that follow it
+abbrev pub end_of : MacBinaryHeader → ℕ
+end_of h = comment_from h + padded h.extension.comment_length
+
 -- the error of a part that passes the end
 abbrev pub cut_of : ForkFault → Option Lying → Option ForkFault
 cut_of fault None = Some fault

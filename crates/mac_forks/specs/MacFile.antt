@@ -9,7 +9,7 @@ use Rattle.mac_forks.specs.declared.mac_binary.MacBinaryCuts.{MacBinaryCuts}
 use Rattle.mac_forks.specs.declared.mac_file.ForkFormat.{ForkFormat}
 use Rattle.mac_forks.specs.declared.mac_file.ForkFormat.TheVariants.{Bare, MacBinary1, MacBinary2, MacBinary3, AppleSingle, AppleDouble}
 use Rattle.mac_forks.specs.Apple.{AppleIs, apple_of, is_apple, is_double, part_with, with_finder_information}
-use Rattle.mac_forks.specs.MacBinary.{MacBinaryIs, finder_in, mac_binary_of}
+use Rattle.mac_forks.specs.MacBinary.{MacBinaryIs, end_of, finder_in, mac_binary_of}
 use Rattle.mac_forks.specs.Parts.{Lying}
 
 -- a file: its bytes, or what it is in one of the formats
@@ -51,6 +51,12 @@ abbrev pub cuts_of : MacFileIs → MacBinaryCuts
 cuts_of (bare bytes) = no_cuts
 cuts_of (mac_binary m) = m.cuts
 cuts_of (apple a) = no_cuts
+
+-- where the parts of MacBinary end
+abbrev pub end_in : MacFileIs → Option ℕ
+end_in (bare bytes) = None
+end_in (mac_binary m) = Some (end_of m.header)
+end_in (apple a) = None
 
 -- the forks, the name and the comment; none if the file doesn't have it
 abbrev pub data_fork_in : MacFileIs → Option (Result Lying ForkFault)

@@ -6,6 +6,7 @@ ghost use Rattle.mac_forks.specs.MacBinary.{
   cut_of,
   cuts_in,
   data_fork_from,
+  end_of,
   extension_of,
   fault_among,
   finder_in,
@@ -140,6 +141,13 @@ impl<'a> MacBinary<'a> {
             comment: comment_in(cut, header),
             cuts,
         })
+    }
+
+    /// Returns where the last part of the file ends, with the zeros that follow it.
+    pub fn end(&self) -> usize
+        ensures { result ≡ end_of self.now.header }
+    {
+        end_of(self.header)
     }
 
     /// Returns the fields of the header that are the Finder's.
@@ -335,7 +343,15 @@ fn resource_fork_at(header: MacBinaryHeader) -> usize
 
 /// Returns where the comment begins.
 fn comment_at(header: MacBinaryHeader) -> usize
-    ensures { result ≡ comment_from header }
+    ensures value { result ≡ comment_from header }
+    ensures small { result < 2 ^ 34 }
 {
     resource_fork_at(header) + padded(header.resource_length as usize)
+}
+
+/// Returns where the comment ends, with the zeros that follow it.
+fn end_of(header: MacBinaryHeader) -> usize
+    ensures { result ≡ end_of header }
+{
+    comment_at(header) + padded(usize::from(header.extension.comment_length))
 }

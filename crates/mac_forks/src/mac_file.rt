@@ -4,6 +4,7 @@ ghost use Rattle.mac_forks.specs.MacFile.{
   comment_in,
   cuts_of,
   data_fork_in,
+  end_in,
   fault_in,
   finder_of_file,
   format_of,
@@ -104,6 +105,16 @@ impl<'a> MacFile<'a> {
         match self {
             MacFile::MacBinary(file) => file.cuts,
             MacFile::Bare(_) | MacFile::Apple(_) => NO_CUTS,
+        }
+    }
+
+    /// Returns where the parts of MacBinary end, with the zeros that follow the last one. The other formats have no end.
+    pub fn end(&self) -> Option<usize>
+        ensures { result ≡ end_in (mac_file_seen self.now) }
+    {
+        match self {
+            MacFile::MacBinary(file) => Some(file.end()),
+            MacFile::Bare(_) | MacFile::Apple(_) => None,
         }
     }
 
