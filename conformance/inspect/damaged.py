@@ -286,8 +286,10 @@ error 18 RelocOutside reloc 1 relocCount at 0000019C
 note 101 ReservedNotZero reloc 1 reservedA at 0000019A""")
     case("library-name-outside", "138 7FFFFFFF", "error 13 BadName library 0 nameOffset at 00000138")
     case("import-name-outside", "16D FFFFFF", "error 13 BadName import 1 classAndName at 0000016C")
+    # The strings are from 19C to the slots at 1B4.
     case("strings-outside", "128 FFFFFFFF", """
 note 108 IrregularExports loader exportHashOffset at 0000012C
+note 113 UnownedBytes loader at 0000019C length 24
 error 13 BadName library 0 nameOffset at 00000138
 error 13 BadName library 1 nameOffset at 00000150
 error 13 BadName import 0 classAndName at 00000168
@@ -317,7 +319,9 @@ note 105 EntryOutside main mainOffset at 00000104
 note 105 EntryOutside init initOffset at 0000010C""")
     case("program-of-no-section", "174 0003", "error 17 BadRelocSection reloc 0 sectionIndex at 00000174")
     case("program-too-long", "184 00001000", "error 18 RelocOutside reloc 1 relocCount at 00000184")
+    # Both programs together have 16 bytes from 18C on.
     case("program-far-away", "17C 80000000, 188 FFFFFFFF", """
+note 113 UnownedBytes loader at 0000018C length 16
 error 18 RelocOutside reloc 0 relocCount at 00000178
 error 18 RelocOutside reloc 1 relocCount at 00000184""")
     case("library-and-program-reserved", "14D 000001, 165 800000, 182 0100", """
@@ -328,10 +332,15 @@ note 101 ReservedNotZero reloc 1 reservedA at 00000182""")
 
 
 def exports() -> None:
-    case("power-31", "130 0000001F", "error 19 BadExportTable loader exportHashOffset at 0000012C")
+    # Without a table no export is read, and nothing has their names: the other names end at 1AF, and the section at 1E2.
+    case("power-31", "130 0000001F", """
+error 19 BadExportTable loader exportHashOffset at 0000012C
+note 113 UnownedBytes loader at 000001AF length 51""")
     # 4 + 4 x 4 + 4 x 10 bytes from 1B4 on pass the end at 1E2.
-    case("one-export-too-many", "134 00000004", "error 19 BadExportTable loader exportHashOffset at 0000012C")
-    case("no-exports-and-power-31", "130 0000001F 00000000", "")
+    case("one-export-too-many", "134 00000004", """
+error 19 BadExportTable loader exportHashOffset at 0000012C
+note 113 UnownedBytes loader at 000001AF length 5""")
+    case("no-exports-and-power-31", "130 0000001F 00000000", "note 113 UnownedBytes loader at 000001AF length 51")
     case("export-sections", "1CC 0003, 1D6 FFFC, 1DC 00000003", """
 error 20 BadExportSection export 0 sectionIndex at 000001CC
 error 20 BadExportSection export 1 sectionIndex at 000001D6
@@ -355,7 +364,10 @@ def packed_data() -> None:
 
 def programs() -> None:
     case("program-bad-opcode", "190 4C00", "error 31 BadOpcode reloc 0 halfword 2 at 00000190")
-    case("program-cut", "178 00000005", "error 32 CutInstruction reloc 0 halfword 4 at 00000194")
+    # Two halfwords are left between the programs.
+    case("program-cut", "178 00000005", """
+note 113 UnownedBytes loader at 00000196 length 4
+error 32 CutInstruction reloc 0 halfword 4 at 00000194""")
     case("repeat-of-four-halfwords", "18E 9300", "error 33 RepeatTooFar reloc 0 halfword 1 at 0000018E")
     case("repeat-of-half-an-instruction", "198 9000", "error 34 RepeatCuts reloc 0 halfword 6 at 00000198")
     case("repeat-of-a-repeat", "18E 9000 9000", "error 35 NestedRepeat reloc 0 halfword 2 at 00000190")
@@ -379,6 +391,7 @@ note 107 WordOutsideImage reloc 1 halfword 0 at 0000019A word 00000010""")
 note 114 WordRelocatedTwice reloc 1 halfword 0 at 0000019A word 00000004""")
     # Program 0 adds to word 0 twice, and then to 4. Program 1 is its last two instructions, which add to word 4.
     case("word-of-a-program-after-one-twice", "18C 4000 A000 0000 4000 4A02 8003 4200, 180 0002 0000 00000002 0000000A", """
+note 113 UnownedBytes loader at 0000019A length 2
 note 114 WordRelocatedTwice reloc 0 halfword 0 at 0000018C word 00000000
 note 114 WordRelocatedTwice reloc 1 halfword 0 at 00000196 word 00000004""")
 
@@ -505,7 +518,8 @@ def truncated() -> None:
     sections_outside = [f"error 6 SectionOutside section {i} containerOffset at {0x3C + 28 * i:08X}" for i in range(5)]
     case("cut-by-a-byte", "", sections_outside[4], cut=0x1EB)
     case("cut-in-the-exports", "", "\n".join([*sections_outside[3:], """
-error 19 BadExportTable loader exportHashOffset at 0000012C""".strip()]), cut=0x1E1)
+error 19 BadExportTable loader exportHashOffset at 0000012C
+note 113 UnownedBytes loader at 000001AF length 5""".strip()]), cut=0x1E1)
     # 112 bytes of the loader section: the libraries are whole, and the imports aren't.
     case("cut-in-the-imports", "", "\n".join([*sections_outside[3:], """
 error 12 BadTableOffset loader importedLibraryCount at 00000118
@@ -671,9 +685,11 @@ note 109 TrailingBytes container at 00000274 length 4
 error 9 BadAlignment section 0 alignment at 000000CA""", 0x88)
     # The data fork ends 11 bytes before the container's end, so the last export is cut. The file goes on with the resource fork.
     inside("macbinary-cut", mac_binary(b"not yet." + WHOLE[:0x1E1], calc), "macbinary", """
+note 118 FragmentShort fragment 0 at 000002B4 length 11
 error 6 SectionOutside section 3 containerOffset at 00000118
 error 6 SectionOutside section 4 containerOffset at 00000134
-error 19 BadExportTable loader exportHashOffset at 000001B4""", 0x88)
+error 19 BadExportTable loader exportHashOffset at 000001B4
+note 113 UnownedBytes loader at 00000237 length 5""", 0x88)
     # The file was cut: inside the container, and 20 bytes after the beginning of the resource fork.
     whole = mac_binary(b"not yet." + WHOLE, calc)
     inside("macbinary-broken-off", whole[: 0x88 + 0x1E1], "macbinary", """
@@ -681,7 +697,8 @@ error 76 DataForkCut fork at 00000053
 error 77 ResourceForkCut fork at 00000057
 error 6 SectionOutside section 3 containerOffset at 00000118
 error 6 SectionOutside section 4 containerOffset at 00000134
-error 19 BadExportTable loader exportHashOffset at 000001B4""", 0x88)
+error 19 BadExportTable loader exportHashOffset at 000001B4
+note 113 UnownedBytes loader at 00000237 length 5""", 0x88)
     inside("macbinary-resources-broken-off", whole[: 0x280 + 20], "macbinary", """
 error 77 ResourceForkCut fork at 00000057
 error 87 ResourceMapOutside resource at 00000284""", 0x88)
@@ -743,6 +760,7 @@ error 83 BadAppleVersion fork at 00000004
 {trailing}{found}""", 0x32)
     inside("applesingle-data-outside", changed(both, "22 000003E8"), "applesingle", f"""
 error 85 AppleEntryOutside fork 0 at 0000001E
+note 119 DataForkElsewhere fragment 0 at 00000252
 {trailing}{found}""", 0x32)
     inside("applesingle-resources-outside", changed(both, "2E 000003E8"), "applesingle", f"""
 error 85 AppleEntryOutside fork 1 at 0000002A
@@ -755,7 +773,46 @@ error 84 AppleEntryCut fork 55 at 000002AE
     inside("applesingle-truncated-in-rows", both[:0x2A], "applesingle", """
 error 84 AppleEntryCut fork 1 at 00000026
 error 85 AppleEntryOutside fork 0 at 0000001E""")
-    inside("appledouble", apple(0x00051607, [(2, resource_fork(b"cfrg", 0, fragments((b"Calc", 1, 0, 0))))]), "appledouble", "")
+    # The resource fork is at 26, its resource at 3A, and the member at 5A. Alone it is at 0, and the member at 34.
+    inside("appledouble", apple(0x00051607, [(2, resource_fork(b"cfrg", 0, fragments((b"Calc", 1, 0, 0))))]), "appledouble",
+           "note 119 DataForkElsewhere fragment 0 at 0000005A")
+    inside("resources-alone", resource_fork(b"cfrg", 0, fragments((b"Calc", 1, 0, 0))), "resources",
+           "note 119 DataForkElsewhere fragment 0 at 00000034")
+
+
+def file_notes() -> None:
+    calc = resource_fork(b"cfrg", 0, fragments((b"Calc", 1, 0, 0)))
+    # The data fork has 492 bytes from 80 on and is filled up to 280. The resource fork has 150 from there, and is filled up to 380.
+    binary = mac_binary(WHOLE, calc)
+    binary += bytes(0x380 - len(binary))
+    inside("macbinary-filled", binary, "macbinary", "", 0x80)
+    inside("macbinary-and-more", binary + b"more", "macbinary", "note 117 BytesAfterForks fork at 00000380 length 4", 0x80)
+    # The resource fork is at 280, its resource at 294, and the member at 2B4. The container needs 492 bytes, and the member has 400.
+    short = mac_binary(WHOLE, resource_fork(b"cfrg", 0, fragments((b"Calc", 1, 0, 400))))
+    inside("fragment-short", short, "macbinary", "note 118 FragmentShort fragment 0 at 000002B4 length 92", 0x80)
+    for name, contents, words in (
+        ("stuffit", b"SIT!" + bytes(60), "stuffit open unar"),
+        ("stuffit-5", b"StuffIt (c)1997-2001 Aladdin Systems, Inc.", "stuffit open unar"),
+        ("binhex", b"(This file must be converted with BinHex 4.0)\r\r:", "binhex open unar"),
+        ("zip", b"PK\3\4" + bytes(26), "zip open unzip"),
+        ("partitions", b"ER" + bytes(510) + b"PM" + bytes(510), "partitions open 7z"),
+        ("hfs", bytes(1024) + b"BD" + bytes(34) + b"\4Disk" + bytes(471), "hfs open hfsutils"),
+        ("hfsplus", bytes(1024) + b"H+\0\4" + bytes(508), "hfsplus open 7z"),
+        ("hfsx", bytes(1024) + b"HX\0\5" + bytes(508), "hfsplus open 7z"),
+        ("iso9660", bytes(32768) + b"\1CD001" + bytes(2042), "iso9660 open 7z"),
+        ("diskcopy", b"\4Disk" + bytes(59) + struct.pack(">II", 24, 4) + bytes(10) + b"\1\0" + bytes(28), "diskcopy open hfsutils"),
+        ("compactpro", b"\1\1" + bytes(2) + struct.pack(">I", 12) + bytes(12), "compactpro open unar"),
+    ):
+        inside(f"format-{name}", contents, "other", f"note 120 NotUnpacked fork at 00000000 format {words}")
+    for name, contents in (
+        ("hfs-without-name", bytes(1024) + b"BD" + bytes(510)),
+        ("diskcopy-of-another-length", b"\4Disk" + bytes(59) + struct.pack(">II", 24, 4) + bytes(10) + b"\1\0" + bytes(29)),
+        ("compactpro-without-directory", b"\1\1" + bytes(2) + struct.pack(">I", 14) + bytes(12)),
+        ("hfsplus-of-another-version", bytes(1024) + b"H+\0\5" + bytes(508)),
+    ):
+        inside(f"no-{name}", contents, "other", "")
+    archive = mac_binary(b"SIT!" + bytes(60), b"")
+    inside("stuffit-in-macbinary", archive, "macbinary", "note 120 NotUnpacked fork at 00000080 format stuffit open unar")
 
 
 # A MacBinary file whose member has another number in each field: its version is 1.2b3, its oldest definition 1.0.
@@ -824,5 +881,5 @@ def loader_among(count: int, place: int) -> bytes:
     return head + other * place + own + other * (count - place - 1) + STUB[0x60:0xD2]
 
 
-for group in container_header, sections, order_of_sections, loader, exports, packed_data, programs, several, truncated, limits, other_files:
+for group in container_header, sections, order_of_sections, loader, exports, packed_data, programs, several, truncated, limits, other_files, file_notes:
     group()

@@ -4,6 +4,7 @@ use Rattle.cfm_members.specs.Contents.{rest_from}
 use Rattle.cfm_members.specs.Search.{containers_in}
 use Rattle.mac_report.specs.Containers.{Walks, fresh_tally, tallied, total}
 use Rattle.mac_report.specs.Faults.{faults_of}
+use Rattle.mac_report.specs.FileNotes.{notes_of}
 use Rattle.mac_report.specs.Parts.{AreContainers, PartsJoin}
 use Rattle.mac_report.specs.declared.file.Form.TheVariants.{Json}
 use Rattle.mac_report.specs.declared.tally.Tally.{Tally}
@@ -22,7 +23,7 @@ walks bytes (at ∷ places) text tally last are =
 pub parts_join : PartsJoin
 parts_join path bytes other containers last are =
     let walked = walks bytes (containers_in bytes 0) containers (fresh_tally bytes) last are in (
-      total walked.0 (length (faults_of other bytes)),
+      total walked.0 (length (faults_of other bytes)) (length (notes_of other bytes)),
       record {
         containers = containers;
         tally = walked.0;

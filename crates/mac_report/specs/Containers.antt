@@ -70,7 +70,7 @@ lacking_line at = codes "error 99 OutOfMemory container at " ++ at_text at ++ co
 unfoldable pub lacking_object : ℕ → List ℕ
 lacking_object at =
     codes "{\"offset\":" ++ decimal at
-    ++ codes ",\"header\":null,\"sections\":[],\"loader\":null,\"libraries\":[],\"imports\":[],\"relocations\":[],\"exports\":[],\"entries\":{\"main\":null,\"init\":null,\"term\":null},\"errors\":[{\"number\":99,\"name\":\"OutOfMemory\",\"part\":null,\"row\":null,\"field\":null,\"offset\":null}],\"notes\":[]}"
+    ++ codes ",\"header\":null,\"sections\":[],\"loader\":null,\"libraries\":[],\"imports\":[],\"relocations\":[],\"exports\":[],\"entries\":{\"main\":null,\"init\":null,\"term\":null},\"errors\":[{\"number\":99,\"name\":\"OutOfMemory\",\"part\":null,\"row\":null,\"field\":null,\"offset\":null}],\"notes\":[],\"verdict\":null}"
 
 abbrev pub lacking_text : Form → Bool → ℕ → List ℕ
 lacking_text Text is_first at = lacking_line at
@@ -131,11 +131,11 @@ Walks form bytes before (at ∷ places) text after =
     (here : List ℕ) × (between : Tally) × (others : List ℕ)
     × Steps form bytes before at here between × Walks form bytes between places others after × (text ≡ here ++ others)
 
--- the counts of a file with so many errors besides those of its containers. All containers that weren't inspected are one
--- note
-abbrev pub total : Tally → ℕ → Counts
-total t errors = record {
+-- the counts of a file with so many errors and notes besides those of its containers. All containers that weren't inspected
+-- are one more note
+abbrev pub total : Tally → ℕ → ℕ → Counts
+total t errors notes = record {
   containers = t.turn.containers;
   errors = up_to (t.errors + errors);
-  notes = up_to (t.notes + (if nat_lt 0 t.turn.skipped then 1 else 0));
+  notes = up_to (up_to (t.notes + notes) + (if nat_lt 0 t.turn.skipped then 1 else 0));
 }

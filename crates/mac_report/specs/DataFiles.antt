@@ -1,6 +1,7 @@
 -- The other file that has the data fork, if a file has the resource fork alone: what its members are looked up in, and what
 -- is printed of it. Which files can be such a pair is this project's own.
 use Rattle.std.specs.Prelude.{ℕ, Bool, true, false, List, ◌++◌, Option, None, Some, Result, Ok, Err, codes, decimal}
+use Rattle.pef_words.specs.Refusals.{◌>>=◌}
 use Rattle.mac_forks.specs.MacFile.{MacFileIs, mac_file_of}
 use Rattle.mac_forks.specs.Parts.{Lying}
 use Rattle.mac_forks.specs.declared.fault.ForkFault.{ForkFault}
@@ -13,7 +14,8 @@ use Rattle.cfm_members.specs.declared.file_kind.FileKind.{FileKind}
 use Rattle.cfm_members.specs.declared.file_kind.FileKind.TheVariants.{Container, MacBinary, AppleSingle, AppleDouble, DamagedApple, ResourceFork, Other}
 use Rattle.pef_ports.specs.Names.{name_text}
 use Rattle.pef_report.specs.Tokens.{path_text}
-use Rattle.mac_report.specs.MacParts.{resources_in, wrapping_of}
+use Rattle.mac_report.specs.MacParts.{SceneIs, WrappingIs, resources_in, scene_of, wrapping_of}
+use Rattle.mac_report.specs.declared.scene.Found.{Found}
 
 -- the file that has the data fork
 pub record DataFileIs : Type 0 where
@@ -29,6 +31,21 @@ data_fork_in bytes (Err fault) = None
 abbrev pub members_fork : Option DataFileIs → Option (Result Lying ForkFault) → Option Lying
 members_fork None own = readable own
 members_fork (Some other) own = data_fork_in other.bytes (mac_file_of other.bytes)
+
+-- a table of fragments without its error
+abbrev pub whole_scene : Option (Result SceneIs Found) → Option SceneIs
+whole_scene None = None
+whole_scene (Some (Ok s)) = Some s
+whole_scene (Some (Err found)) = None
+
+abbrev pub scene_at : Option Lying → ℕ → Option (Result ForkIs ResourceFault) → Option SceneIs
+scene_at data_fork base None = None
+scene_at data_fork base (Some (Ok fork)) = whole_scene (scene_of data_fork base fork)
+scene_at data_fork base (Some (Err fault)) = None
+
+-- the table of fragments of a file, if it can be read
+abbrev pub scene_in : Option DataFileIs → WrappingIs → Option SceneIs
+scene_in other w = readable w.resource_fork >>= (λ part. scene_at (members_fork other w.data_fork) part.offset (resources_in part))
 
 -- a file can be a data fork whose resource fork is in another file
 abbrev pub is_fork_kind : FileKind → Bool

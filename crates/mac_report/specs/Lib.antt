@@ -1,5 +1,6 @@
 pub mod Containers
 pub mod DataFiles
+pub mod FileNotes
 pub mod Faults
 pub mod Forks
 pub mod Founds

@@ -4,7 +4,7 @@ use Rattle.std.specs.Prelude.{ℕ, ◌+◌, ◌%◌, ◌^◌, ◌==◌, pos, Lis
 use Rattle.std.specs.Int.{cast_signed, w16}
 use Rattle.pef_words.specs.Refusals.{◌>>=◌, first_among}
 use Rattle.mac_forks.specs.Apple.{AppleIs, entry_of}
-use Rattle.mac_forks.specs.MacFile.{MacFileIs, apple, bare, cuts_of, data_fork_in, fault_in, mac_binary, mac_file_of, no_cuts}
+use Rattle.mac_forks.specs.MacFile.{MacFileIs, apple, bare, cuts_of, data_fork_in, end_in, fault_in, mac_binary, mac_file_of, no_cuts}
 use Rattle.mac_forks.specs.declared.mac_binary.MacBinaryCuts.{MacBinaryCuts}
 use Rattle.mac_forks.specs.Parts.{Lying}
 use Rattle.mac_forks.specs.declared.apple.AppleEntry.{AppleEntry}
@@ -21,10 +21,12 @@ use Rattle.cfm_members.specs.declared.member.Locator.TheVariants as locator
 use Rattle.mac_report.specs.Sums.{up_to}
 use Rattle.mac_report.specs.declared.scene.Found.{Found}
 
--- the error of a file's header, that of its rows of entries, and its forks, each with the error of its entry
+-- the error of a file's header, where the parts of MacBinary end, the error of its rows of entries, and its forks, each with the
+-- error of its entry
 pub record WrappingIs : Type 0 where
   pub fault : Option ForkFault
   pub cuts : MacBinaryCuts
+  pub end : Option ℕ
   pub cut : Option ForkFault
   pub data_fork : Option (Result Lying ForkFault)
   pub resource_fork : Option (Result Lying ForkFault)
@@ -52,8 +54,8 @@ cut_in (apple a) = first_among (row_error_at a) 0 a.header.entry_count
 
 abbrev pub wrapping_in : List ℕ → Result MacFileIs ForkFault → WrappingIs
 wrapping_in bytes (Ok file) =
-    record { fault = fault_in file; cuts = cuts_of file; cut = cut_in file; data_fork = wrapped_data file; resource_fork = resource_fork_of bytes file }
-wrapping_in bytes (Err fault) = record { fault = Some fault; cuts = no_cuts; cut = None; data_fork = None; resource_fork = None }
+    record { fault = fault_in file; cuts = cuts_of file; end = end_in file; cut = cut_in file; data_fork = wrapped_data file; resource_fork = resource_fork_of bytes file }
+wrapping_in bytes (Err fault) = record { fault = Some fault; cuts = no_cuts; end = None; cut = None; data_fork = None; resource_fork = None }
 
 -- what a file is wrapped in
 unfoldable pub wrapping_of : List ℕ → WrappingIs

@@ -7,8 +7,7 @@ use Rattle.pef_report.specs.Inspection.{excerpt_object, rows_text}
 use Rattle.pef_report.specs.declared.frames.Counts.{Counts}
 use Rattle.mac_report.specs.Containers.{IsRow, RowIs, first_turn, inspected, lacking, lacking_object, row_text, skipped, turn_after}
 use Rattle.mac_report.specs.DataFiles.{DataFileIs}
-use Rattle.mac_report.specs.Faults.{faults_of}
-use Rattle.mac_report.specs.Reports.{IsWhole, json_end, json_head}
+use Rattle.mac_report.specs.Reports.{IsWhole, found_of, json_end, json_head}
 use Rattle.mac_report.specs.Views.{data_file_seen}
 use Rattle.mac_report.specs.declared.file.Form.TheVariants.{Json}
 use Rattle.mac_report.specs.declared.parts.ReportPart.{ReportPart}
@@ -38,7 +37,7 @@ IsPartText (part.Head path bytes data_file) text = text ≡ json_head path.now b
 IsPartText (part.Container bytes place turn) text = IsContainerText bytes.now turn place text
 IsPartText (part.Excerpt bytes place turn most) text = IsExcerpt bytes.now turn place most text
 IsPartText (part.Rows bytes place kind from count) text = text ≡ rows_text place (rest_from bytes.now place) kind from count
-IsPartText (part.End bytes data_file turn) text = text ≡ json_end (faults_of (option_map data_file_seen data_file) bytes.now) turn.skipped
+IsPartText (part.End bytes data_file turn) text = text ≡ json_end (found_of (option_map data_file_seen data_file) bytes.now) turn.skipped
 
 -- the texts of the containers at some places, one after the other, and what they leave
 abbrev pub AreContainers : List ℕ → Turn → List ℕ → List ℕ → Turn → Type 0
@@ -51,5 +50,5 @@ AreContainers bytes turn (at ∷ places) text last =
 abbrev pub PartsJoin : Type 0
 PartsJoin = (path bytes : List ℕ) (other : Option DataFileIs) (containers : List ℕ) (last : Turn)
     → AreContainers bytes (first_turn bytes) (containers_in bytes 0) containers last
-    → (counts : Counts) × IsWhole Json path bytes other (faults_of other bytes)
-    (json_head path bytes other ++ (containers ++ json_end (faults_of other bytes) last.skipped)) counts
+    → (counts : Counts) × IsWhole Json path bytes other (found_of other bytes)
+    (json_head path bytes other ++ (containers ++ json_end (found_of other bytes) last.skipped)) counts

@@ -8,6 +8,8 @@ use Rattle.pef_report.specs.Views as view
 use Rattle.mac_report.specs.Containers.{RowIs, inspected, lacking, skipped}
 use Rattle.mac_report.specs.DataFiles.{DataFileIs}
 use Rattle.mac_report.specs.Fragments.{FragmentIs}
+use Rattle.mac_report.specs.Reports.{FoundIs}
+use Rattle.mac_report.specs.declared.file.Shown.{Shown}
 use Rattle.mac_report.specs.declared.data_file.DataFile.{DataFile}
 use Rattle.mac_report.specs.declared.fragments.Fragment.{Fragment}
 use Rattle.mac_report.specs.MacParts.{PlaceIs, SceneIs, WrappingIs, elsewhere, lying, missing}
@@ -33,6 +35,7 @@ abbrev pub wrapping_seen : Wrapping → WrappingIs
 wrapping_seen w = record {
   fault = w.fault;
   cuts = w.cuts;
+  end = w.end;
   cut = w.cut;
   data_fork = option_map (result_map part_seen) w.data_fork;
   resource_fork = option_map (result_map part_seen) w.resource_fork;
@@ -57,3 +60,7 @@ place_seen (place.Lying at bytes) = lying at bytes.now
 -- a member, with its place in the file and that of its container
 abbrev pub fragment_seen : Fragment → FragmentIs
 fragment_seen f = record { at = f.at; offset = f.offset; size = f.size; member = member_seen f.member }
+
+-- what was found in a file besides its containers
+abbrev pub shown_seen : Shown → FoundIs
+shown_seen s = record { faults = s.faults.now; notes = s.notes.now }

@@ -1,24 +1,31 @@
-ghost use Rattle.std.specs.Prelude.{◌≡◌, IfOk, List, ℕ, codes, option_map};
+ghost use Rattle.std.specs.Prelude.{◌≡◌, ◌++◌, IfOk, List, ℕ, codes, length, option_map};
 ghost use Rattle.mac_report.specs.MacParts.{wrapping_of};
 ghost use Rattle.pef_words.specs.Refusals.{result_map};
 ghost use Rattle.pef_ports.specs.Sent.{Sends};
 ghost use Rattle.pef_report.specs.declared.frames.Counts.{Counts as CountsAre};
-ghost use Rattle.mac_report.specs.Reports.{IsReport, IsWhole, beginning, end_text, first_line, fork_lines_of, fork_objects_of, head_text, json_end, json_head, kind_word, scene_in, scene_text, skipped_note, skipped_object, skipped_text, text_end, text_head, unread_counts, unread_text, whole_scene};
-ghost use Rattle.mac_report.specs.Views.{data_file_seen, scene_seen, wrapping_seen};
+ghost use Rattle.mac_report.specs.Containers.{separator, total};
+ghost use Rattle.mac_report.specs.DataFiles.{scene_in, whole_scene};
+ghost use Rattle.mac_report.specs.Faults.{faults_of};
+ghost use Rattle.mac_report.specs.FileNotes.{none_of, notes_of};
+ghost use Rattle.mac_report.specs.Reports.{IsReport, IsWhole, beginning, end_text, first_line, fork_lines_of, fork_objects_of, head_text, json_end, json_head, kind_word, scene_text, skipped_note, skipped_object, skipped_text, text_end, text_head, unread_counts, unread_text};
+ghost use Rattle.mac_report.specs.Views.{data_file_seen, scene_seen, shown_seen, wrapping_seen};
 
 use crate::containers::print_containers;
 use crate::data_file::{
     DataFile, PairedHead, members_fork, print_paired_line, print_paired_object,
 };
 use crate::faults::find_faults;
+use crate::file_note::{FileNote, print_notes};
+use crate::file_notes::find_notes;
 use crate::found::print_founds;
 use crate::fragments::print_fragments;
+use crate::row::print_separator;
 use crate::scene::{Found, Scene};
 use crate::tally::Tally;
 use crate::unread::{UNREAD_COUNTS, UnreadFile};
 use crate::wrapping::{Wrapping, resources_in};
 use cfm_members::{FileKind, readable};
-use pef_ports::{Page, Sink, StreamFault, send};
+use pef_ports::{FileReason, Page, Sink, StreamFault, send};
 use pef_report::{Counts, Token, print_counts, print_file_line, print_file_object, print_tokens};
 use std::alloc::{AllocError, Allocator};
 
@@ -33,6 +40,55 @@ pub enum Form {
     Text,
     /// An object of JSON on a line of its own.
     Json,
+}
+
+/// What was found in a file besides its containers.
+#[derive(Drop)]
+pub(crate) struct FoundIn<A: Allocator> {
+    faults: Vec<Found, A>,
+    notes: Vec<FileNote, A>,
+}
+
+/// What is shown of it.
+#[derive(Clone, Copy)]
+pub(crate) struct Shown<'f> {
+    pub faults: &'f [Found],
+    pub notes: &'f [FileNote],
+}
+
+impl<A: Allocator + Copy> FoundIn<A> {
+    /// Returns all errors and notes of a file that aren't those of its containers.
+    pub(crate) fn read(
+        alloc: A,
+        bytes: &[u8],
+        data_file: Option<DataFile<'_>>,
+    ) -> Result<FoundIn<A>, AllocError>
+        ensures { IfOk result (λ found. (found.faults.items ≡ faults_of (option_map data_file_seen data_file.entry) bytes.now) × (found.notes.items ≡ notes_of (option_map data_file_seen data_file.entry) bytes.now)) }
+    {
+        Ok(FoundIn {
+            faults: find_faults(alloc, bytes, data_file)?,
+            notes: find_notes(alloc, bytes, data_file)?,
+        })
+    }
+
+    /// Returns what is shown.
+    pub(crate) fn shown(&self) -> Shown<'_>
+        ensures { shown_seen result ≡ record { faults = self.now.faults.items; notes = self.now.notes.items } }
+    {
+        Shown {
+            faults: self.faults.as_slice(),
+            notes: self.notes.as_slice(),
+        }
+    }
+}
+
+impl<'f> Shown<'f> {
+    /// Returns the counts of a file with these errors and notes.
+    fn total(self, tally: Tally) -> Counts
+        ensures { result ≡ total tally (length self.entry.faults.now) (length self.entry.notes.now) }
+    {
+        tally.total(self.faults.len() as u64, self.notes.len() as u64)
+    }
 }
 
 /// The report on a file that was read.
@@ -66,29 +122,29 @@ impl<'a> FileReport<'a> {
             × Sends result (W.stream out.old) (W.stream out.new) page.old.items page.new.items text
             × IfOk result (λ r. r ≡ counts) }
     {
-        match find_faults(alloc, self.bytes, self.data_file) {
-            Ok(found) => self.print_whole(alloc, out, page, found.as_slice()),
+        match FoundIn::read(alloc, self.bytes, self.data_file) {
+            Ok(found) => self.print_whole(alloc, out, page, found.shown()),
             Err(AllocError) => self.print_lacking(out, page),
         }
     }
 
-    /// Prints the report with these errors of its forks and fragments.
+    /// Prints the report with these errors and notes of its forks and fragments.
     fn print_whole<A: Allocator + Copy, W: Sink>(
         self,
         alloc: A,
         out: &mut W,
         page: &mut Page,
-        found: &[Found],
+        found: Shown<'_>,
     ) -> Result<Counts, StreamFault>
         ensures { (text : List ℕ) × (counts : CountsAre)
-            × IsWhole self.entry.form self.entry.path.now self.entry.bytes.now (option_map data_file_seen self.entry.data_file) found.now text counts
+            × IsWhole self.entry.form self.entry.path.now self.entry.bytes.now (option_map data_file_seen self.entry.data_file) (shown_seen found.entry) text counts
             × Sends result (W.stream out.old) (W.stream out.new) page.old.items page.new.items text
             × IfOk result (λ r. r ≡ counts) }
     {
         self.print_head(out, page, found)?;
         let tally = print_containers(alloc, out, page, self)?;
         print_end(out, page, self.form, found, tally)?;
-        Ok(tally.total(found.len() as u64))
+        Ok(found.total(tally))
     }
 
     /// Prints that an allocation failed.
@@ -101,6 +157,7 @@ impl<'a> FileReport<'a> {
             path: self.path,
             number: 99,
             name: b"OutOfMemory",
+            reason: FileReason::Other,
         };
         report.print(out, page)?;
         Ok(UNREAD_COUNTS)
@@ -111,9 +168,9 @@ impl<'a> FileReport<'a> {
         self,
         out: &mut W,
         page: &mut Page,
-        found: &[Found],
+        found: Shown<'_>,
     ) -> Result<(), StreamFault>
-        ensures { Sends result (W.stream out.old) (W.stream out.new) page.old.items page.new.items (head_text self.entry.form self.entry.path.now self.entry.bytes.now (option_map data_file_seen self.entry.data_file) found.now) }
+        ensures { Sends result (W.stream out.old) (W.stream out.new) page.old.items page.new.items (head_text self.entry.form self.entry.path.now self.entry.bytes.now (option_map data_file_seen self.entry.data_file) (shown_seen found.entry)) }
     {
         match self.form {
             Form::Text => self.print_text_head(out, page, found),
@@ -126,14 +183,15 @@ impl<'a> FileReport<'a> {
         self,
         out: &mut W,
         page: &mut Page,
-        found: &[Found],
+        found: Shown<'_>,
     ) -> Result<(), StreamFault>
-        ensures { Sends result (W.stream out.old) (W.stream out.new) page.old.items page.new.items (text_head self.entry.path.now self.entry.bytes.now (option_map data_file_seen self.entry.data_file) found.now) }
+        ensures { Sends result (W.stream out.old) (W.stream out.new) page.old.items page.new.items (text_head self.entry.path.now self.entry.bytes.now (option_map data_file_seen self.entry.data_file) (shown_seen found.entry)) }
     {
         self.print_first_line(out, page)?;
         print_fork_lines(out, page, self.bytes)?;
         print_members(out, page, Form::Text, self.bytes, self.data_file)?;
-        print_founds(out, page, Form::Text, found)
+        print_founds(out, page, Form::Text, found.faults)?;
+        print_notes(out, page, Form::Text, found.notes)
     }
 
     /// Prints the first line.
@@ -227,7 +285,10 @@ fn print_members<W: Sink>(
 }
 
 /// Returns the table of fragments of a file, if it can be read.
-fn scene_in<'a>(data_file: Option<DataFile<'a>>, wrapping: Wrapping<'a>) -> Option<Scene<'a>>
+pub(crate) fn scene_in<'a>(
+    data_file: Option<DataFile<'a>>,
+    wrapping: Wrapping<'a>,
+) -> Option<Scene<'a>>
     ensures { option_map scene_seen result ≡ scene_in (option_map data_file_seen data_file.entry) (wrapping_seen wrapping.entry) }
 {
     let part = readable(wrapping.resource_fork)?;
@@ -271,20 +332,13 @@ fn print_end<W: Sink>(
     out: &mut W,
     page: &mut Page,
     form: Form,
-    found: &[Found],
+    found: Shown<'_>,
     tally: Tally,
 ) -> Result<(), StreamFault>
-    ensures { Sends result (W.stream out.old) (W.stream out.new) page.old.items page.new.items (end_text form found.now tally) }
+    ensures { Sends result (W.stream out.old) (W.stream out.new) page.old.items page.new.items (end_text form (shown_seen found.entry) tally) }
 {
     match form {
-        Form::Text => {
-            print_text_end(
-                out,
-                page,
-                tally.turn.skipped,
-                tally.total(found.len() as u64),
-            )
-        }
+        Form::Text => print_text_end(out, page, tally.turn.skipped, found.total(tally)),
         Form::Json => print_json_end(out, page, found, tally.turn.skipped),
     }
 }
@@ -306,16 +360,27 @@ fn print_text_end<W: Sink>(
 pub(crate) fn print_json_end<W: Sink>(
     out: &mut W,
     page: &mut Page,
-    found: &[Found],
+    found: Shown<'_>,
     skipped: u64,
 ) -> Result<(), StreamFault>
-    ensures { Sends result (W.stream out.old) (W.stream out.new) page.old.items page.new.items (json_end found.now skipped) }
+    ensures { Sends result (W.stream out.old) (W.stream out.new) page.old.items page.new.items (json_end (shown_seen found.entry) skipped) }
 {
     send(out, page, b"],\"errors\":[")?;
-    print_founds(out, page, Form::Json, found)?;
+    print_founds(out, page, Form::Json, found.faults)?;
     send(out, page, b"],\"notes\":[")?;
-    print_skipped_note(out, page, skipped)?;
+    print_notes(out, page, Form::Json, found.notes)?;
+    print_skipped_note(out, page, none_of(found.notes), skipped)?;
     send(out, page, b"]}\n")
+}
+
+/// Returns whether there are no notes.
+fn none_of(notes: &[FileNote]) -> bool
+    ensures { result ≡ none_of notes.now }
+{
+    match notes {
+        [] => true,
+        _ => false,
+    }
 }
 
 /// Prints the line of the note that some containers weren't inspected, if there are such.
@@ -337,18 +402,32 @@ fn print_skipped<W: Sink>(out: &mut W, page: &mut Page, skipped: u64) -> Result<
     )
 }
 
-/// Prints this note as an object of JSON, if there are such containers.
+/// Prints this note as an object of JSON, if there are such containers. A comma comes before it, unless it is the first note.
 #[tactic(auto, unfolding(crate::specs::Reports::skipped_note))]
 fn print_skipped_note<W: Sink>(
     out: &mut W,
     page: &mut Page,
+    is_first: bool,
     skipped: u64,
 ) -> Result<(), StreamFault>
-    ensures { Sends result (W.stream out.old) (W.stream out.new) page.old.items page.new.items (skipped_note skipped) }
+    ensures { Sends result (W.stream out.old) (W.stream out.new) page.old.items page.new.items (skipped_note is_first skipped) }
 {
     if skipped == 0 {
         return print_tokens(out, page, &[]);
     }
+    print_skipped_element(out, page, is_first, skipped)
+}
+
+/// Prints this object, after a comma unless it is the first note.
+fn print_skipped_element<W: Sink>(
+    out: &mut W,
+    page: &mut Page,
+    is_first: bool,
+    skipped: u64,
+) -> Result<(), StreamFault>
+    ensures { Sends result (W.stream out.old) (W.stream out.new) page.old.items page.new.items (separator is_first ++ skipped_object skipped) }
+{
+    print_separator(out, page, is_first)?;
     print_skipped_object(out, page, skipped)
 }
 

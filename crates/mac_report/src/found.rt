@@ -175,7 +175,7 @@ fn member_of(fault: MemberFault) -> Option<u64>
 }
 
 /// Returns a space if there is a row.
-fn row_space(row: Option<u64>) -> Token<'static>
+pub(crate) fn row_space(row: Option<u64>) -> Token<'static>
     ensures { token_text result ≡ row_space row }
 {
     match row {
@@ -185,7 +185,7 @@ fn row_space(row: Option<u64>) -> Token<'static>
 }
 
 /// Returns the number of a row, if there is one.
-fn row_digits(row: Option<u64>) -> Token<'static>
+pub(crate) fn row_digits(row: Option<u64>) -> Token<'static>
     ensures { token_text result ≡ row_digits row }
 {
     match row {

@@ -6,6 +6,8 @@ mod containers;
 mod data_file;
 mod faults;
 mod file;
+mod file_note;
+mod file_notes;
 mod forks;
 mod found;
 mod fragments;

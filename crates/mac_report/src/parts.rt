@@ -1,14 +1,12 @@
 //! The report on a file in parts, for those who show it.
 ghost use Rattle.std.specs.Prelude.{◌≡◌, IfOk, List, OnOk, ℕ, option_map};
 ghost use Rattle.pef_ports.specs.Sent.{Prints};
-ghost use Rattle.mac_report.specs.Faults.{faults_of};
 ghost use Rattle.mac_report.specs.Parts.{IsContainerText, IsExcerpt, IsPartText};
-ghost use Rattle.mac_report.specs.Reports.{json_end};
+ghost use Rattle.mac_report.specs.Reports.{found_of, json_end};
 ghost use Rattle.mac_report.specs.Views.{data_file_seen};
 
 use crate::data_file::DataFile;
-use crate::faults::find_faults;
-use crate::file::{FileReport, Form, print_json_end};
+use crate::file::{FileReport, Form, FoundIn, print_json_end};
 use crate::row::read_row;
 use crate::turn::Turn;
 use cfm_members::Contents;
@@ -193,10 +191,10 @@ fn print_end<A: Allocator + Copy, W: Sink>(
     page: &mut Page,
     end: Ending<'_>,
 ) -> Result<(), StreamFault>
-    ensures { OnOk result (Prints (W.stream out.old) (W.stream out.new) page.old.items page.new.items (json_end (faults_of (option_map data_file_seen end.entry.data_file) end.entry.bytes.now) end.entry.skipped)) }
+    ensures { OnOk result (Prints (W.stream out.old) (W.stream out.new) page.old.items page.new.items (json_end (found_of (option_map data_file_seen end.entry.data_file) end.entry.bytes.now) end.entry.skipped)) }
 {
-    match find_faults(alloc, end.bytes, end.data_file) {
-        Ok(found) => print_json_end(out, page, found.as_slice(), end.skipped),
+    match FoundIn::read(alloc, end.bytes, end.data_file) {
+        Ok(found) => print_json_end(out, page, found.shown(), end.skipped),
         Err(AllocError) => Err(StreamFault),
     }
 }

@@ -38,15 +38,18 @@ impl Tally {
         }
     }
 
-    /// Returns the counts of a file with so many errors besides those of its containers. Containers that weren't inspected
-    /// are one note together.
-    pub(crate) fn total(self, errors: u64) -> Counts
-        ensures { result ≡ total self errors }
+    /// Returns the counts of a file with so many errors and notes besides those of its containers. Containers that weren't
+    /// inspected are one more note together.
+    pub(crate) fn total(self, errors: u64, notes: u64) -> Counts
+        ensures { result ≡ total self errors notes }
     {
         Counts {
             containers: self.turn.containers,
             errors: self.errors.saturating_add(errors),
-            notes: self.notes.saturating_add(u64::from(self.turn.skipped > 0)),
+            notes: self
+                .notes
+                .saturating_add(notes)
+                .saturating_add(u64::from(self.turn.skipped > 0)),
         }
     }
 }

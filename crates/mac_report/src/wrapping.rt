@@ -19,6 +19,8 @@ pub(crate) struct Wrapping<'a> {
     pub fault: Option<ForkFault>,
     /// The errors of the parts of MacBinary that pass the end.
     pub cuts: MacBinaryCuts,
+    /// Where the parts of MacBinary end.
+    pub end: Option<usize>,
     /// The error of the first row of an entry that passes the end.
     pub cut: Option<ForkFault>,
     pub data_fork: Option<Result<Part<'a>, ForkFault>>,
@@ -35,6 +37,7 @@ impl<'a> Wrapping<'a> {
             Ok(file) => Wrapping {
                 fault: file.fault(),
                 cuts: file.cuts(),
+                end: file.end(),
                 cut: cut_in(&file),
                 data_fork: wrapped_data(&file),
                 resource_fork: Forks::of(bytes, &file).resource_fork,
@@ -42,6 +45,7 @@ impl<'a> Wrapping<'a> {
             Err(fault) => Wrapping {
                 fault: Some(fault),
                 cuts: NO_CUTS,
+                end: None,
                 cut: None,
                 data_fork: None,
                 resource_fork: None,

@@ -5,9 +5,8 @@
 //! too small, and stores how many bytes are needed; or 99 if the lent memory is too small for the text, and stores nothing. If the
 //! memory is too small to look into a container, the object of this has the error 99.
 ghost use Rattle.std.specs.Prelude.{◌≡◌, None};
-ghost use Rattle.mac_report.specs.Faults.{faults_of};
 ghost use Rattle.mac_report.specs.Parts.{IsContainerText, IsExcerpt, IsPartText};
-ghost use Rattle.mac_report.specs.Reports.{json_end, json_head};
+ghost use Rattle.mac_report.specs.Reports.{found_of, json_end, json_head};
 ghost use Rattle.pef_page.specs.Parts.{IsCopied, PartAnswer, RowsAnswer, kind_of};
 ghost use Rattle.pef_page.specs.Views.{turn_of};
 
@@ -54,7 +53,7 @@ pub extern "C" fn page_end<'a>(
     room: &mut [u8],
     count: &mut usize,
 ) -> u32
-    ensures { PartAnswer (λ text. text ≡ json_end (faults_of None file.entry.now) last.now.skipped) room.old room.new count.old count.new result }
+    ensures { PartAnswer (λ text. text ≡ json_end (found_of None file.entry.now) last.now.skipped) room.old room.new count.old count.new result }
 {
     let part = ReportPart::End {
         bytes: file,

@@ -13,7 +13,7 @@ use Rattle.pef_report.specs.Tokens.{at_text}
 abbrev pub shown : Bool → List ℕ → List ℕ
 shown is_shown text = if is_shown then text else []
 
--- an error or a note about a container as a whole, and about no field
+-- an error or a note about a container as a whole, or about bytes of it, and about no field
 abbrev pub is_whole : ℕ → Bool
 is_whole number = number == 1 || number == 10 || number == 109 || number == 113
 
@@ -134,7 +134,7 @@ entry_field field section offset = if field == 0 then section else offset
 abbrev pub field_word : Bool → Part → ℕ → List ℕ
 field_word whole part.Header field = if whole then [] else header_field field
 field_word whole part.Section field = section_field field
-field_word whole part.LoaderHeader field = loader_field field
+field_word whole part.LoaderHeader field = if whole then [] else loader_field field
 field_word whole part.Library field = library_field field
 field_word whole part.Import field = codes " classAndName"
 field_word whole part.Main field = entry_field field (codes " mainSection") (codes " mainOffset")

@@ -22,8 +22,10 @@ use Rattle.pef_report.specs.Objects.{separator}
 use Rattle.pef_report.specs.Order.{IsInOrder, after, before, rank}
 use Rattle.pef_report.specs.Programs.{Program, instr_line, step_offset, steps_in}
 use Rattle.pef_report.specs.Readable.{Readable, line_at, object_at, program_of, readable_at, row_count}
+use Rattle.pef_report.specs.Verdict.{verdict_line, verdict_object, verdict_of}
 use Rattle.pef_report.specs.declared.rows.Detail.{Detail}
 use Rattle.pef_report.specs.declared.rows.Detail.TheVariants as detail
+use Rattle.pef_report.specs.declared.verdict.Verdict.{Verdict}
 
 -- the bytes of a container, their offset in the file, how many relocation programs are printed, and all errors and notes in the
 -- order of their rows
@@ -154,11 +156,11 @@ abbrev pub merged_left : List Row → List Finding → List Finding
 merged_left [] left = left
 merged_left (row ∷ rows) left = merged_left rows (after row.rank left)
 
--- the text of an inspection: the rows that can be read, each with the errors and notes about it below it
+-- the text of an inspection: the rows that can be read, each with the errors and notes about it below it, and the verdict
 unfoldable pub inspection_text : Inspected → List ℕ
 inspection_text i =
     let rows = rows_of (readable_at i.base i.bytes i.programs) row_parts in
-    merged_text i.base rows i.findings ++ findings_text i.base (merged_left rows i.findings)
+    merged_text i.base rows i.findings ++ (findings_text i.base (merged_left rows i.findings) ++ verdict_line (verdict_of i.bytes i.findings))
 
 -- the objects of the errors among findings, or of the notes, with commas between them
 abbrev pub findings_json : ℕ → Bool → Bool → List Finding → List ℕ
@@ -216,17 +218,17 @@ unfoldable pub list_json : List ℕ → Inspected → Bool → List ℕ
 list_json key i errors = key ++ findings_json i.base errors true i.findings
 
 -- an object of JSON on one line, with at most so many rows of each kind
-unfoldable pub object_within : Option ℕ → Inspected → List ℕ
-object_within most i =
-    rows_json most i ++ (list_json (codes "},\"errors\":[") i true ++ (list_json (codes "],\"notes\":[") i false ++ codes "]}"))
+unfoldable pub object_within : Option ℕ → Verdict → Inspected → List ℕ
+object_within most verdict i =
+    rows_json most i ++ (list_json (codes "},\"errors\":[") i true ++ (list_json (codes "],\"notes\":[") i false ++ verdict_object verdict))
 
 -- the object of an inspection
 abbrev pub inspection_object : Inspected → List ℕ
-inspection_object i = object_within None i
+inspection_object i = object_within None (verdict_of i.bytes i.findings) i
 
--- its beginning: the first rows of each kind, without instructions, and the first errors and notes
+-- its beginning: the first rows of each kind, without instructions, and the first errors and notes. The verdict is that of all
 abbrev pub excerpt_object : ℕ → Inspected → List ℕ
-excerpt_object most i = object_within (Some most) (record i { programs = 0; findings = take most i.findings })
+excerpt_object most i = object_within (Some most) (verdict_of i.bytes i.findings) (record i { programs = 0; findings = take most i.findings })
 
 -- the objects of the rows of a kind from one on, at most so many. A comma is before each but the first of all
 unfoldable pub rows_text : ℕ → List ℕ → Part → ℕ → ℕ → List ℕ

@@ -13,6 +13,7 @@ pub mod RowViews
 pub mod Strings
 pub mod Theorems
 pub mod Tokens
+pub mod Verdict
 pub mod Versions
 pub mod Views
 pub mod Walks

@@ -79,7 +79,7 @@ pub fn print_finding_object<W: Sink>(
     )
 }
 
-/// Returns whether an error or a note is about a container as a whole, and about no field.
+/// Returns whether an error or a note is about a container as a whole, or about bytes of it, and about no field.
 fn is_whole(number: u32) -> bool
     ensures { result ≡ is_whole number }
 {
@@ -143,14 +143,14 @@ fn has_rows(part: Part) -> bool
     }
 }
 
-/// Returns the name of a field after a space, or nothing if a finding is about the whole container.
+/// Returns the name of a field after a space, or nothing if a finding is about bytes of the container or of its loader section.
 fn field_word(whole: bool, part: Part, field: usize) -> &'static [u8]
     ensures { result.now ≡ field_word whole part field }
 {
     match part {
         Part::Header => { if whole { b"" } else { header_field(field) } }
         Part::Section => section_field(field),
-        Part::LoaderHeader => loader_field(field),
+        Part::LoaderHeader => { if whole { b"" } else { loader_field(field) } }
         Part::Library => library_field(field),
         Part::Import => b" classAndName",
         Part::Main => entry_field(field, b" mainSection", b" mainOffset"),

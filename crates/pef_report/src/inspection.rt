@@ -2,11 +2,13 @@ ghost use Rattle.std.specs.Prelude.{◌≡◌, IfOk, OnOk, true, false};
 ghost use Rattle.pef_ports.specs.Sent.{Sends};
 ghost use Rattle.pef_report.specs.Inspection.{AreAll, Inspects, InspectsWithin, count_chosen, excerpt_object, inspection_object, inspection_text};
 ghost use Rattle.pef_report.specs.Order.{IsInOrder};
+ghost use Rattle.pef_report.specs.Verdict.{verdict_of};
 
 use crate::found::{count_chosen, print_findings};
 use crate::object::{Shown, print_object};
 use crate::order::finding_rank;
 use crate::reading::Reading;
+use crate::verdict::Verdict;
 use crate::walk::Walk;
 use pef_format::Part;
 use pef_inspect::{
@@ -92,7 +94,7 @@ impl<'a, A: Allocator + Copy> Inspection<'a, A> {
     }
 
     /// Prints a line for each row that can be read, and for each instruction of a relocation program. Below a row or an
-    /// instruction are the errors and notes about it.
+    /// instruction are the errors and notes about it. The last line is the verdict.
     pub fn print<W: Sink>(&self, out: &mut W, page: &mut Page) -> Result<(), StreamFault>
         ensures { Sends result (W.stream out.old) (W.stream out.new) page.old.items page.new.items (inspection_text (inspected self.now)) }
     {
@@ -102,7 +104,8 @@ impl<'a, A: Allocator + Copy> Inspection<'a, A> {
             left: &self.findings,
         };
         walk.print_parts(out, page, &ROW_PARTS)?;
-        print_findings(out, page, self.base, walk.left)
+        print_findings(out, page, self.base, walk.left)?;
+        self.verdict().print(out, page)
     }
 
     /// Prints an object of JSON, on one line without its end.
@@ -136,14 +139,23 @@ impl<'a, A: Allocator + Copy> Inspection<'a, A> {
 
     /// Returns all that is shown.
     fn shown(&self) -> Shown<'_, 'a>
-        ensures { shown_seen result ≡ inspected self.now }
+        ensures shown { shown_seen result ≡ inspected self.now }
+        ensures verdict { result.verdict ≡ verdict_of (inspected self.now).bytes (inspected self.now).findings }
     {
         Shown {
             base: self.base,
             bytes: self.bytes,
             programs: self.programs,
             findings: self.findings.as_slice(),
+            verdict: self.verdict(),
         }
+    }
+
+    /// Returns the verdict.
+    fn verdict(&self) -> Verdict
+        ensures { result ≡ verdict_of (inspected self.now).bytes (inspected self.now).findings }
+    {
+        Verdict::of(self.bytes, self.findings.as_slice())
     }
 }
 

@@ -19,6 +19,7 @@ mod rows;
 mod strings;
 mod theorems;
 mod tokens;
+mod verdict;
 mod versions;
 mod walk;
 
@@ -44,3 +45,4 @@ pub use rows::{
 };
 pub use theorems::{each_finding_is_printed_once, names_are_printed, rows_join};
 pub use tokens::{Token, print_tokens};
+pub use verdict::needed;

@@ -8,6 +8,7 @@ use crate::found::{Chosen, print_chosen};
 use crate::members::{Elements, print_elements, print_members, row_members};
 use crate::reading::Reading;
 use crate::tokens::{Token, print_tokens};
+use crate::verdict::Verdict;
 use pef_format::Part;
 use pef_inspect::{Finding, programs_shown};
 use pef_ports::{Page, Sink, StreamFault, send};
@@ -20,6 +21,7 @@ pub(crate) struct Shown<'f, 'a> {
     /// How many relocation programs are printed.
     pub programs: u32,
     pub findings: &'f [Finding],
+    pub verdict: Verdict,
 }
 
 /// Prints an object of JSON with at most so many rows of each kind.
@@ -30,12 +32,12 @@ pub(crate) fn print_object<W: Sink>(
     shown: Shown<'_, '_>,
     most: Option<u32>,
 ) -> Result<(), StreamFault>
-    ensures { Sends result (W.stream out.old) (W.stream out.new) page.old.items page.new.items (object_within most (shown_seen shown.entry)) }
+    ensures { Sends result (W.stream out.old) (W.stream out.new) page.old.items page.new.items (object_within most shown.entry.verdict (shown_seen shown.entry)) }
 {
     print_rows(out, page, shown, most)?;
     print_list(out, page, b"},\"errors\":[", shown, true)?;
     print_list(out, page, b"],\"notes\":[", shown, false)?;
-    send(out, page, b"]}")
+    shown.verdict.print_member(out, page)
 }
 
 /// Prints the beginning of the object, up to its errors.

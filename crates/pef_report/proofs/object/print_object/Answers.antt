@@ -1,4 +1,4 @@
--- The rows, the errors, the notes, and the end.
+-- The rows, the errors, the notes, and the verdict.
 use Rattle.pef_report.specs.Inspection.{object_within}
 use Rattle.pef_ports.proofs.Laws.Sending.{Sends-short, Sends-then, StopsShort-longer, StopsShort-then}
 use Rattle.pef_report.proofs.object.print_object.Goals as goal
@@ -22,7 +22,7 @@ returns-in_err-print_list-2 g c =
 pub returns : goal.returns
 unfolding object_within
 returns g c =
-    let stream = g.W.Sink.stream c.send.new.out in
-    Sends-then c.send.result stream _ _ c.in_ok-print_rows.ensures
-    (Sends-then c.send.result stream _ _ c.in_ok-print_list.ensures
-    (Sends-then c.send.result stream _ _ c.in_ok-print_list-2.ensures c.send.ensures))
+    let stream = g.W.Sink.stream c.print_member.new.out in
+    Sends-then c.print_member.result stream _ _ c.in_ok-print_rows.ensures
+    (Sends-then c.print_member.result stream _ _ c.in_ok-print_list.ensures
+    (Sends-then c.print_member.result stream _ _ c.in_ok-print_list-2.ensures c.print_member.ensures))

@@ -11,5 +11,13 @@ returns-in_err-print_fork_lines g c = Sends-short _ c.from_residual-in_err-print
 pub returns-in_err-print_members : goal.returns-in_err-print_members
 returns-in_err-print_members g c = Sends-short _ c.from_residual-in_err-print_members.result _ c.from_residual-in_err-print_members.ensures.1 (StopsShort-then c.in_ok-print_first_line.ensures (StopsShort-then c.in_ok-print_fork_lines.ensures (StopsShort-longer _ c.in_err-print_members.ensures)))
 
+pub returns-in_err-print_founds : goal.returns-in_err-print_founds
+returns-in_err-print_founds g c = Sends-short _ c.from_residual-in_err-print_founds.result _ c.from_residual-in_err-print_founds.ensures.1 (StopsShort-then c.in_ok-print_first_line.ensures (StopsShort-then c.in_ok-print_fork_lines.ensures (StopsShort-then c.in_ok-print_members.ensures (StopsShort-longer _ c.in_err-print_founds.ensures))))
+
 pub returns : goal.returns
-returns g c = Sends-then c.print_founds.result (g.W.Sink.stream c.print_founds.new.out) _ _ c.in_ok-print_first_line.ensures (Sends-then c.print_founds.result (g.W.Sink.stream c.print_founds.new.out) _ _ c.in_ok-print_fork_lines.ensures (Sends-then c.print_founds.result (g.W.Sink.stream c.print_founds.new.out) _ _ c.in_ok-print_members.ensures c.print_founds.ensures))
+returns g c =
+    let stream = g.W.Sink.stream c.print_notes.new.out in
+    Sends-then c.print_notes.result stream _ _ c.in_ok-print_first_line.ensures
+    (Sends-then c.print_notes.result stream _ _ c.in_ok-print_fork_lines.ensures
+    (Sends-then c.print_notes.result stream _ _ c.in_ok-print_members.ensures
+    (Sends-then c.print_notes.result stream _ _ c.in_ok-print_founds.ensures c.print_notes.ensures)))

@@ -6,4 +6,5 @@ pub returns-in_err-print_unread_object : goal.returns-in_err-print_unread_object
 returns-in_err-print_unread_object g c = Sends-short _ c.from_residual.result _ c.from_residual.ensures.1 (StopsShort-longer _ c.in_err-print_unread_object.ensures)
 
 pub returns : goal.returns
-returns g c = Sends-then c.print_error_end.result (g.W.Sink.stream c.print_error_end.new.out) _ _ c.in_ok-print_unread_object.ensures c.print_error_end.ensures
+returns g c =
+    rw c.reason_word.ensures at (Sends-then c.print_object_end.result (g.W.Sink.stream c.print_object_end.new.out) _ _ c.in_ok-print_unread_object.ensures c.print_object_end.ensures)
