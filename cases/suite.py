@@ -17,7 +17,8 @@ class Begins:
 class Case:
     """A run of the program in a folder of its own.
 
-    words: its arguments, as text or bytes. files: what the folder has, by path; a value None is a folder.
+    words: its arguments, as text or bytes. files: what the folder has, by path; a value None is a folder, and text is where a
+    symbolic link leads. closed: paths of these that the user may not read or write; root may, so such a case is left out for it.
     linked: scripts that the program links before, by the paths of their containers.
     certified: scripts of `files` for which the program prints certificates before, by the paths of these.
     stdin: the standard input, as bytes, or as text the path of a file or a folder that it is. printed_to: a device that is the
@@ -37,6 +38,7 @@ class Case:
     after: dict = dataclasses.field(default_factory=dict)
     linked: dict = dataclasses.field(default_factory=dict)
     certified: dict = dataclasses.field(default_factory=dict)
+    closed: tuple = ()
     printed_to: str = ""
 
 

@@ -1,5 +1,5 @@
 """`pef check`: certificates that are valid and others, those of other sections, and errors. limits.py has the largest certificates."""
-from data.refusals import refused
+from data.refusals import MISSING, refused
 from data.scripts import VECTORS, VECTORS_CERTIFIED
 from suite import Case
 
@@ -63,6 +63,6 @@ CASES += [
 
 # SCRIPT is read before CERT, and both before a line of either is parsed.
 CASES += [
-    Case(f"files {' '.join(words)}", ["check", *words], {"a": b"no line\n", "b": b""}, **refused(b"71 FileUnreadable " + missing))
+    Case(f"files {' '.join(words)}", ["check", *words], {"a": b"no line\n", "b": b""}, **refused(b"71 FileUnreadable " + missing, MISSING))
     for words, missing in ((["none", "b"], b"none"), (["a", "none"], b"none"), (["x", "y"], b"x"))
 ]

@@ -50,6 +50,32 @@ CASES += [
         ({"d/%a": FORK, "d/a.rsrc": FORK}, b"d/a.rsrc"),
         ({"d/._a": b"text", "d/.rsrc/a": FORK}, b"d/.rsrc/a"),
         ({"d/._a": b"", "._a": FORK, "a.rsrc": FORK}, b""),
+        ({"__MACOSX/d/._a": FORK}, b"__MACOSX/d/._a"),
+        ({"__MACOSX/d/._a": FORK, "d/.resource/a": FORK}, b"d/.resource/a"),
+        ({"__MACOSX/._a": FORK}, b""),
+    )
+]
+
+
+def report_on(path):
+    """Returns the report on a data fork without a container."""
+    return b"file %s size 264 format other\n" % path + TOTAL
+
+
+# An archive by macOS has one folder `__MACOSX` at its top, which mirrors the others. The nearest one is taken. None is looked for
+# before a `..`, since its folders wouldn't be those of the path, and a `/` stays in front.
+TREE = {"x/y/z/a": DATA_FORK, "__MACOSX/x/y/z/._a": FORK, "x/__MACOSX/y/z/._a": b"text", "x/y/__MACOSX/z/._b": FORK}
+CASES += [
+    Case(f"the tree of an archive, {path.decode()}", ["inspect", path], {**TREE, **beside}, stdout=report_on(path) + (b"file " + place + FORK_REPORT.replace(b"d/a", path) if place else b""), status=1 if place else 0)
+    for path, beside, place in (
+        (b"x/y/z/a", {}, b"__MACOSX/x/y/z/._a"),
+        (b"x/y/z/a", {"x/__MACOSX/y/z/._a": FORK}, b"x/__MACOSX/y/z/._a"),
+        (b"x/y/z/a", {"x/__MACOSX/y/z/._a": FORK, "x/y/__MACOSX/z/._a": FORK}, b"x/y/__MACOSX/z/._a"),
+        (b"./x/y/z/a", {}, b"./__MACOSX/x/y/z/._a"),
+        (b"x/../x/y/z/a", {}, b"x/../__MACOSX/x/y/z/._a"),
+        (b"x/y/../y/z/a", {}, b""),
+        (b"x/../x/y/z/a", {"x/__MACOSX/y/z/._a": FORK}, b"x/../x/__MACOSX/y/z/._a"),
+        (b"x//y/z/a", {}, b""),
     )
 ]
 
@@ -74,7 +100,7 @@ CASES.append(Case(
 ))
 
 # The file of `--resources` is taken whatever it is, and no place is looked at. It isn't read if the data fork can't be read.
-UNREAD = b"file none\nerror 71 FileUnreadable\ntotal containers 0 errors 1 notes 0\n"
+UNREAD = b"file none\nerror 71 FileUnreadable reason missing\ntotal containers 0 errors 1 notes 0\n"
 TEXT_REPORT = b"file t size 4 format other data d/a\n" + TOTAL
 CASES += [
     inspected("a given text", ["--resources", "t", "d/a"], {"t": b"text", "d/._a": FORK}, DATA_REPORT + TEXT_REPORT, 0),
@@ -95,6 +121,7 @@ CASES += [
         ("d/._a", "Calc", bytes(250)),
         ("d/%a", "Drv", b"drv"),
         ("d/._a", "calc", None),
+        ("__MACOSX/d/._a", "Calc", bytes(250)),
         ("._a", "Calc", None),
         ("d/._a", "#0", None),
     )

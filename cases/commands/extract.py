@@ -2,7 +2,7 @@
 companions.py."""
 from data.containers import RICH, VECTORS
 from data.mac_files import fragment_file
-from data.refusals import refused
+from data.refusals import MISSING, refused
 from suite import Case, changed
 
 # A file with fragments, with some changes; a name, and the bytes of OUT.
@@ -77,6 +77,6 @@ FRAGMENTS = {
 CASES += [Case(error.decode(), ["extract", "a", "Calc", "out"], {"a": file, "out": b"text"}, **refused(error)) for error, file in FRAGMENTS.items()]
 
 CASES += [
-    Case("no file", ["extract", "b", "#0", "out"], {"a": VECTORS}, **refused(b"71 FileUnreadable b")),
-    Case("no folder for the container", ["extract", "a", "#0", "d/out"], {"a": VECTORS}, **refused(b"72 FileUnwritable d/out")),
+    Case("no file", ["extract", "b", "#0", "out"], {"a": VECTORS}, **refused(b"71 FileUnreadable b", MISSING)),
+    Case("no folder for the container", ["extract", "a", "#0", "d/out"], {"a": VECTORS}, **refused(b"72 FileUnwritable d/out", MISSING)),
 ]

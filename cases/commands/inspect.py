@@ -4,7 +4,21 @@ from data.containers import VECTORS
 from suite import Begins, Case, changed
 
 OTHER = b"format other\ntotal containers 0 errors 0 notes 0\n"
-UNREADABLE = b"error 71 FileUnreadable\ntotal containers 0 errors 1 notes 0\n"
+
+
+def unread(path, why):
+    """Returns the report on a file that can't be read, with the word for the reason."""
+    return b"file %s\nerror 71 FileUnreadable reason %s\ntotal containers 0 errors 1 notes 0\n" % (path, why)
+
+
+def unread_object(path, why):
+    """The same as JSON."""
+    return (
+        b'{"file":"%s","size":null,"format":null,"forks":[],"fragments":[],"containers":[],"errors":[{"number":71,"name":"FileUnreadable",'
+        b'"part":null,"row":null,"field":null,"offset":null,"reason":"%s"}],"notes":[]}\n' % (path, why)
+    )
+
+
 # A header of AppleDouble that is cut, and one with version 3.
 CUT = b"\x00\x05\x16\x07\x00\x02"
 VERSION_3 = b"\x00\x05\x16\x07\x00\x03" + bytes(20)
@@ -28,11 +42,11 @@ CASES = [
     ),
     Case(
         "a missing file and one after it", ["inspect", "missing", "a"], {"a": b"text"}, status=1,
-        stdout=b"file missing\n" + UNREADABLE + b"file a size 4 " + OTHER,
+        stdout=unread(b"missing", b"missing") + b"file a size 4 " + OTHER,
     ),
     Case(
         "a folder and a file after it", ["inspect", "a", "b"], {"a": None, "b": b"b"}, status=1,
-        stdout=b"file a\n" + UNREADABLE + b"file b size 1 " + OTHER,
+        stdout=unread(b"a", b"folder") + b"file b size 1 " + OTHER,
     ),
     Case("the standard input", ["inspect", "-"], stdin=b"text", stdout=b"file - size 4 " + OTHER),
 ]
@@ -59,9 +73,22 @@ CASES += [
     for listed, printed, status in (
         (b"", b"", 0),
         (b"a\0", b"file a size 4 " + OTHER, 0),
-        (b"a\0\0a", b"file a size 4 " + OTHER + b"file \n" + UNREADABLE + b"file a size 4 " + OTHER, 1),
+        (b"a\0\0a", b"file a size 4 " + OTHER + unread(b"", b"missing") + b"file a size 4 " + OTHER, 1),
     )
 ]
+
+# Paths that can't be read, and why, in text and JSON. The path C3 isn't UTF-8, so it can only come in a list.
+CASES += [
+    Case(f"an unread file in {form}: {path}, {why}", ["inspect", *json, "--files0"], {"a": b"text", "d": None, "link": "none", "shut": b""}, path + b"\0",
+         stdout=printed(path.replace(b"\xC3", b"%C3"), why.encode()), status=1, closed=("shut",) if path == b"shut" else ())
+    for path, why in ((b"none", "missing"), (b"a/b", "missing"), (b"link", "missing"), (b"d", "folder"), (b"shut", "forbidden"), (b"\xC3", "path"))
+    for form, json, printed in (("text", [], unread), ("JSON", ["--json"], unread_object))
+]
+# The standard input has its own error, without a reason.
+CASES.append(Case(
+    "a folder as the standard input", ["inspect", "-"], stdin=".", status=1,
+    stdout=b"file -\nerror 73 InputUnreadable\ntotal containers 0 errors 1 notes 0\n",
+))
 
 # A file in MacBinary with three fragments, none of which has a container: `Calc` for CFM-68K is all of the data fork at 128, `Calc` for
 # PowerPC is at 136, and `Drv` is the resource at 712.
@@ -104,6 +131,7 @@ note 112 Overlap section 2 containerOffset at 00000084 length 90
 error 17 BadRelocSection reloc 0 sectionIndex at 000000E8
 000000F4 4601 TVector8 2
 00000100 export go class 2 section 1 value 00000000
+verdict cut needs 640 has 250 sections damaged imports whole exports whole relocations damaged
 total containers 1 errors 2 notes 2
 """),
     Case("a cut loader header", ["inspect", "a"], CUT_LOADER, status=1, stdout=b"""\
@@ -114,6 +142,7 @@ file a size 200 format container
 00000060 section 2 kind 4 share 4 align 4 total 0 unpacked 0 packed 90 default 00000000 name - raw 000000A0
 error 6 SectionOutside section 2 containerOffset at 00000074
 error 11 LoaderShort loader mainSection at 000000A0
+verdict cut needs 250 has 200 sections damaged imports damaged exports damaged relocations damaged
 total containers 1 errors 2 notes 0
 """),
 ]
@@ -144,7 +173,9 @@ CASES += [
             '"errors":[{"number":6,"name":"SectionOutside","part":"section","row":0,"field":20,"offset":76},',
             '{"number":17,"name":"BadRelocSection","part":"relocation","row":0,"field":0,"offset":232}],',
             '"notes":[{"number":112,"name":"Overlap","part":"section","row":1,"field":20,"offset":104,"length":16},',
-            '{"number":112,"name":"Overlap","part":"section","row":2,"field":20,"offset":132,"length":90}]}',
+            '{"number":112,"name":"Overlap","part":"section","row":2,"field":20,"offset":132,"length":90}],',
+            '"verdict":{"state":"cut","needs":640,"has":250,"sections":"damaged","imports":"whole","exports":"whole",',
+            '"relocations":"damaged","as_text":false}}',
             JSON_END,
         )),
         ("a cut loader header", CUT_LOADER, (
@@ -154,7 +185,9 @@ CASES += [
             JSON_SECTION % (96, 4, 4, 0, 0, 90, 160), "],",
             '"loader":null,"libraries":[],"imports":[],"relocations":[],"exports":[],"entries":{"main":null,"init":null,"term":null},',
             '"errors":[{"number":6,"name":"SectionOutside","part":"section","row":2,"field":20,"offset":116},',
-            '{"number":11,"name":"LoaderShort","part":"loader","row":0,"field":0,"offset":160}],"notes":[]}',
+            '{"number":11,"name":"LoaderShort","part":"loader","row":0,"field":0,"offset":160}],"notes":[],',
+            '"verdict":{"state":"cut","needs":250,"has":200,"sections":"damaged","imports":"damaged","exports":"damaged",',
+            '"relocations":"damaged","as_text":false}}',
             JSON_END,
         )),
     )

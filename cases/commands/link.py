@@ -1,6 +1,6 @@
 """`pef link`: containers byte for byte, and errors, after which no file has changed."""
 from data import containers
-from data.refusals import refused
+from data.refusals import FOLDER, MISSING, READ_FOLDER, refused
 from data.scripts import EXAMPLE, EXAMPLE_LINKED, VECTORS, VECTORS_LINKED
 from suite import Case, from_hex
 
@@ -39,12 +39,12 @@ CASES = [
     Case("an empty script", ["link", "a", "out"], {"a": b""}, stdout=b"linked 140 bytes\n", after={"out": containers.EMPTY}),
     Case("three bytes", ["link", "a", "out"], {"a": SHORT}, stdout=b"linked 172 bytes\nsection 0 length 0\n", after={"out": SHORT_CONTAINER}),
     Case("two fixups", ["link", "a", "out"], {"a": EXAMPLE}, VECTORS, stdout=EXAMPLE_LINKED, after={"out": WithAnyProgram()}),
-    Case("no file", ["link", "missing", "out"], {"a": EXAMPLE}, **refused(b"71 FileUnreadable missing")),
-    Case("no file with an odd name", ["link", "a b%\u00E9~!".encode(), "out"], {"a": EXAMPLE}, **refused(b"71 FileUnreadable a%20b%25%C3%A9~!")),
-    Case("an empty path", ["link", "", "out"], {"a": EXAMPLE}, **refused(b"71 FileUnreadable ")),
-    Case("a folder", ["link", "d", "out"], {"d": None}, **refused(b"71 FileUnreadable d")),
-    Case("no folder for the container", ["link", "a", "no folder/b"], {"a": EXAMPLE}, **refused(b"72 FileUnwritable no%20folder/b")),
-    Case("over a folder", ["link", "a", "d"], {"a": EXAMPLE, "d": None}, **refused(b"72 FileUnwritable d")),
+    Case("no file", ["link", "missing", "out"], {"a": EXAMPLE}, **refused(b"71 FileUnreadable missing", MISSING)),
+    Case("no file with an odd name", ["link", "a b%\u00E9~!".encode(), "out"], {"a": EXAMPLE}, **refused(b"71 FileUnreadable a%20b%25%C3%A9~!", MISSING)),
+    Case("an empty path", ["link", "", "out"], {"a": EXAMPLE}, **refused(b"71 FileUnreadable ", MISSING)),
+    Case("a folder", ["link", "d", "out"], {"d": None}, **refused(b"71 FileUnreadable d", READ_FOLDER)),
+    Case("no folder for the container", ["link", "a", "no folder/b"], {"a": EXAMPLE}, **refused(b"72 FileUnwritable no%20folder/b", MISSING)),
+    Case("over a folder", ["link", "a", "d"], {"a": EXAMPLE, "d": None}, **refused(b"72 FileUnwritable d", FOLDER)),
     Case(
         "an error in the script", ["link", "a", "out"],
         {"a": b"section d data process 4 8\nfix d 0 section d\nfix d 2 section d\n", "out": b"text"},

@@ -1,6 +1,6 @@
 """`pef list`: what containers declare, and the first error of a damaged one."""
 from data.containers import EMPTY, RICH, VECTORS
-from data.refusals import at_byte, at_halfword, refused
+from data.refusals import MISSING, at_byte, at_halfword, refused
 from suite import Case, changed
 
 VECTORS_LISTED = b"""\
@@ -80,7 +80,7 @@ CASES = [
     Case("what link doesn't write", ["list", "a"], {"a": RICH}, stdout=RICH_LISTED),
     Case("an empty script", ["list", "a"], {"a": EMPTY}, stdout=EMPTY_LISTED),
     Case("an import that is exported again", ["list", "a"], linked={"a": REEXPORT}, stdout=REEXPORT_LISTED),
-    Case("no file", ["list", "a b"], **refused(b"71 FileUnreadable a%20b")),
+    Case("no file", ["list", "a b"], **refused(b"71 FileUnreadable a%20b", MISSING)),
     Case("an empty file", ["list", "a"], {"a": b""}, **refused(b"1 TooShort")),
     Case("a tag alone", ["list", "a"], {"a": b"Joy!"}, **refused(b"1 TooShort")),
 ]

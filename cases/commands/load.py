@@ -1,6 +1,6 @@
 """`pef load`: the memory of a fragment with its libraries, and errors. Libraries that `link` doesn't write are in spelled.py."""
 from data.containers import SPELLED, VECTORS
-from data.refusals import at_byte, at_halfword, at_version, refused
+from data.refusals import MISSING, READ_FOLDER, at_byte, at_halfword, at_version, refused
 from data.scripts import EXAMPLE, EXAMPLE_SHOWN, LIBRARY, USER
 from suite import Begins, Case, changed
 
@@ -149,11 +149,12 @@ REFUSED = (
     (["A=new", "L=grown"], b"64 ImplementationTooNew in A library L", at_version(0, 0, 5, 3, 0, 0x8C)),
     (["P=itself"], b"65 ReexportLoop in P symbol u", at_byte(b"the name of import 0, counted from 0", 0xA0)),
     (["A=before-b", "B=before-a"], b"66 InitLoop in B", at_byte(b"the option byte of library 0, counted from 0", 0x9C)),
-    (["x=missing"], b"71 FileUnreadable missing", b""),
-    (["x="], b"71 FileUnreadable ", b""),
-    (["x=a b"], b"71 FileUnreadable a%20b", b""),
+    (["x=missing"], b"71 FileUnreadable missing", MISSING),
+    (["x="], b"71 FileUnreadable ", MISSING),
+    (["x=a b"], b"71 FileUnreadable a%20b", MISSING),
+    (["x=."], b"71 FileUnreadable .", READ_FOLDER),
     # all files are read, and before anything else is tested
-    (["A=text", "B=user", "A=missing"], b"71 FileUnreadable missing", b""),
+    (["A=text", "B=user", "A=missing"], b"71 FileUnreadable missing", MISSING),
     (["x=text"], b"1 TooShort in x", b""),
     (["x=script"], b"2 BadTag in x", at_byte(b"the tag of the container header", 0)),
     # a weak library that can't be read is an error, too

@@ -1,6 +1,6 @@
 """Real files, inputs and outputs: what can't be read or written, and what is kept exactly."""
 from data import containers
-from data.refusals import refused
+from data.refusals import FOLDER, FORBIDDEN, FULL, MISSING, READ_FOLDER, refused
 from data.scripts import EXAMPLE, EXAMPLE_SHOWN, VECTORS
 from suite import Case
 
@@ -11,12 +11,18 @@ CASES = [
     # a path keeps its spaces
     Case("spaces around a path that is written", ["link", "a", " b "], {"a": b"", "b": b"1", " b": b"2", "b ": b"3"}, after={" b ": containers.EMPTY}, **LINKED),
     Case("spaces around a path that is read", ["link", " a ", "out"], {" a ": b"", "a": VECTORS}, after={"out": containers.EMPTY}, **LINKED),
-    *[Case(f"no file {path!r}", ["list", path], {" a ": containers.EMPTY}, **refused(b"71 FileUnreadable " + path.replace(" ", "%20").encode())) for path in ("a", " a", "a ")],
-    Case("this folder", ["list", "."], {}, **refused(b"71 FileUnreadable .")),
-    Case("a file below no folder", ["list", "no/a"], {}, **refused(b"71 FileUnreadable no/a")),
+    *[Case(f"no file {path!r}", ["list", path], {" a ": containers.EMPTY}, **refused(b"71 FileUnreadable " + path.replace(" ", "%20").encode(), MISSING)) for path in ("a", " a", "a ")],
+    Case("this folder", ["list", "."], {}, **refused(b"71 FileUnreadable .", READ_FOLDER)),
+    Case("a file below no folder", ["list", "no/a"], {}, **refused(b"71 FileUnreadable no/a", MISSING)),
+    Case("a file below a file", ["list", "a/b"], {"a": b""}, **refused(b"71 FileUnreadable a/b", MISSING)),
+    Case("a link to no file", ["list", "a"], {"a": "none"}, **refused(b"71 FileUnreadable a", MISSING)),
+    Case("a link to a file", ["list", "a"], {"a": "b", "b": b"Joy!"}, **refused(b"1 TooShort")),
+    Case("a file that may not be read", ["list", "a"], {"a": b"text"}, closed=("a",), **refused(b"71 FileUnreadable a", FORBIDDEN)),
     Case("a file that was longer", ["link", "a", "out"], {"a": b"", "out": bytes(10_000)}, after={"out": containers.EMPTY}, **LINKED),
-    Case("a full device for the container", ["link", "a", "/dev/full"], {"a": b""}, **refused(b"72 FileUnwritable /dev/full")),
-    Case("this folder for the container", ["link", "a", "."], {"a": b""}, **refused(b"72 FileUnwritable .")),
+    Case("a full device for the container", ["link", "a", "/dev/full"], {"a": b""}, **refused(b"72 FileUnwritable /dev/full", FULL)),
+    Case("this folder for the container", ["link", "a", "."], {"a": b""}, **refused(b"72 FileUnwritable .", FOLDER)),
+    Case("a file below a file for the container", ["link", "a", "a/b"], {"a": b""}, **refused(b"72 FileUnwritable a/b", MISSING)),
+    Case("a container that may not be written", ["link", "a", "out"], {"a": b"", "out": b"text"}, closed=("out",), **refused(b"72 FileUnwritable out", FORBIDDEN)),
     # the container is written, and the line about it isn't
     Case("a full device for a short answer", ["link", "a", "out"], {"a": VECTORS}, stderr=OUTPUT_FAILED, status=1, after={"out": containers.VECTORS}, printed_to="/dev/full"),
     Case("a full device for an error", ["list", "a"], {"a": b"Joy!"}, stderr=OUTPUT_FAILED, status=1, printed_to="/dev/full"),

@@ -7,6 +7,15 @@ def refused(line, where=b""):
     return {"stdout": b"refused " + line + b"\n", "stderr": HELP[int(line.split()[0])] + where, "status": 1}
 
 
+
+# Why a file couldn't be read or written, after the text of 71 and 72.
+MISSING = b"The system says: there is no file at this path, or a link there leads to none.\n"
+FOLDER = b"The system says: it is a folder.\n"
+READ_FOLDER = b"The system says: it is a folder. `find FOLDER -type f -print0 | pef inspect --files0` inspects the files in a folder.\n"
+FORBIDDEN = b"The system says: it may not be read or written by this user.\n"
+FULL = b"The system says: no room is left on the disk.\n"
+
+
 def at_byte(words, offset):
     """Returns the sentence on a field of a container, by the words for it and its offset in the file."""
     return b"It is %s, at byte 0x%X of the file.\n" % (words, offset)

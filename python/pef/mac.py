@@ -479,4 +479,14 @@ def resource_files(path: Union[str, os.PathLike[str]]) -> List[pathlib.Path]:
         folder / f"%{name}",
         folder / "resource.frk" / name,
         folder / ".resource" / name,
+        *_mirrors(folder, f"._{name}"),
     ]
+
+
+def _mirrors(folder: pathlib.Path, name: str) -> Iterator[pathlib.Path]:
+    """Where archives by macOS have it: a folder `__MACOSX` above mirrors the folders beside it."""
+    for above in folder.parents:
+        below = folder.relative_to(above)
+        if ".." in below.parts:
+            return
+        yield above / "__MACOSX" / below / name

@@ -38,7 +38,35 @@ const CALLS: &[(Contents, &[&str], u64, u64, u64)] = &[
         2,
         0,
     ),
-    (&[("d/._a", b"")], &["inspect", "d/a"], 9, 7, 0),
+    // folders above, the nearest first
+    (&[("__MACOSX/d/._a", b"r")], &["inspect", "d/a"], 10, 8, 0),
+    (
+        &[("x/y/a", DATA_FORK), ("x/__MACOSX/y/._a", b"r")],
+        &["inspect", "x/y/a"],
+        10,
+        8,
+        0,
+    ),
+    (
+        &[("x/y/a", DATA_FORK), ("__MACOSX/x/y/._a", b"r")],
+        &["inspect", "x/y/a"],
+        11,
+        9,
+        0,
+    ),
+    (
+        &[("/x/a", DATA_FORK), ("/__MACOSX/x/._a", b"r")],
+        &["inspect", "/x/a"],
+        10,
+        8,
+        0,
+    ),
+    (&[("d/._a", b"")], &["inspect", "d/a"], 10, 8, 0),
+    // up to a folder without a name
+    (&[("../a", DATA_FORK)], &["inspect", "../a"], 9, 8, 0),
+    (&[("./d/a", DATA_FORK)], &["inspect", "./d/a"], 10, 9, 0),
+    (&[("/a", DATA_FORK)], &["inspect", "/a"], 9, 8, 0),
+    (&[("x//a", DATA_FORK)], &["inspect", "x//a"], 9, 8, 0),
     // No other file is looked for.
     (&[("._b", b"text")], &["inspect", "._b"], 1, 0, 0),
     (&[("d/._b", b"text")], &["inspect", "d/._b"], 1, 0, 0),
@@ -89,8 +117,8 @@ const CALLS: &[(Contents, &[&str], u64, u64, u64)] = &[
     (
         &[("._a", b"r")],
         &["extract", "d/a", "Calc", "out"],
+        10,
         9,
-        8,
         0,
     ),
     (

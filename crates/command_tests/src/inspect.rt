@@ -2,7 +2,7 @@ use pef_tool::FileFault;
 use std::test::Fail;
 use test_bench::runs::{Handed, assert_cut_output, assert_prints};
 
-/// The number of places at which a resource fork is looked for.
+/// The number of places at which the resource fork of a file is looked for, if its path has no folder.
 const PLACES: u64 = 8;
 
 /// A file that can't be read, or whose reading lacks memory, is an error of that file.

@@ -137,6 +137,7 @@ const INSPECTED: &[u8] = b"file a size 250 format container
 000000D8 reloc section 1 halfwords 1 first 0
 000000E4 4601 TVector8 2
 000000F0 export go class 2 section 1 value 00000000
+verdict whole needs 250 has 250 sections whole imports whole exports whole relocations whole
 total containers 1 errors 0 notes 0
 ";
 

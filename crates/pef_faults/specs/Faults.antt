@@ -6,6 +6,8 @@ use Rattle.cfm_prepare.specs.Faults as prepare
 use Rattle.pef_cert.specs.Text.Faults as cert
 use Rattle.pef_listing.specs.Faults as listing
 use Rattle.pef_ports.specs.Faults as input
+use Rattle.pef_ports.specs.declared.ports.FileReason.{FileReason}
+use Rattle.pef_ports.specs.declared.ports.FileReason.TheVariants.{Other}
 use Rattle.pef_script.specs.Text.Faults as script
 use Rattle.pef_faults.specs.declared.fault.Fault.{Fault}
 use Rattle.pef_faults.specs.declared.fault.Fault.TheVariants.{Script, Listing, Certificate, SectionsDiffer, Input, Prepare, Fragment, Unreadable, Unwritable, OutOfMemory}
@@ -19,8 +21,8 @@ fault_number SectionsDiffer = 52
 fault_number (Input fault) = input.fault_number fault
 fault_number (Prepare fault) = prepare.fault_number fault
 fault_number (Fragment fault) = members.fragment_fault_number fault
-fault_number (Unreadable path) = 71
-fault_number (Unwritable path) = 72
+fault_number (Unreadable path reason) = 71
+fault_number (Unwritable path reason) = 72
 fault_number OutOfMemory = 99
 
 -- the names
@@ -32,8 +34,8 @@ fault_name SectionsDiffer = codes "SectionsDiffer"
 fault_name (Input fault) = input.fault_name fault
 fault_name (Prepare fault) = prepare.fault_name fault
 fault_name (Fragment fault) = members.fragment_fault_name fault
-fault_name (Unreadable path) = codes "FileUnreadable"
-fault_name (Unwritable path) = codes "FileUnwritable"
+fault_name (Unreadable path reason) = codes "FileUnreadable"
+fault_name (Unwritable path reason) = codes "FileUnwritable"
 fault_name OutOfMemory = codes "OutOfMemory"
 
 -- the line of a text that is refused
@@ -44,6 +46,12 @@ fault_line _ = None
 
 -- the path of a file that couldn't be read or written
 unfoldable pub fault_path : Fault → Option (List ℕ)
-fault_path (Unreadable path) = Some path.now
-fault_path (Unwritable path) = Some path.now
+fault_path (Unreadable path reason) = Some path.now
+fault_path (Unwritable path reason) = Some path.now
 fault_path _ = None
+
+-- why it couldn't
+unfoldable pub fault_reason : Fault → FileReason
+fault_reason (Unreadable path reason) = reason
+fault_reason (Unwritable path reason) = reason
+fault_reason _ = Other

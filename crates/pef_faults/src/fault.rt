@@ -1,11 +1,11 @@
 ghost use Rattle.std.specs.Prelude.{◌≡◌, option_map};
-ghost use Rattle.pef_faults.specs.Faults.{fault_line, fault_name, fault_number, fault_path};
+ghost use Rattle.pef_faults.specs.Faults.{fault_line, fault_name, fault_number, fault_path, fault_reason};
 
 use cfm_members::FragmentFault;
 use cfm_prepare::PrepareFault;
 use pef_cert::CertFault;
 use pef_listing::ListFault;
-use pef_ports::InputFault;
+use pef_ports::{FileReason, InputFault};
 use pef_script::ScriptFault;
 use std::alloc::{AllocError, AllocFailed};
 
@@ -26,10 +26,10 @@ pub enum Fault<'a> {
     Prepare(PrepareFault<'a>),
     /// The container of a fragment isn't found in a file.
     Fragment(FragmentFault),
-    /// The file at this path couldn't be read.
-    Unreadable { path: &'a [u8] },
-    /// The file at this path couldn't be written.
-    Unwritable { path: &'a [u8] },
+    /// The file at this path couldn't be read, for this reason.
+    Unreadable { path: &'a [u8], reason: FileReason },
+    /// The file at this path couldn't be written, for this reason.
+    Unwritable { path: &'a [u8], reason: FileReason },
     /// An allocation failed.
     OutOfMemory,
 }
@@ -98,7 +98,7 @@ impl<'a> Fault<'a> {
         ensures { option_map (λ path. path.now) result ≡ fault_path self.now }
     {
         match self {
-            Fault::Unreadable { path } | Fault::Unwritable { path } => Some(path),
+            Fault::Unreadable { path, .. } | Fault::Unwritable { path, .. } => Some(path),
             Fault::Script { .. }
             | Fault::Listing(_)
             | Fault::Certificate(_)
@@ -107,6 +107,24 @@ impl<'a> Fault<'a> {
             | Fault::Prepare(_)
             | Fault::Fragment(_)
             | Fault::OutOfMemory => None,
+        }
+    }
+
+    /// Returns why the file couldn't be read or written. Other errors have no reason of this kind.
+    #[tactic(auto, unfolding(crate::specs::Faults::fault_reason))]
+    pub fn reason(&self) -> FileReason
+        ensures { result ≡ fault_reason self.now }
+    {
+        match self {
+            Fault::Unreadable { reason, .. } | Fault::Unwritable { reason, .. } => *reason,
+            Fault::Script { .. }
+            | Fault::Listing(_)
+            | Fault::Certificate(_)
+            | Fault::SectionsDiffer
+            | Fault::Input(_)
+            | Fault::Prepare(_)
+            | Fault::Fragment(_)
+            | Fault::OutOfMemory => FileReason::Other,
         }
     }
 }

@@ -1,7 +1,7 @@
 //! What is known of an error beyond its line, and how the explanation says it.
 ghost use Rattle.std.specs.Prelude.{◌≡◌};
 ghost use Rattle.pef_ports.specs.Sent.{Sends};
-ghost use Rattle.pef_faults.specs.Notes.Notes.{bind_note, fragment_note, list_note, note_of, note_text, place_note, prepare_note, script_fault_note, versions_text};
+ghost use Rattle.pef_faults.specs.Notes.Notes.{bind_note, fragment_note, list_note, note_of, note_text, place_note, prepare_note, reason_text, script_fault_note, unread_note, unwritten_note, versions_text};
 
 mod excerpt;
 mod places;
@@ -15,9 +15,13 @@ use cfm_prepare::{FragmentFault, PrepareFault};
 pub use excerpt::Excerpt;
 use pef_format::Place;
 use pef_listing::ListFault;
-use pef_ports::{Page, Piece, Sink, StreamFault, print_pieces, send};
+use pef_ports::{FileReason, Page, Piece, Sink, StreamFault, print_pieces, send};
 use pef_script::ScriptFault;
 pub use script::{Reason, ScriptNote};
+
+/// The sentences on a folder that was to be read.
+const FOLDER: &[u8] =
+    b"\nThe system says: it is a folder. `find FOLDER -type f -print0 | pef inspect --files0` inspects the files in a folder.\n";
 
 /// What is known of an error beyond its line.
 #[derive(Clone, Copy, Debug, PartialEq, Eq)]
@@ -41,6 +45,10 @@ pub enum Note {
     },
     /// The line of a script.
     Script(ScriptNote),
+    /// Why a file couldn't be read or written.
+    File(FileReason),
+    /// A folder was to be read.
+    Folder,
 }
 
 /// Returns what is known of an error beyond its line.
@@ -52,12 +60,12 @@ pub fn note_of(fault: &Fault<'_>) -> Note
         Fault::Script { fault, text } => script_fault_note(*fault, text),
         Fault::Listing(fault) => list_note(*fault),
         Fault::Prepare(fault) => prepare_note(fault),
+        Fault::Unreadable { reason, .. } => unread_note(*reason),
+        Fault::Unwritable { reason, .. } => unwritten_note(*reason),
         Fault::Certificate(_)
         | Fault::SectionsDiffer
         | Fault::Input(_)
         | Fault::Fragment(_)
-        | Fault::Unreadable { .. }
-        | Fault::Unwritable { .. }
         | Fault::OutOfMemory => Note::Nothing,
     }
 }
@@ -150,6 +158,34 @@ fn fragment_note(fault: &FragmentFault<'_>) -> Note
     }
 }
 
+/// Returns what is known of a file that couldn't be read.
+fn unread_note(reason: FileReason) -> Note
+    ensures { result ≡ unread_note reason }
+{
+    match reason {
+        FileReason::Folder => Note::Folder,
+        FileReason::Missing
+        | FileReason::Forbidden
+        | FileReason::Full
+        | FileReason::NotUtf8
+        | FileReason::Other => unwritten_note(reason),
+    }
+}
+
+/// Returns what is known of a file that couldn't be written.
+fn unwritten_note(reason: FileReason) -> Note
+    ensures { result ≡ unwritten_note reason }
+{
+    match reason {
+        FileReason::Other => Note::Nothing,
+        FileReason::Missing
+        | FileReason::Folder
+        | FileReason::Forbidden
+        | FileReason::Full
+        | FileReason::NotUtf8 => Note::File(reason),
+    }
+}
+
 /// Returns the note of a place, if there is one.
 fn place_note(place: Option<Place>) -> Note
     ensures { result ≡ place_note place }
@@ -184,6 +220,24 @@ pub fn print_note<W: Sink>(out: &mut W, page: &mut Page, note: &Note) -> Result<
             print_place(out, page, *place)
         }
         Note::Script(note) => print_script_note(out, page, note),
+        Note::File(reason) => send(out, page, reason_text(*reason)),
+        Note::Folder => send(out, page, FOLDER),
+    }
+}
+
+/// Returns the sentence on a file that couldn't be read or written.
+fn reason_text(reason: FileReason) -> &'static [u8]
+    ensures { result.now ≡ reason_text reason }
+{
+    match reason {
+        FileReason::Missing =>
+            b"\nThe system says: there is no file at this path, or a link there leads to none.\n",
+        FileReason::Folder => b"\nThe system says: it is a folder.\n",
+        FileReason::Forbidden =>
+            b"\nThe system says: it may not be read or written by this user.\n",
+        FileReason::Full => b"\nThe system says: no room is left on the disk.\n",
+        FileReason::NotUtf8 => b"\nThe path isn't valid UTF-8, and such a path can't be opened.\n",
+        FileReason::Other => b"\n",
     }
 }
 

@@ -130,8 +130,8 @@ all_accepted texts script certificates judged is holds are printed judges = by j
     by (Err (Input fault)) never = absurd never
     by (Err (Prepare fault)) never = absurd never
     by (Err (Fragment fault)) never = absurd never
-    by (Err (Unreadable path)) never = absurd never
-    by (Err (Unwritable path)) never = absurd never
+    by (Err (Unreadable path reason)) never = absurd never
+    by (Err (Unwritable path reason)) never = absurd never
 
 -- .. which `link` gave
 pub accepted : (texts : Texts) (script : DescribedScript) (l : CertifiedContainer) (judged : Result (List Verdict) Fault)

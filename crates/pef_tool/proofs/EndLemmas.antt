@@ -42,8 +42,8 @@ module _ (before after : Stream) (read : Vec ℕ Global) (text : List ℕ) (read
   refused_with script fault.SectionsDiffer is ends = absurd ends
   refused_with script (fault.Input f) is ends = absurd ends
   refused_with script (fault.Fragment f) is ends = absurd ends
-  refused_with script (fault.Unreadable path) is ends = absurd ends
-  refused_with script (fault.Unwritable path) is ends = absurd ends
+  refused_with script (fault.Unreadable path reason) is ends = absurd ends
+  refused_with script (fault.Unwritable path reason) is ends = absurd ends
 
   -- `show` ends as its script does
   pub ends_with : (script : DescribedScript) (o : ShowOutcome) → script_of text ≡ Ok script → ScriptEnds script o → ShowEnds before after o
@@ -69,8 +69,8 @@ module _ (before after : Stream) (read : Vec ℕ Global) (text : List ℕ) (read
   no_script_shown (fault.Input f) fails = absurd fails
   no_script_shown (fault.Prepare f) fails = absurd fails
   no_script_shown (fault.Fragment f) fails = absurd fails
-  no_script_shown (fault.Unreadable path) fails = absurd fails
-  no_script_shown (fault.Unwritable path) fails = absurd fails
+  no_script_shown (fault.Unreadable path reason) fails = absurd fails
+  no_script_shown (fault.Unwritable path reason) fails = absurd fails
 
 -- an input that can't be read ends it
 pub fault_ends : (before after : Stream) (f : InputFault) → ReadsInput (Err f) before after input_limit → ShowRefuses before after (fault.Input f)

@@ -70,10 +70,10 @@ module _ {F : Type 0} (port : FilesPort F) (path : List ℕ) where
       ]
 
   module _ (before between after : F) (name out container : List ℕ) (found : FindsContainer port before between path name (Ok container)) (answer : Answer) where
-    written : (result : Result (Unit {0}) FileFault) → Writes port between after out container result → WrittenAnswer out container result answer → ExtractAnswers port before after path name out answer
+    written : (result : Result (Unit {0}) FileFault) → Writes port between after out container result → WrittenAnswer out container (port.reason after) result answer → ExtractAnswers port before after path name out answer
     written (Ok u) writes told = (extracts container, record { between = between; finds = found; written = writes }, told)
     written (Err file_fault.Failed) writes told =
-        (refuses (Unwritable told.0), (told.1, (container, record { between = between; finds = found; written = writes })), told.2)
+        (refuses (Unwritable told.0 (port.reason after)), (told.1, (container, record { between = between; finds = found; written = writes }), refl), told.2)
     written (Err file_fault.OutOfMemory) writes told =
         (refuses OutOfMemory, inr (inr (inr (container, record { between = between; finds = found; written = writes }))), told)
 

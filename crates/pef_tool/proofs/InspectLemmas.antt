@@ -3,9 +3,9 @@ use Rattle.std.proofs.Common.{◌≡◌, ◌+◌, ◌-◌, ◌^◌, ℕ, List, [
 use Rattle.std.specs.declared.alloc.Global.{Global}
 use Rattle.std.specs.declared.vec.Vec.{Vec}
 use Rattle.mac_report.specs.DataFiles.{DataFileIs}
-use Rattle.mac_report.specs.Reports.{unread_counts, unread_text}
+use Rattle.mac_report.specs.Reports.{unread_because, unread_counts, unread_text}
 use Rattle.mac_report.specs.declared.file.Form.{Form}
-use Rattle.pef_faults.specs.Faults.{fault_name, fault_number}
+use Rattle.pef_faults.specs.Faults.{fault_name, fault_number, fault_reason}
 use Rattle.pef_faults.specs.declared.fault.Fault.{Fault}
 use Rattle.pef_faults.specs.declared.fault.Fault.TheVariants as fault
 use Rattle.pef_ports.specs.Input.{ReadsInput}
@@ -29,9 +29,9 @@ standard_failed before after OutOfMemory reads = reads
 module _ {F : Type 0} (port : FilesPort F) (before after : F) (path : List ℕ) where
   -- a file that wasn't read
   path_failed : (why : Fault) → StopsFile port before after path why → ReadsPath port before after path (Err why)
-  path_failed (fault.Unreadable told) stops = stops
+  path_failed (fault.Unreadable told reason) stops = stops
   path_failed fault.OutOfMemory stops = stops
-  path_failed (fault.Unwritable told) stops = absurd stops
+  path_failed (fault.Unwritable told reason) stops = absurd stops
   path_failed (fault.Script f told) stops = absurd stops
   path_failed (fault.Listing f) stops = absurd stops
   path_failed (fault.Certificate f) stops = absurd stops
@@ -55,13 +55,13 @@ pub record HasInspected {F R : Type 0} (port : FilesPort F) (stream : R → Stre
 module _ {F R : Type 0} (port : FilesPort F) (stream : R → Stream) (form : Form) where
   -- a file that wasn't reached has a report
   unreached : (files : F) (input : R) (path : List ℕ)
-      → Reported port stream None form files files input input path (unread_text form path (fault_number fault.OutOfMemory) (fault_name fault.OutOfMemory)) 1
+      → Reported port stream None form files files input input path (unread_because form path (fault_number fault.OutOfMemory) (fault_name fault.OutOfMemory) (fault_reason fault.OutOfMemory)) 1
   unreached files input path = record {
     read = Err fault.OutOfMemory;
     companion = None;
     pair = record { between = files; rest = input; is = inr (refl, refl, refl); looks = ((refl, refl), refl) };
     printed = record {
-      own = unread_text form path (fault_number fault.OutOfMemory) (fault_name fault.OutOfMemory);
+      own = unread_because form path (fault_number fault.OutOfMemory) (fault_name fault.OutOfMemory) (fault_reason fault.OutOfMemory);
       own_errors = 1;
       beside = [];
       beside_errors = 0;
@@ -76,7 +76,7 @@ module _ {F R : Type 0} (port : FilesPort F) (stream : R → Stream) (form : For
   some_reports : (files : F) (input : R) (paths : List (List ℕ)) (errors : ℕ) → (text : List ℕ) × (all : ℕ) × Inspects port stream form files files input input paths errors text all
   some_reports files input [] errors = ([], errors, (refl, refl, refl, refl))
   some_reports files input (path ∷ paths) errors =
-      let here = unread_text form path (fault_number fault.OutOfMemory) (fault_name fault.OutOfMemory) in
+      let here = unread_because form path (fault_number fault.OutOfMemory) (fault_name fault.OutOfMemory) (fault_reason fault.OutOfMemory) in
       let others = some_reports files input paths (min (errors + 1) (2 ^ 64 - 1)) in
       (here ++ others.0, others.1, (files, input, here, 1, others.0, unreached files input path, others.2, refl))
 
@@ -127,7 +127,7 @@ module _ {F R : Type 0} (port : FilesPort F) (stream : R → Stream) (form : For
 -- some report on what was read
 some_printed : (form : Form) (path : List ℕ) (other : Option DataFileIs) (read : Result (List ℕ) Fault) → (text : List ℕ) × (errors : ℕ) × IsPrinted form path other read text errors
 some_printed form path other (Ok bytes) = (unread_text form path 99 (codes "OutOfMemory"), 1, (unread_counts, inr (refl, refl), refl))
-some_printed form path other (Err why) = (unread_text form path (fault_number why) (fault_name why), 1, (refl, refl))
+some_printed form path other (Err why) = (unread_because form path (fault_number why) (fault_name why) (fault_reason why), 1, (refl, refl))
 
 -- .. on a companion that wasn't reached
 pub some_beside : (form : Form) (path : List ℕ) (read : Result (List ℕ) Fault) (companion : Option CompanionIs) → (text : List ℕ) × (errors : ℕ) × IsPrintedBeside form path read companion text errors

@@ -1,5 +1,6 @@
 mod DistancesLemmas
 mod LinkLemmas
+mod MirrorLemmas
 mod OutcomeLemmas
 mod AloneLemmas
 mod CheckLemmas

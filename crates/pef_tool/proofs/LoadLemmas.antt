@@ -65,19 +65,21 @@ module _ {F : Type 0} (port : FilesPort F) where
   -- a file that can't be read stops the reading
   pub stops : (before between after : F) (xs : List NamedFile) (i : ℕ) (d : NamedFile) (contents : List (List ℕ)) (fault : Fault)
       → i < length xs → WereRead port before between (map named_path (take i xs)) contents → StopsFile port between after (get_or xs i d).path.now fault → StopsReading port before after (map named_path xs) fault
-  stops before between after xs i d contents (Unreadable told) under read stop =
+  stops before between after xs i d contents (Unreadable told reason) under read stop =
       let P : List ℕ → Type 0 = λ path. StopsAt port before after (map named_path xs) path file_fault.Failed in
-      let file = get_or xs i d in
-      subst P (sym stop.0) (record {
-        done = map named_path (take i xs);
-        name = file.name.now;
-        left = map named_path (drop (i + 1) xs);
-        are = apart xs i d under;
-        contents = contents;
-        between = between;
-        read = read;
-        stops = stop.1;
-      })
+      let file = get_or xs i d in (
+        subst P (sym stop.0) (record {
+          done = map named_path (take i xs);
+          name = file.name.now;
+          left = map named_path (drop (i + 1) xs);
+          are = apart xs i d under;
+          contents = contents;
+          between = between;
+          read = read;
+          stops = stop.1;
+        }),
+        stop.2,
+      )
   stops before between after xs i d contents OutOfMemory under read stop =
       let file = get_or xs i d in
       inr (
@@ -93,7 +95,7 @@ module _ {F : Type 0} (port : FilesPort F) where
           stops = stop;
         },
       )
-  stops before between after xs i d contents (Unwritable told) under read stop = absurd stop
+  stops before between after xs i d contents (Unwritable told reason) under read stop = absurd stop
   stops before between after xs i d contents (Script f told) under read stop = absurd stop
   stops before between after xs i d contents (Listing f) under read stop = absurd stop
   stops before between after xs i d contents (Certificate f) under read stop = absurd stop

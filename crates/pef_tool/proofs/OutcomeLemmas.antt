@@ -27,9 +27,9 @@ fails_same f text read same fails = subst (λ (t : List ℕ). FailsAs f (script_
 module _ {F : Type 0} (port : FilesPort F) (before after : F) where
   -- a script that isn't linked: its file isn't read
   pub unread_linking : (script : List ℕ) (why : Fault) → StopsFile port before after script why → link.RefusesLinking port before after script why
-  unread_linking script (fault.Unreadable told) stops = stops
+  unread_linking script (fault.Unreadable told reason) stops = stops
   unread_linking script fault.OutOfMemory stops = inr (inl stops)
-  unread_linking script (fault.Unwritable told) stops = absurd stops
+  unread_linking script (fault.Unwritable told reason) stops = absurd stops
   unread_linking script (fault.Script f told) stops = absurd stops
   unread_linking script (fault.Listing f) stops = absurd stops
   unread_linking script (fault.Certificate f) stops = absurd stops
@@ -45,8 +45,8 @@ module _ {F : Type 0} (port : FilesPort F) (before after : F) where
     refused = fails_same f text told.now (sym fails.0) fails.1;
   }
   unlinked script read text fault.OutOfMemory reads same fails = inr (inr (read, reads))
-  unlinked script read text (fault.Unreadable told) reads same fails = absurd fails
-  unlinked script read text (fault.Unwritable told) reads same fails = absurd fails
+  unlinked script read text (fault.Unreadable told reason) reads same fails = absurd fails
+  unlinked script read text (fault.Unwritable told reason) reads same fails = absurd fails
   unlinked script read text (fault.Listing f) reads same fails = absurd fails
   unlinked script read text (fault.Certificate f) reads same fails = absurd fails
   unlinked script read text fault.SectionsDiffer reads same fails = absurd fails
@@ -58,8 +58,8 @@ module _ {F : Type 0} (port : FilesPort F) (before after : F) where
   pub refuses_link : (script out : List ℕ) (why : Fault) → link.RefusesLinking port before after script why → link.LinkRefuses port before after script out why
   refuses_link script out (fault.Script f told) refuses = refuses
   refuses_link script out fault.OutOfMemory refuses = inl refuses
-  refuses_link script out (fault.Unreadable told) refuses = refuses
-  refuses_link script out (fault.Unwritable told) refuses = absurd refuses
+  refuses_link script out (fault.Unreadable told reason) refuses = refuses
+  refuses_link script out (fault.Unwritable told reason) refuses = absurd refuses
   refuses_link script out (fault.Listing f) refuses = absurd refuses
   refuses_link script out (fault.Certificate f) refuses = absurd refuses
   refuses_link script out fault.SectionsDiffer refuses = absurd refuses
@@ -69,9 +69,9 @@ module _ {F : Type 0} (port : FilesPort F) (before after : F) where
 
   -- a file that isn't read ends `list`
   pub list_refuses : (path : List ℕ) (why : Fault) → StopsFile port before after path why → list.ListRefuses port before after path why
-  list_refuses path (fault.Unreadable told) stops = stops
+  list_refuses path (fault.Unreadable told reason) stops = stops
   list_refuses path fault.OutOfMemory stops = inr stops
-  list_refuses path (fault.Unwritable told) stops = absurd stops
+  list_refuses path (fault.Unwritable told reason) stops = absurd stops
   list_refuses path (fault.Script f told) stops = absurd stops
   list_refuses path (fault.Listing f) stops = absurd stops
   list_refuses path (fault.Certificate f) stops = absurd stops
@@ -82,9 +82,9 @@ module _ {F : Type 0} (port : FilesPort F) (before after : F) where
 
   -- and `extract`
   pub extract_refuses : (path name out : List ℕ) (why : Fault) → StopsFile port before after path why → extract.ExtractRefuses port before after path name out why
-  extract_refuses path name out (fault.Unreadable told) stops = stops
+  extract_refuses path name out (fault.Unreadable told reason) stops = stops
   extract_refuses path name out fault.OutOfMemory stops = inr (inl stops)
-  extract_refuses path name out (fault.Unwritable told) stops = absurd stops
+  extract_refuses path name out (fault.Unwritable told reason) stops = absurd stops
   extract_refuses path name out (fault.Script f told) stops = absurd stops
   extract_refuses path name out (fault.Listing f) stops = absurd stops
   extract_refuses path name out (fault.Certificate f) stops = absurd stops
@@ -95,9 +95,9 @@ module _ {F : Type 0} (port : FilesPort F) (before after : F) where
 
   -- and `load`
   pub load_refuses : (named : List (List ℕ × List ℕ)) (why : Fault) → StopsReading port before after named why → load.LoadRefuses port before after named why
-  load_refuses named (fault.Unreadable told) stops = stops
+  load_refuses named (fault.Unreadable told reason) stops = stops
   load_refuses named fault.OutOfMemory stops = stops
-  load_refuses named (fault.Unwritable told) stops = absurd stops
+  load_refuses named (fault.Unwritable told reason) stops = absurd stops
   load_refuses named (fault.Script f told) stops = absurd stops
   load_refuses named (fault.Listing f) stops = absurd stops
   load_refuses named (fault.Certificate f) stops = absurd stops
@@ -108,9 +108,9 @@ module _ {F : Type 0} (port : FilesPort F) (before after : F) where
 
   -- and `check`, for each of its two files
   pub check_refuses : (script cert : List ℕ) (why : Fault) → StopsFile port before after script why → check.RefusesFiles port before after script cert why
-  check_refuses script cert (fault.Unreadable told) stops = inl stops
+  check_refuses script cert (fault.Unreadable told reason) stops = (inl (stops.0, stops.1), stops.2)
   check_refuses script cert fault.OutOfMemory stops = inr (inl stops)
-  check_refuses script cert (fault.Unwritable told) stops = absurd stops
+  check_refuses script cert (fault.Unwritable told reason) stops = absurd stops
   check_refuses script cert (fault.Script f told) stops = absurd stops
   check_refuses script cert (fault.Listing f) stops = absurd stops
   check_refuses script cert (fault.Certificate f) stops = absurd stops
@@ -120,9 +120,9 @@ module _ {F : Type 0} (port : FilesPort F) (before after : F) where
   check_refuses script cert (fault.Fragment f) stops = absurd stops
 
   pub check_refuses_later : (between : F) (script cert text : List ℕ) (why : Fault) → Reads port before between script (Ok text) → StopsFile port between after cert why → check.RefusesFiles port before after script cert why
-  check_refuses_later between script cert text (fault.Unreadable told) first stops = inr (stops.0, (text, record { between = between; first = first; second = stops.1 }))
+  check_refuses_later between script cert text (fault.Unreadable told reason) first stops = (inr (stops.0, (text, record { between = between; first = first; second = stops.1 })), stops.2)
   check_refuses_later between script cert text fault.OutOfMemory first stops = inr (inr (text, record { between = between; first = first; second = stops }))
-  check_refuses_later between script cert text (fault.Unwritable told) first stops = absurd stops
+  check_refuses_later between script cert text (fault.Unwritable told reason) first stops = absurd stops
   check_refuses_later between script cert text (fault.Script f told) first stops = absurd stops
   check_refuses_later between script cert text (fault.Listing f) first stops = absurd stops
   check_refuses_later between script cert text (fault.Certificate f) first stops = absurd stops

@@ -112,9 +112,10 @@ ReadingLacksMemory port before after script cert =
 
 -- why the two files aren't both read: one of them can't be read, or an allocation failed
 abbrev pub RefusesFiles : {F : Type 0} → FilesPort F → F → F → List ℕ → List ℕ → Fault → Type 0
-RefusesFiles port before after script cert (Unreadable path) =
-    ((path.now ≡ script) × Reads port before after script (Err file_fault.Failed))
-    ⊎ ((path.now ≡ cert) × ((text : List ℕ) × ReadsSecond port before after script cert text (Err file_fault.Failed)))
+RefusesFiles port before after script cert (Unreadable path reason) =
+    (((path.now ≡ script) × Reads port before after script (Err file_fault.Failed))
+    ⊎ ((path.now ≡ cert) × ((text : List ℕ) × ReadsSecond port before after script cert text (Err file_fault.Failed))))
+    × (reason ≡ port.reason after)
 RefusesFiles port before after script cert OutOfMemory = ReadingLacksMemory port before after script cert
 RefusesFiles port before after script cert _ = ⊥
 

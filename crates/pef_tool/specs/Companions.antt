@@ -1,7 +1,7 @@
 -- The companion of a file: another file that has its resource fork. Where `inspect` and `extract` look for it, and what they
--- find. macOS makes `._NAME` and `__MACOSX/._NAME`, netatalk `.AppleDouble/NAME`, emulators and other tools the rest. The order
--- is this project's own.
-use Rattle.std.specs.Prelude.{◌≡◌, ◌⊎◌, ◌==◌, ◌||◌, ◌&&◌, ℕ, Bool, true, false, not, List, [], ◌∷◌, ◌++◌, Option, None, Some, Result, Ok, Err, codes, take, if◌then◌else◌}
+-- find. macOS makes `._NAME`, and in archives one folder `__MACOSX` that mirrors all others, netatalk `.AppleDouble/NAME`,
+-- emulators and other tools the rest. The order is this project's own.
+use Rattle.std.specs.Prelude.{◌≡◌, ◌⊎◌, ◌==◌, ◌||◌, ◌&&◌, ℕ, zero, suc, Bool, true, false, not, List, [], ◌∷◌, ◌++◌, Option, None, Some, Result, Ok, Err, codes, drop, get_or, length, take, if◌then◌else◌}
 use Rattle.std.specs.Str.{bytes_eq}
 use Rattle.mac_report.specs.DataFiles.{is_data_fork, is_resource_file}
 use Rattle.pef_faults.specs.declared.fault.Fault.{Fault}
@@ -28,14 +28,40 @@ name_of (b ∷ path) = if has_slash (b ∷ path) then name_of path else b ∷ pa
 abbrev pub place_of : List ℕ → List ℕ → List ℕ → List ℕ → List ℕ
 place_of folder name before after = folder ++ (before ++ (name ++ after))
 
--- the places that are looked at, in order
-unfoldable pub companion_places : List ℕ → List (List ℕ)
-companion_places path =
-    let at = place_of (folder_of path) (name_of path) in
+-- the places in the same folder
+unfoldable pub near_places : List ℕ → List ℕ → List (List ℕ)
+near_places folder name =
+    let at = place_of folder name in
     at (codes "._") []
     ∷ at (codes "__MACOSX/._") []
     ∷ at (codes ".AppleDouble/") [] ∷ at (codes ".rsrc/") [] ∷ at [] (codes ".rsrc") ∷ at (codes "%") []
     ∷ at (codes "resource.frk/") [] ∷ at (codes ".resource/") [] ∷ []
+
+-- the name of a folder may begin at an offset of a path: at its start, or after a `/`
+abbrev pub is_start : List ℕ → ℕ → Bool
+is_start folder zero = true
+is_start folder (suc before) = get_or folder before 0 == 0x2F
+
+-- the rest of a path begins with no name of a folder, but with `/`, or with this folder or the one above
+abbrev pub is_unnamed : List ℕ → Bool
+is_unnamed rest = bytes_eq (codes "/") (take 1 rest) || (bytes_eq (codes "./") (take 2 rest) || bytes_eq (codes "../") (take 3 rest))
+
+-- the place in a folder above: `__MACOSX` is in the folder that ends at an offset, and mirrors the rest
+abbrev pub mirror_of : List ℕ → List ℕ → ℕ → List ℕ
+mirror_of folder name at = take at folder ++ (codes "__MACOSX/" ++ (drop at folder ++ (codes "._" ++ name)))
+
+-- those of the folders that end before an offset, from the nearest outwards, as long as the folders below them have names
+abbrev pub mirrors_before : List ℕ → List ℕ → ℕ → List (List ℕ)
+mirrors_before folder name zero = []
+mirrors_before folder name (suc at) =
+    if not (is_start folder at) then mirrors_before folder name at
+    else if is_unnamed (drop at folder) then []
+    else mirror_of folder name at ∷ mirrors_before folder name at
+
+-- the places that are looked at, in order: those in the same folder, and then those in the folders above
+unfoldable pub companion_places : List ℕ → List (List ℕ)
+companion_places path =
+    near_places (folder_of path) (name_of path) ++ mirrors_before (folder_of path) (name_of path) (length (folder_of path))
 
 -- a file may have a companion: it can be a data fork, and its name isn't that of a companion of macOS
 unfoldable pub may_have_companion : List ℕ → List ℕ → Bool

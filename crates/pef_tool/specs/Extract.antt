@@ -86,9 +86,10 @@ ExtractLacksMemory port before after path name out =
 
 -- why `extract` is refused: FILE can't be read or has no such container, OUT can't be written, or an allocation failed
 abbrev pub ExtractRefuses : {F : Type 0} → FilesPort F → F → F → List ℕ → List ℕ → List ℕ → Fault → Type 0
-ExtractRefuses port before after path name out (Unreadable told) = (told.now ≡ path) × Reads port before after path (Err file_fault.Failed)
+ExtractRefuses port before after path name out (Unreadable told reason) = (told.now ≡ path) × Reads port before after path (Err file_fault.Failed) × (reason ≡ port.reason after)
 ExtractRefuses port before after path name out (Fragment fault) = FindsContainer port before after path name (Err (Fragment fault))
-ExtractRefuses port before after path name out (Unwritable told) = (told.now ≡ out) × ((container : List ℕ) × WritesFound port before after path name out container (Err file_fault.Failed))
+ExtractRefuses port before after path name out (Unwritable told reason) =
+    (told.now ≡ out) × ((container : List ℕ) × WritesFound port before after path name out container (Err file_fault.Failed)) × (reason ≡ port.reason after)
 ExtractRefuses port before after path name out OutOfMemory = ExtractLacksMemory port before after path name out
 ExtractRefuses port before after path name out _ = ⊥
 

@@ -4,10 +4,10 @@
 use Rattle.std.specs.Prelude.{◌≡◌, ◌⊎◌, ℕ, ◌+◌, ◌-◌, ◌^◌, ◌==◌, ◌&&◌, ◌≤◌, Bool, true, false, not, List, [], ◌∷◌, ◌++◌, Option, None, Some, Result, Ok, Err, codes, length, min, if◌then◌else◌}
 use Rattle.std.specs.Str.{bytes_eq}
 use Rattle.mac_report.specs.DataFiles.{DataFileIs}
-use Rattle.mac_report.specs.Reports.{IsReport, unread_text}
+use Rattle.mac_report.specs.Reports.{IsReport, unread_because}
 use Rattle.mac_report.specs.declared.file.Form.{Form}
 use Rattle.mac_report.specs.declared.file.Form.TheVariants.{Text, Json}
-use Rattle.pef_faults.specs.Faults.{fault_name, fault_number}
+use Rattle.pef_faults.specs.Faults.{fault_name, fault_number, fault_reason}
 use Rattle.pef_faults.specs.declared.fault.Fault.{Fault}
 use Rattle.pef_faults.specs.declared.fault.Fault.TheVariants.{Input, Unreadable, OutOfMemory}
 use Rattle.pef_ports.specs.Input.{IsWhole}
@@ -39,7 +39,7 @@ ReadsStandard before after (Err _) = ⊥
 -- the file at a path was read, or why not
 abbrev pub ReadsPath : {F : Type 0} → FilesPort F → F → F → List ℕ → Result (List ℕ) Fault → Type 0
 ReadsPath port before after path (Ok bytes) = Reads port before after path (Ok bytes)
-ReadsPath port before after path (Err (Unreadable told)) = (told.now ≡ path) × Reads port before after path (Err file_fault.Failed)
+ReadsPath port before after path (Err (Unreadable told reason)) = (told.now ≡ path) × Reads port before after path (Err file_fault.Failed) × (reason ≡ port.reason after)
 ReadsPath port before after path (Err OutOfMemory) = Reads port before after path (Err file_fault.OutOfMemory)
 ReadsPath port before after path (Err _) = ⊥
 
@@ -80,7 +80,7 @@ pub record ReadsPair {F R : Type 0} (port : FilesPort F) (stream : R → Stream)
 -- a report on what was read, and its number of errors. A file that wasn't read has one error
 abbrev pub IsPrinted : Form → List ℕ → Option DataFileIs → Result (List ℕ) Fault → List ℕ → ℕ → Type 0
 IsPrinted form path other (Ok bytes) text errors = (counts : Counts) × IsReport form path bytes other text counts × (errors ≡ counts.errors)
-IsPrinted form path other (Err fault) text errors = (text ≡ unread_text form path (fault_number fault) (fault_name fault)) × (errors ≡ 1)
+IsPrinted form path other (Err fault) text errors = (text ≡ unread_because form path (fault_number fault) (fault_name fault) (fault_reason fault)) × (errors ≡ 1)
 
 -- the report on the companion of a file, if there is one. The file has its data fork
 abbrev pub IsPrintedBeside : Form → List ℕ → Result (List ℕ) Fault → Option CompanionIs → List ℕ → ℕ → Type 0

@@ -36,7 +36,7 @@ LinkingLacksMemory port before after script =
 
 -- why SCRIPT isn't linked
 abbrev pub RefusesLinking : {F : Type 0} → FilesPort F → F → F → List ℕ → Fault → Type 0
-RefusesLinking port before after script (Unreadable path) = (path.now ≡ script) × Reads port before after script (Err file_fault.Failed)
+RefusesLinking port before after script (Unreadable path reason) = (path.now ≡ script) × Reads port before after script (Err file_fault.Failed) × (reason ≡ port.reason after)
 RefusesLinking port before after script (Script fault text) = RefusesFile port before after script fault text.now
 RefusesLinking port before after script OutOfMemory = LinkingLacksMemory port before after script
 RefusesLinking port before after script _ = ⊥
@@ -55,7 +55,8 @@ LinkLacksMemory port before after script out =
 
 -- why `link` is refused: SCRIPT can't be read or isn't a script, OUT can't be written, or an allocation failed
 abbrev pub LinkRefuses : {F : Type 0} → FilesPort F → F → F → List ℕ → List ℕ → Fault → Type 0
-LinkRefuses port before after script out (Unwritable path) = (path.now ≡ out) × ((l : LinkedContainer) × WritesLinked port before after script out l (Err file_fault.Failed))
+LinkRefuses port before after script out (Unwritable path reason) =
+    (path.now ≡ out) × ((l : LinkedContainer) × WritesLinked port before after script out l (Err file_fault.Failed)) × (reason ≡ port.reason after)
 LinkRefuses port before after script out OutOfMemory = LinkLacksMemory port before after script out
 LinkRefuses port before after script out fault = RefusesLinking port before after script fault
 

@@ -26,7 +26,7 @@ pub data ListOutcome : Type 0 where
 -- before or while FILE was read
 abbrev pub ListRefuses : {F : Type 0} → FilesPort F → F → F → List ℕ → Fault → Type 0
 ListRefuses port before after path (Listing fault) = ReadsParts port before after path (Err fault)
-ListRefuses port before after path (Unreadable told) = (told.now ≡ path) × Reads port before after path (Err file_fault.Failed)
+ListRefuses port before after path (Unreadable told reason) = (told.now ≡ path) × Reads port before after path (Err file_fault.Failed) × (reason ≡ port.reason after)
 ListRefuses port before after path OutOfMemory = (after ≡ before) ⊎ Reads port before after path (Err file_fault.OutOfMemory)
 ListRefuses port before after path _ = ⊥
 

@@ -71,7 +71,7 @@ LoadLacksMemory port before after named =
 -- read, or an allocation for reading failed
 abbrev pub LoadRefuses : {F : Type 0} → FilesPort F → F → F → List (List ℕ × List ℕ) → Fault → Type 0
 LoadRefuses port before after named (Prepare fault) = RefusesFirst port before after named fault
-LoadRefuses port before after named (Unreadable path) = StopsAt port before after named path.now file_fault.Failed
+LoadRefuses port before after named (Unreadable path reason) = StopsAt port before after named path.now file_fault.Failed × (reason ≡ port.reason after)
 LoadRefuses port before after named OutOfMemory = LoadLacksMemory port before after named
 LoadRefuses port before after named _ = ⊥
 

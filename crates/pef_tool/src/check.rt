@@ -44,7 +44,7 @@ pub fn check_files<F: Files, W: Sink>(
     out: &mut W,
 ) -> Outcome
     ensures { (answer : Answer)
-        × CheckAnswers (record { state = F.state; was_read = F.was_read; was_written = F.was_written }) files.old files.new script.now cert.now answer
+        × CheckAnswers (record { state = F.state; reason = F.reason; was_read = F.was_read; was_written = F.was_written }) files.old files.new script.now cert.now answer
         × IsDelivered (W.stream out.old) (W.stream out.new) answer result }
 {
     let text = match read_file(alloc, files, script) {

@@ -35,7 +35,7 @@ pub fn run<F: Files, R: Source, W: Sink>(
 ) -> u8
     ensures { (answer : Answer)
         × (outcome : Outcome)
-        × RunAnswers (record { state = F.state; was_read = F.was_read; was_written = F.was_written }) R.stream (request_by (map string_bytes words.now)) files.old files.new input.old input.new answer
+        × RunAnswers (record { state = F.state; reason = F.reason; was_read = F.was_read; was_written = F.was_written }) R.stream (request_by (map string_bytes words.now)) files.old files.new input.old input.new answer
         × IsDelivered (W.stream out.old) (W.stream out.new) answer outcome
         × (result ≡ status_of outcome) }
 {
@@ -51,7 +51,7 @@ pub fn perform<F: Files, R: Source, W: Sink>(
     out: &mut W,
 ) -> Outcome
     ensures { (answer : Answer)
-        × RunAnswers (record { state = F.state; was_read = F.was_read; was_written = F.was_written }) R.stream (request_by (map string_bytes words.now)) files.old files.new input.old input.new answer
+        × RunAnswers (record { state = F.state; reason = F.reason; was_read = F.was_read; was_written = F.was_written }) R.stream (request_by (map string_bytes words.now)) files.old files.new input.old input.new answer
         × IsDelivered (W.stream out.old) (W.stream out.new) answer result }
 {
     match read_request(alloc, words) {
@@ -77,7 +77,7 @@ fn run_request<F: Files, R: Source, W: Sink>(
     out: &mut W,
 ) -> Outcome
     ensures { (answer : Answer)
-        × RunAnswers (record { state = F.state; was_read = F.was_read; was_written = F.was_written }) R.stream (Some (asked_of request.entry)) files.old files.new input.old input.new answer
+        × RunAnswers (record { state = F.state; reason = F.reason; was_read = F.was_read; was_written = F.was_written }) R.stream (Some (asked_of request.entry)) files.old files.new input.old input.new answer
         × IsDelivered (W.stream out.old) (W.stream out.new) answer result }
 {
     match request {

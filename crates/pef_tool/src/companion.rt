@@ -1,9 +1,9 @@
 //! Looks for the companion of a file: another file that has its resource fork.
-ghost use Rattle.std.specs.Prelude.{◌≡◌, ◌≤◌, IfOk, List, ℕ, codes, drop, length, map, option_map, take};
+ghost use Rattle.std.specs.Prelude.{◌≡◌, ◌<◌, ◌≤◌, IfOk, IfSome, List, ℕ, codes, drop, length, map, option_map, take};
 ghost use Rattle.std.specs.Str.{bytes_eq};
 ghost use Rattle.pef_words.specs.Refusals.{result_map};
-ghost use Rattle.pef_tool.specs.Companions.{Looks, LooksAt, companion_places, folder_of, may_have_companion, name_of, place_of};
-ghost use Rattle.pef_tool.specs.Kept.Inspecting.{companion_seen, place_seen};
+ghost use Rattle.pef_tool.specs.Companions.{Looks, LooksAt, companion_places, folder_of, is_start, is_unnamed, may_have_companion, mirror_of, mirrors_before, name_of, near_places, place_of};
+ghost use Rattle.pef_tool.specs.Kept.Inspecting.{companion_seen, mirrors_from, place_seen};
 
 use crate::inspect::Named;
 use mac_report::{is_data_fork, is_resource_file};
@@ -97,7 +97,23 @@ pub(crate) fn find_companion<'a, F: Files>(
     files: &mut F,
     path: &[u8],
 ) -> Option<Companion<'a>>
-    ensures { Looks (record { state = F.state; was_read = F.was_read; was_written = F.was_written }) path.now files.old files.new (companion_places path.now) (option_map (companion_seen path.now) result) }
+    ensures { Looks (record { state = F.state; reason = F.reason; was_read = F.was_read; was_written = F.was_written }) path.now files.old files.new (companion_places path.now) (option_map (companion_seen path.now) result) }
+{
+    let split = SplitPath::of(path);
+    match look_near(alloc, files, split) {
+        Some(companion) => Some(companion),
+        None => look_above(alloc, files, split),
+    }
+}
+
+/// Returns the companion of a file that is in the same folder, or in one of the folders there.
+#[tactic(auto, unfolding(crate::specs::Companions::near_places))]
+fn look_near<'a, F: Files>(
+    alloc: Global,
+    files: &mut F,
+    path: SplitPath<'_>,
+) -> Option<Companion<'a>>
+    ensures { (own : List ℕ) → Looks (record { state = F.state; reason = F.reason; was_read = F.was_read; was_written = F.was_written }) own files.old files.new (near_places path.entry.folder.now path.entry.name.now) (option_map (companion_seen own) result) }
 {
     let places = [
         Place {
@@ -133,7 +149,90 @@ pub(crate) fn find_companion<'a, F: Files>(
             after: b"",
         },
     ];
-    look_at_places(alloc, files, SplitPath::of(path), &places)
+    look_at_places(alloc, files, path, &places)
+}
+
+/// Returns the companion of a file that is in a folder `__MACOSX` above. Each of these mirrors the folders beside it.
+fn look_above<'a, F: Files>(
+    alloc: Global,
+    files: &mut F,
+    path: SplitPath<'_>,
+) -> Option<Companion<'a>>
+    ensures { (own : List ℕ) → Looks (record { state = F.state; reason = F.reason; was_read = F.was_read; was_written = F.was_written }) own files.old files.new (mirrors_before path.entry.folder.now path.entry.name.now (length path.entry.folder.now)) (option_map (companion_seen own) result) }
+{
+    let mut end = path.folder.len();
+    while end > 0 {
+        let Some(at) = name_before(path.folder, end) else {
+            return None;
+        };
+        match look_at_mirror(alloc, files, path, at) {
+            Some(companion) => return Some(companion),
+            None => end = at,
+        }
+    }
+    None
+}
+
+/// Returns the offset at which the last folder's name before an offset begins, if it is a name.
+fn name_before(folder: &[u8], end: usize) -> Option<usize>
+    requires { end ≤ length folder.now }
+    ensures before { IfSome result (λ at. at < end) }
+    ensures places { (name : List ℕ) → mirrors_before folder.now name end ≡ mirrors_from folder.now name result }
+{
+    let mut at = end;
+    while at > 0 {
+        at -= 1;
+        if is_start(folder, at) {
+            let (_, rest) = folder.split_at(at);
+            return if is_unnamed(rest) { None } else { Some(at) };
+        }
+    }
+    None
+}
+
+/// Returns whether the name of a folder may begin at an offset of a path.
+fn is_start(folder: &[u8], at: usize) -> bool
+    requires { at < length folder.now }
+    ensures { result ≡ is_start folder.now at }
+{
+    at == 0 || folder[at - 1] == b'/'
+}
+
+/// Returns whether the rest of a path begins with no name of a folder.
+fn is_unnamed(rest: &[u8]) -> bool
+    ensures { result ≡ is_unnamed rest.now }
+{
+    rest.starts_with(b"/") || rest.starts_with(b"./") || rest.starts_with(b"../")
+}
+
+/// Returns the companion in the folder `__MACOSX` at an offset of the path, if there is one.
+fn look_at_mirror<'a, F: Files>(
+    alloc: Global,
+    files: &mut F,
+    path: SplitPath<'_>,
+    at: usize,
+) -> Option<Companion<'a>>
+    requires { at ≤ length path.folder.now }
+    ensures { (own : List ℕ) → LooksAt (record { state = F.state; reason = F.reason; was_read = F.was_read; was_written = F.was_written }) own files.old files.new (mirror_of path.entry.folder.now path.entry.name.now at) (option_map (companion_seen own) result) }
+{
+    match mirror_path(alloc, path, at) {
+        Ok(path) => read_companion(alloc, files, path),
+        Err(AllocError) => Some(Companion::Lacking),
+    }
+}
+
+/// Returns the path of the place there.
+fn mirror_path(alloc: Global, path: SplitPath<'_>, at: usize) -> Result<Vec<u8>, AllocError>
+    requires { at ≤ length path.folder.now }
+    ensures { IfOk result (λ p. p.items ≡ mirror_of path.entry.folder.now path.entry.name.now at) }
+{
+    let (above, below) = path.folder.split_at(at);
+    let mut bytes = Vec::from_slice(alloc, above)?;
+    bytes.extend_from_slice(b"__MACOSX/")?;
+    bytes.extend_from_slice(below)?;
+    bytes.extend_from_slice(b"._")?;
+    bytes.extend_from_slice(path.name)?;
+    Ok(bytes)
 }
 
 /// Returns the companion at the first of some places that has one.
@@ -143,7 +242,7 @@ fn look_at_places<'a, F: Files>(
     path: SplitPath<'_>,
     places: &[Place],
 ) -> Option<Companion<'a>>
-    ensures { (own : List ℕ) → Looks (record { state = F.state; was_read = F.was_read; was_written = F.was_written }) own files.old files.new (map (place_seen path.entry.folder.now path.entry.name.now) places.now) (option_map (companion_seen own) result) }
+    ensures { (own : List ℕ) → Looks (record { state = F.state; reason = F.reason; was_read = F.was_read; was_written = F.was_written }) own files.old files.new (map (place_seen path.entry.folder.now path.entry.name.now) places.now) (option_map (companion_seen own) result) }
 {
     for place in places {
         match look_at(alloc, files, path, *place) {
@@ -161,7 +260,7 @@ fn look_at<'a, F: Files>(
     path: SplitPath<'_>,
     place: Place,
 ) -> Option<Companion<'a>>
-    ensures { (own : List ℕ) → LooksAt (record { state = F.state; was_read = F.was_read; was_written = F.was_written }) own files.old files.new (place_seen path.entry.folder.now path.entry.name.now place) (option_map (companion_seen own) result) }
+    ensures { (own : List ℕ) → LooksAt (record { state = F.state; reason = F.reason; was_read = F.was_read; was_written = F.was_written }) own files.old files.new (place_seen path.entry.folder.now path.entry.name.now place) (option_map (companion_seen own) result) }
 {
     match place_path(alloc, path, place) {
         Ok(path) => read_companion(alloc, files, path),
@@ -186,7 +285,7 @@ fn read_companion<'a, F: Files>(
     files: &mut F,
     path: Vec<u8>,
 ) -> Option<Companion<'a>>
-    ensures { (own : List ℕ) → LooksAt (record { state = F.state; was_read = F.was_read; was_written = F.was_written }) own files.old files.new path.items (option_map (companion_seen own) result) }
+    ensures { (own : List ℕ) → LooksAt (record { state = F.state; reason = F.reason; was_read = F.was_read; was_written = F.was_written }) own files.old files.new path.items (option_map (companion_seen own) result) }
 {
     match files.read(alloc, path.as_slice()) {
         Ok(bytes) => {

@@ -22,7 +22,7 @@ pub fn print_distances<F: Files, W: Sink>(
     out: &mut W,
 ) -> Outcome
     ensures { (answer : Answer)
-        × DistancesAnswers (record { state = F.state; was_read = F.was_read; was_written = F.was_written }) files.old files.new script.now answer
+        × DistancesAnswers (record { state = F.state; reason = F.reason; was_read = F.was_read; was_written = F.was_written }) files.old files.new script.now answer
         × IsDelivered (W.stream out.old) (W.stream out.new) answer result }
 {
     let text = match read_file(alloc, files, script) {

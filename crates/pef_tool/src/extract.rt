@@ -38,7 +38,7 @@ pub fn extract_file<F: Files, W: Sink>(
     out: &mut W,
 ) -> Outcome
     ensures { (answer : Answer)
-        × ExtractAnswers (record { state = F.state; was_read = F.was_read; was_written = F.was_written }) files.old files.new asked.entry.path.now asked.entry.name.now asked.entry.target.now answer
+        × ExtractAnswers (record { state = F.state; reason = F.reason; was_read = F.was_read; was_written = F.was_written }) files.old files.new asked.entry.path.now asked.entry.name.now asked.entry.target.now answer
         × IsDelivered (W.stream out.old) (W.stream out.new) answer result }
 {
     match read_file(alloc, files, asked.path) {
@@ -56,7 +56,7 @@ fn extract_read<F: Files, W: Sink>(
     out: &mut W,
 ) -> Outcome
     ensures { (answer : Answer)
-        × ReadEnds (record { state = F.state; was_read = F.was_read; was_written = F.was_written }) files.old files.new asked.entry.path.now asked.entry.name.now asked.entry.target.now bytes.now answer
+        × ReadEnds (record { state = F.state; reason = F.reason; was_read = F.was_read; was_written = F.was_written }) files.old files.new asked.entry.path.now asked.entry.name.now asked.entry.target.now bytes.now answer
         × IsDelivered (W.stream out.old) (W.stream out.new) answer result }
 {
     let companion = companion_for(alloc, files, asked, bytes);
@@ -73,7 +73,7 @@ fn companion_for<'a, F: Files>(
     asked: Extraction<'_>,
     bytes: &[u8],
 ) -> Option<Companion<'a>>
-    ensures { LooksIf (is_looked_for asked.entry.path.now asked.entry.name.now bytes.now) (record { state = F.state; was_read = F.was_read; was_written = F.was_written }) files.old files.new asked.entry.path.now (option_map (companion_seen asked.entry.path.now) result) }
+    ensures { LooksIf (is_looked_for asked.entry.path.now asked.entry.name.now bytes.now) (record { state = F.state; reason = F.reason; was_read = F.was_read; was_written = F.was_written }) files.old files.new asked.entry.path.now (option_map (companion_seen asked.entry.path.now) result) }
 {
     if number_of(asked.name).is_none() && may_have_companion(asked.path, bytes) {
         find_companion(alloc, files, asked.path)
@@ -117,7 +117,7 @@ fn write_container<F: Files, W: Sink>(
     out: &mut W,
 ) -> Outcome
     ensures { (answer : Answer)
-        × EndsWith (record { state = F.state; was_read = F.was_read; was_written = F.was_written }) files.old files.new target.now (Ok container.now) answer
+        × EndsWith (record { state = F.state; reason = F.reason; was_read = F.was_read; was_written = F.was_written }) files.old files.new target.now (Ok container.now) answer
         × IsDelivered (W.stream out.old) (W.stream out.new) answer result }
 {
     match files.write(target, container) {
@@ -127,7 +127,16 @@ fn write_container<F: Files, W: Sink>(
                 size: container.len(),
             },
         ),
-        Err(FileFault::Failed) => deliver(out, &Fault::Unwritable { path: target }),
+        Err(FileFault::Failed) => {
+            let reason = files.reason();
+            deliver(
+                out,
+                &Fault::Unwritable {
+                    path: target,
+                    reason,
+                },
+            )
+        }
         Err(FileFault::OutOfMemory) => deliver(out, &Fault::OutOfMemory),
     }
 }

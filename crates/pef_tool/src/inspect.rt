@@ -2,7 +2,7 @@ ghost use Rattle.std.specs.Prelude.{◌≡◌, ◌<◌, ◌∷◌, IfOk, List, [
 ghost use Rattle.pef_ports.specs.Sent.{Sends};
 ghost use Rattle.pef_tool.specs.Answers.Answers.{Answer, IsDelivered};
 ghost use Rattle.pef_tool.specs.Inspect.{InspectAnswers, InspectListedAnswers, InspectPairAnswers, Inspects, IsPairPrinted, IsPrinted, IsPrintedBeside, LooksFor, ReadsBy, ReadsGiven, ReadsPair, ReadsPath, ReadsStandard, Reported, form_of, is_input, listed_paths, outcome_of};
-ghost use Rattle.mac_report.specs.Reports.{unread_text};
+ghost use Rattle.mac_report.specs.Reports.{unread_because};
 ghost use Rattle.mac_report.specs.Views.{data_file_seen};
 ghost use Rattle.pef_tool.specs.Kept.Inspecting.{companion_seen, read_seen};
 
@@ -11,7 +11,7 @@ use crate::companion::{Companion, find_companion, may_have_companion};
 use crate::reading::read_file;
 use mac_report::{DataFile, FileReport, Form, UnreadFile};
 use pef_faults::Fault;
-use pef_ports::{Files, Page, Sink, Source, StreamFault, flush, read_input};
+use pef_ports::{FileReason, Files, Page, Sink, Source, StreamFault, flush, read_input};
 use pef_report::print_tokens;
 use std::alloc::{AllocError, Global};
 
@@ -45,7 +45,7 @@ pub fn inspect_files<F: Files, R: Source, W: Sink>(
     out: &mut W,
 ) -> Outcome
     ensures { (answer : Answer)
-        × InspectAnswers (record { state = F.state; was_read = F.was_read; was_written = F.was_written }) R.stream asked.entry.json files.old files.new input.old input.new (map (λ path. path.now) asked.entry.paths.now) answer
+        × InspectAnswers (record { state = F.state; reason = F.reason; was_read = F.was_read; was_written = F.was_written }) R.stream asked.entry.json files.old files.new input.old input.new (map (λ path. path.now) asked.entry.paths.now) answer
         × IsDelivered (W.stream out.old) (W.stream out.new) answer result }
 {
     match print_reports(alloc, files, input, asked, out) {
@@ -63,7 +63,7 @@ pub fn inspect_listed<F: Files, R: Source, W: Sink>(
     out: &mut W,
 ) -> Outcome
     ensures { (answer : Answer)
-        × InspectListedAnswers (record { state = F.state; was_read = F.was_read; was_written = F.was_written }) R.stream json files.old files.new input.old input.new answer
+        × InspectListedAnswers (record { state = F.state; reason = F.reason; was_read = F.was_read; was_written = F.was_written }) R.stream json files.old files.new input.old input.new answer
         × IsDelivered (W.stream out.old) (W.stream out.new) answer result }
 {
     let list = match read_standard(alloc, input) {
@@ -91,7 +91,7 @@ pub fn inspect_pair<F: Files, R: Source, W: Sink>(
     out: &mut W,
 ) -> Outcome
     ensures { (answer : Answer)
-        × InspectPairAnswers (record { state = F.state; was_read = F.was_read; was_written = F.was_written }) R.stream asked.entry.json files.old files.new input.old input.new asked.entry.resources.now asked.entry.path.now answer
+        × InspectPairAnswers (record { state = F.state; reason = F.reason; was_read = F.was_read; was_written = F.was_written }) R.stream asked.entry.json files.old files.new input.old input.new asked.entry.resources.now asked.entry.path.now answer
         × IsDelivered (W.stream out.old) (W.stream out.new) answer result }
 {
     match print_given(alloc, files, input, asked, out) {
@@ -150,7 +150,7 @@ fn print_reports<F: Files, R: Source, W: Sink>(
     out: &mut W,
 ) -> Result<u64, StreamFault>
     ensures { (text : List ℕ) × (errors : ℕ)
-        × Inspects (record { state = F.state; was_read = F.was_read; was_written = F.was_written }) R.stream (form_of asked.entry.json) files.old files.new input.old input.new (map (λ path. path.now) asked.entry.paths.now) 0 text errors
+        × Inspects (record { state = F.state; reason = F.reason; was_read = F.was_read; was_written = F.was_written }) R.stream (form_of asked.entry.json) files.old files.new input.old input.new (map (λ path. path.now) asked.entry.paths.now) 0 text errors
         × Sends result (W.stream out.old) (W.stream out.new) [] [] text
         × IfOk result (λ n. n ≡ errors) }
 {
@@ -175,7 +175,7 @@ fn print_given<F: Files, R: Source, W: Sink>(
     out: &mut W,
 ) -> Result<u64, StreamFault>
     ensures { (text : List ℕ) × (errors : ℕ)
-        × Reported (record { state = F.state; was_read = F.was_read; was_written = F.was_written }) R.stream (Some asked.entry.resources.now) (form_of asked.entry.json) files.old files.new input.old input.new asked.entry.path.now text errors
+        × Reported (record { state = F.state; reason = F.reason; was_read = F.was_read; was_written = F.was_written }) R.stream (Some asked.entry.resources.now) (form_of asked.entry.json) files.old files.new input.old input.new asked.entry.path.now text errors
         × Sends result (W.stream out.old) (W.stream out.new) [] [] text
         × IfOk result (λ n. n ≡ errors) }
 {
@@ -215,7 +215,7 @@ fn find_pair<'a, F: Files, R: Source>(
     path: &'a [u8],
 ) -> Pair<'a>
     ensures path { result.named.path.now ≡ path.entry.now }
-    ensures pair { ReadsPair (record { state = F.state; was_read = F.was_read; was_written = F.was_written }) R.stream None files.old files.new input.old input.new path.entry.now (read_seen result.named.bytes) (option_map (companion_seen path.entry.now) result.companion) }
+    ensures pair { ReadsPair (record { state = F.state; reason = F.reason; was_read = F.was_read; was_written = F.was_written }) R.stream None files.old files.new input.old input.new path.entry.now (read_seen result.named.bytes) (option_map (companion_seen path.entry.now) result.companion) }
 {
     let named = read_named(alloc, files, input, path);
     let companion = companion_of(alloc, files, &named);
@@ -228,7 +228,7 @@ fn companion_of<'a, F: Files>(
     files: &mut F,
     named: &Named<'a>,
 ) -> Option<Companion<'a>>
-    ensures { LooksFor (record { state = F.state; was_read = F.was_read; was_written = F.was_written }) files.old files.new named.now.path.now (read_seen named.now.bytes) (option_map (companion_seen named.now.path.now) result) }
+    ensures { LooksFor (record { state = F.state; reason = F.reason; was_read = F.was_read; was_written = F.was_written }) files.old files.new named.now.path.now (read_seen named.now.bytes) (option_map (companion_seen named.now.path.now) result) }
 {
     match &named.bytes {
         Ok(bytes) => {
@@ -250,7 +250,7 @@ fn given_pair<'a, F: Files, R: Source>(
     asked: InspectedPair<'a>,
 ) -> Pair<'a>
     ensures path { result.named.path.now ≡ asked.entry.path.now }
-    ensures pair { ReadsPair (record { state = F.state; was_read = F.was_read; was_written = F.was_written }) R.stream (Some asked.entry.resources.now) files.old files.new input.old input.new asked.entry.path.now (read_seen result.named.bytes) (option_map (companion_seen asked.entry.path.now) result.companion) }
+    ensures pair { ReadsPair (record { state = F.state; reason = F.reason; was_read = F.was_read; was_written = F.was_written }) R.stream (Some asked.entry.resources.now) files.old files.new input.old input.new asked.entry.path.now (read_seen result.named.bytes) (option_map (companion_seen asked.entry.path.now) result.companion) }
 {
     let named = read_named(alloc, files, input, asked.path);
     let companion = read_given(alloc, files, input, asked.resources, &named);
@@ -265,7 +265,7 @@ fn read_given<'a, F: Files, R: Source>(
     resources: &'a [u8],
     named: &Named<'_>,
 ) -> Option<Companion<'a>>
-    ensures { (own : List ℕ) → ReadsGiven resources.entry.now (record { state = F.state; was_read = F.was_read; was_written = F.was_written }) R.stream files.old files.new input.old input.new (read_seen named.now.bytes) (option_map (companion_seen own) result) }
+    ensures { (own : List ℕ) → ReadsGiven resources.entry.now (record { state = F.state; reason = F.reason; was_read = F.was_read; was_written = F.was_written }) R.stream files.old files.new input.old input.new (read_seen named.now.bytes) (option_map (companion_seen own) result) }
 {
     match &named.bytes {
         Ok(_) => Some(Companion::Given(read_named(alloc, files, input, resources))),
@@ -281,7 +281,7 @@ fn read_named<'a, F: Files, R: Source>(
     path: &'a [u8],
 ) -> Named<'a>
     ensures path { result.path.now ≡ path.entry.now }
-    ensures read { ReadsBy (is_input path.entry.now) (record { state = F.state; was_read = F.was_read; was_written = F.was_written }) R.stream files.old files.new input.old input.new path.entry.now (read_seen result.bytes) }
+    ensures read { ReadsBy (is_input path.entry.now) (record { state = F.state; reason = F.reason; was_read = F.was_read; was_written = F.was_written }) R.stream files.old files.new input.old input.new path.entry.now (read_seen result.bytes) }
 {
     if is_input(path) {
         Named {
@@ -319,7 +319,7 @@ fn read_path<'a, F: Files>(
     files: &mut F,
     path: &'a [u8],
 ) -> Result<Vec<u8>, Fault<'a>>
-    ensures { ReadsPath (record { state = F.state; was_read = F.was_read; was_written = F.was_written }) files.old files.new path.entry.now (read_seen result) }
+    ensures { ReadsPath (record { state = F.state; reason = F.reason; was_read = F.was_read; was_written = F.was_written }) files.old files.new path.entry.now (read_seen result) }
 {
     read_file(alloc, files, path)
 }
@@ -430,6 +430,7 @@ fn print_found<'x, W: Sink>(
                 path: beside.data_file.path,
                 number: 99,
                 name: b"OutOfMemory",
+                reason: FileReason::Other,
             };
             print_unread(out, page, report)
         }
@@ -490,6 +491,7 @@ fn print_report<'x, W: Sink>(
                 path,
                 number: fault.number(),
                 name: fault.name().as_bytes(),
+                reason: fault.reason(),
             };
             print_unread(out, page, report)
         }
@@ -518,7 +520,7 @@ fn print_unread<W: Sink>(
     page: &mut Page,
     report: UnreadFile<'_>,
 ) -> Result<u64, StreamFault>
-    ensures sent { Sends result (W.stream out.old) (W.stream out.new) page.old.items page.new.items (unread_text report.entry.form report.entry.path.now report.entry.number report.entry.name.now) }
+    ensures sent { Sends result (W.stream out.old) (W.stream out.new) page.old.items page.new.items (unread_because report.entry.form report.entry.path.now report.entry.number report.entry.name.now report.entry.reason) }
     ensures one { IfOk result (λ n. n ≡ 1) }
 {
     report.print(out, page)?;

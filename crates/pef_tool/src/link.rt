@@ -22,7 +22,7 @@ pub fn link_files<F: Files, W: Sink>(
     out: &mut W,
 ) -> Outcome
     ensures { (answer : Answer)
-        × LinkAnswers (record { state = F.state; was_read = F.was_read; was_written = F.was_written }) files.old files.new script.now target.now answer
+        × LinkAnswers (record { state = F.state; reason = F.reason; was_read = F.was_read; was_written = F.was_written }) files.old files.new script.now target.now answer
         × IsDelivered (W.stream out.old) (W.stream out.new) answer result }
 {
     let text = match read_file(alloc, files, script) {
@@ -35,7 +35,16 @@ pub fn link_files<F: Files, W: Sink>(
     };
     match files.write(target, linked.bytes()) {
         Ok(()) => deliver(out, &LinkedReply { linked: &linked }),
-        Err(FileFault::Failed) => deliver(out, &Fault::Unwritable { path: target }),
+        Err(FileFault::Failed) => {
+            let reason = files.reason();
+            deliver(
+                out,
+                &Fault::Unwritable {
+                    path: target,
+                    reason,
+                },
+            )
+        }
         Err(FileFault::OutOfMemory) => deliver(out, &Fault::OutOfMemory),
     }
 }

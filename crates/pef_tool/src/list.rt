@@ -20,7 +20,7 @@ pub fn list_file<F: Files, W: Sink>(
     out: &mut W,
 ) -> Outcome
     ensures { (answer : Answer)
-        × ListAnswers (record { state = F.state; was_read = F.was_read; was_written = F.was_written }) files.old files.new path.now answer
+        × ListAnswers (record { state = F.state; reason = F.reason; was_read = F.was_read; was_written = F.was_written }) files.old files.new path.now answer
         × IsDelivered (W.stream out.old) (W.stream out.new) answer result }
 {
     let bytes = match read_file(alloc, files, path) {

@@ -25,7 +25,7 @@ pub fn load_files<F: Files, W: Sink>(
     out: &mut W,
 ) -> Outcome
     ensures { (answer : Answer)
-        × LoadAnswers (record { state = F.state; was_read = F.was_read; was_written = F.was_written }) files.old files.new (map named_path named.now) answer
+        × LoadAnswers (record { state = F.state; reason = F.reason; was_read = F.was_read; was_written = F.was_written }) files.old files.new (map named_path named.now) answer
         × IsDelivered (W.stream out.old) (W.stream out.new) answer result }
 {
     if named.is_empty() || named.len() > MAX_PAIRS {
@@ -48,8 +48,8 @@ fn read_files<'a, F: Files>(
     files: &mut F,
     named: &[NamedFile<'a>],
 ) -> Result<Vec<Vec<u8>>, Fault<'a>>
-    ensures read { IfOk result (λ contents. WereRead (record { state = F.state; was_read = F.was_read; was_written = F.was_written }) files.old files.new (map named_path named.now) (map (λ bytes. bytes.items) contents.items)) }
-    ensures refused { IfErr result (λ fault. StopsReading (record { state = F.state; was_read = F.was_read; was_written = F.was_written }) files.old files.new (map named_path named.now) fault) }
+    ensures read { IfOk result (λ contents. WereRead (record { state = F.state; reason = F.reason; was_read = F.was_read; was_written = F.was_written }) files.old files.new (map named_path named.now) (map (λ bytes. bytes.items) contents.items)) }
+    ensures refused { IfErr result (λ fault. StopsReading (record { state = F.state; reason = F.reason; was_read = F.was_read; was_written = F.was_written }) files.old files.new (map named_path named.now) fault) }
 {
     let mut contents = Vec::new(alloc);
     for file in named {

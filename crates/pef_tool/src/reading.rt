@@ -12,12 +12,15 @@ pub fn read_file<'a, F: Files>(
     files: &mut F,
     path: &'a [u8],
 ) -> Result<Vec<u8>, Fault<'a>>
-    ensures read { IfOk result (λ bytes. Reads (record { state = F.state; was_read = F.was_read; was_written = F.was_written }) files.old files.new path.now (Ok bytes.items)) }
-    ensures refused { IfErr result (λ fault. StopsFile (record { state = F.state; was_read = F.was_read; was_written = F.was_written }) files.old files.new path.now fault) }
+    ensures read { IfOk result (λ bytes. Reads (record { state = F.state; reason = F.reason; was_read = F.was_read; was_written = F.was_written }) files.old files.new path.now (Ok bytes.items)) }
+    ensures refused { IfErr result (λ fault. StopsFile (record { state = F.state; reason = F.reason; was_read = F.was_read; was_written = F.was_written }) files.old files.new path.now fault) }
 {
     match files.read(alloc, path) {
         Ok(bytes) => Ok(bytes),
-        Err(FileFault::Failed) => Err(Fault::Unreadable { path }),
+        Err(FileFault::Failed) => Err(Fault::Unreadable {
+            path,
+            reason: files.reason(),
+        }),
         Err(FileFault::OutOfMemory) => Err(Fault::OutOfMemory),
     }
 }

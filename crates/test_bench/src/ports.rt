@@ -3,7 +3,7 @@
 ghost use Rattle.std.specs.Prelude.{◌<◌};
 
 use arrayvec::ArrayVec;
-use pef_ports::{FileFault, Files, Sink, Source, StreamFault};
+use pef_ports::{FileFault, FileReason, Files, Sink, Source, StreamFault};
 use std::alloc::{AllocError, Global};
 
 /// An input that gives this many bytes a call, and fails at one call: the first if `fails_at` is 1, none if it is 0.
@@ -180,6 +180,8 @@ pub struct Papers {
     fails_at: u32,
     fault: FileFault,
     failures: u64,
+    /// Why the last call that failed did.
+    reason: FileReason,
     reads: u64,
     writes: u64,
 }
@@ -196,6 +198,7 @@ impl Papers {
             fails_at,
             fault,
             failures: 0,
+            reason: FileReason::Other,
             reads: 0,
             writes: 0,
         }
@@ -235,11 +238,12 @@ impl Papers {
         None
     }
 
-    /// Returns a fault, and counts it if it is `Failed`.
-    fn failed(&mut self, fault: FileFault) -> FileFault
+    /// Returns a fault, and counts it if it is `Failed`. The reason is kept.
+    fn failed(&mut self, fault: FileFault, reason: FileReason) -> FileFault
         ensures same { result ≡ fault }
-        ensures count { self.new ≡ record self.old { failures = counted fault self.old.failures } }
+        ensures count { self.new ≡ record self.old { failures = counted fault self.old.failures; reason = reason } }
     {
+        self.reason = reason;
         if fault == FileFault::Failed {
             self.failures = self.failures.saturating_add(1);
         }
@@ -280,13 +284,19 @@ impl Files for Papers {
 
     ghost was_written = { λ before path bytes answer after. (after.reads ≡ before.reads) × (after.writes ≡ one_more before.writes) };
 
+    ghost reason = { λ files. files.reason };
+
+    fn reason(&self) -> FileReason {
+        self.reason
+    }
+
     fn read(&mut self, alloc: Global, path: &[u8]) -> Result<Vec<u8>, FileFault> {
         self.reads = self.reads.saturating_add(1);
         if let Some(fault) = self.trouble() {
-            return Err(self.failed(fault));
+            return Err(self.failed(fault, FileReason::Other));
         }
         let Some(bytes) = self.bytes(path) else {
-            return Err(self.failed(FileFault::Failed));
+            return Err(self.failed(FileFault::Failed, FileReason::Missing));
         };
         match Vec::from_slice(alloc, bytes) {
             Ok(bytes) => Ok(bytes),
@@ -297,7 +307,7 @@ impl Files for Papers {
     fn write(&mut self, path: &[u8], bytes: &[u8]) -> Result<(), FileFault> {
         self.writes = self.writes.saturating_add(1);
         if let Some(fault) = self.trouble() {
-            return Err(self.failed(fault));
+            return Err(self.failed(fault, FileReason::Other));
         }
         self.put(path, bytes)
     }

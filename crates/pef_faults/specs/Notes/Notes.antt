@@ -17,6 +17,8 @@ use Rattle.pef_format.specs.declared.place.Place.{Place}
 use Rattle.pef_listing.specs.Faults as listing
 use Rattle.pef_listing.specs.declared.fault.ListFault.{ListFault}
 use Rattle.pef_listing.specs.declared.fault.ListFault.TheVariants as list_fault
+use Rattle.pef_ports.specs.declared.ports.FileReason.{FileReason}
+use Rattle.pef_ports.specs.declared.ports.FileReason.TheVariants as reason
 use Rattle.pef_reloc.specs.Faults as reloc
 use Rattle.pef_script.specs.declared.text.fault.ScriptFault.{ScriptFault}
 use Rattle.pef_script.specs.declared.text.fault.ScriptFault.TheVariants as script_fault
@@ -52,11 +54,22 @@ prepare_note (prepare_fault.Bind f) = bind_note f
 prepare_note (prepare_fault.Fragment f) = fragment_note f
 prepare_note _ = note.Nothing
 
+-- that of a file that couldn't be written, and of one that couldn't be read
+abbrev pub unwritten_note : FileReason → Note
+unwritten_note reason.Other = note.Nothing
+unwritten_note why = note.File why
+
+abbrev pub unread_note : FileReason → Note
+unread_note reason.Folder = note.Folder
+unread_note why = unwritten_note why
+
 -- what is known of an error
 unfoldable pub note_of : Fault → Note
 note_of (fault.Script f text) = script_fault_note f text.now
 note_of (fault.Listing f) = list_note f
 note_of (fault.Prepare f) = prepare_note f
+note_of (fault.Unreadable path why) = unread_note why
+note_of (fault.Unwritable path why) = unwritten_note why
 note_of _ = note.Nothing
 
 -- the versions that a fragment needs of a library, and those of the library
@@ -65,6 +78,15 @@ versions_text needed found =
     codes "\nThe fragment was linked with version " ++ decimal needed.current ++ codes " of the library, and takes version " ++ decimal needed.old_imp
     ++ codes " or newer. The library has version " ++ decimal found.current ++ codes ", and serves fragments that were linked with version " ++ decimal found.old_def ++ codes " or newer.\n"
 
+-- why a file couldn't be read or written
+abbrev pub reason_text : FileReason → List ℕ
+reason_text reason.Missing = codes "\nThe system says: there is no file at this path, or a link there leads to none.\n"
+reason_text reason.Folder = codes "\nThe system says: it is a folder.\n"
+reason_text reason.Forbidden = codes "\nThe system says: it may not be read or written by this user.\n"
+reason_text reason.Full = codes "\nThe system says: no room is left on the disk.\n"
+reason_text reason.NotUtf8 = codes "\nThe path isn't valid UTF-8, and such a path can't be opened.\n"
+reason_text reason.Other = codes "\n"
+
 -- the text of what is known
 abbrev pub note_text : Note → List ℕ
 note_text note.Nothing = 10 ∷ []
@@ -72,3 +94,6 @@ note_text (note.Place place) = codes "\n" ++ place_text place
 note_text (note.Program place section word) = program_text place section word
 note_text (note.Versions place needed found) = versions_text needed found ++ place_text place
 note_text (note.Script n) = script_text n
+note_text (note.File why) = reason_text why
+note_text note.Folder =
+    codes "\nThe system says: it is a folder. `find FOLDER -type f -print0 | pef inspect --files0` inspects the files in a folder.\n"

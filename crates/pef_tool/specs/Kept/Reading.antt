@@ -7,6 +7,6 @@ use Rattle.pef_faults.specs.declared.fault.Fault.TheVariants.{Unreadable, OutOfM
 
 -- the file at this path wasn't read, for this reason
 abbrev pub StopsFile : {F : Type 0} → FilesPort F → F → F → List ℕ → Fault → Type 0
-StopsFile port before after path (Unreadable told) = (told.now ≡ path) × Reads port before after path (Err file_fault.Failed)
+StopsFile port before after path (Unreadable told reason) = (told.now ≡ path) × Reads port before after path (Err file_fault.Failed) × (reason ≡ port.reason after)
 StopsFile port before after path OutOfMemory = Reads port before after path (Err file_fault.OutOfMemory)
 StopsFile port before after path _ = ⊥

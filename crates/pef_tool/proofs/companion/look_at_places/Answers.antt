@@ -12,7 +12,7 @@ loop-place-init g c = λ own last companion looks. looks
 
 pub loop-place-preserved : goal.loop-place-preserved
 loop-place-preserved g c =
-    let port : FilesPort _ = record { state = g.F.Files.state; was_read = g.F.Files.was_read; was_written = g.F.Files.was_written } in
+    let port : FilesPort _ = record { state = g.F.Files.state; reason = g.F.Files.reason; was_read = g.F.Files.was_read; was_written = g.F.Files.was_written } in
     let seen : Place → List ℕ = place_seen c.args.path.folder.now c.args.path.name.now in
     let at = c.loop-place in
     λ own last companion looks.
@@ -22,7 +22,7 @@ loop-place-preserved g c =
 
 pub returns-in-Some : goal.returns-in-Some
 returns-in-Some g c =
-    let port : FilesPort _ = record { state = g.F.Files.state; was_read = g.F.Files.was_read; was_written = g.F.Files.was_written } in
+    let port : FilesPort _ = record { state = g.F.Files.state; reason = g.F.Files.reason; was_read = g.F.Files.was_read; was_written = g.F.Files.was_written } in
     let seen : Place → List ℕ = place_seen c.args.path.folder.now c.args.path.name.now in
     let at = c.loop-place in
     λ own.
@@ -33,7 +33,7 @@ returns-in-Some g c =
 
 pub returns : goal.returns
 returns g c =
-    let port : FilesPort _ = record { state = g.F.Files.state; was_read = g.F.Files.was_read; was_written = g.F.Files.was_written } in
+    let port : FilesPort _ = record { state = g.F.Files.state; reason = g.F.Files.reason; was_read = g.F.Files.was_read; was_written = g.F.Files.was_written } in
     let seen : Place → List ℕ = place_seen c.args.path.folder.now c.args.path.name.now in
     let at = c.loop-place in
     λ own.

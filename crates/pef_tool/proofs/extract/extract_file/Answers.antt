@@ -16,7 +16,7 @@ returns-in-Err g c =
 
 pub returns-in-Ok : goal.returns-in-Ok
 returns-in-Ok g c =
-    let port : FilesPort _ = record { state = g.F.Files.state; was_read = g.F.Files.was_read; was_written = g.F.Files.was_written } in
+    let port : FilesPort _ = record { state = g.F.Files.state; reason = g.F.Files.reason; was_read = g.F.Files.was_read; was_written = g.F.Files.was_written } in
     let asked = c.args.asked in
     let reads = subst (λ bytes. Reads port c.args.files.now c.read_file.new.files asked.path.now (Ok bytes)) (sym c.as_slice.ensures.value) c.in-Ok.ensures.read in
     let answered = ends port asked.path.now c.args.files.now c.read_file.new.files c.extract_read.new.files asked.name.now asked.target.now c.as_slice.result.now c.extract_read.ensures.0 reads c.extract_read.ensures.1 in

@@ -12,7 +12,7 @@ now path = path.now
 
 pub returns-in-Ok-listed_paths : goal.returns-in-Ok-listed_paths
 returns-in-Ok-listed_paths g c =
-    let port : FilesPort _ = record { state = g.F.Files.state; was_read = g.F.Files.was_read; was_written = g.F.Files.was_written } in
+    let port : FilesPort _ = record { state = g.F.Files.state; reason = g.F.Files.reason; was_read = g.F.Files.was_read; was_written = g.F.Files.was_written } in
     let list = c.in-Ok.list.items in
     let w = c.inspect_files.ensures in
     let are = ap (map now) c.as_slice-in-Ok-listed_paths.ensures.value ∙ c.in-Ok-listed_paths.ensures ∙ ap listed_paths c.as_slice.ensures.value in

@@ -11,7 +11,7 @@ use Rattle.pef_tool.proofs.inspect.print_given.Goals as goal
 
 pub returns-in_err-errors : goal.returns-in_err-errors
 returns-in_err-errors g c =
-    let port : FilesPort _ = record { state = g.F.Files.state; was_read = g.F.Files.was_read; was_written = g.F.Files.was_written } in
+    let port : FilesPort _ = record { state = g.F.Files.state; reason = g.F.Files.reason; was_read = g.F.Files.was_read; was_written = g.F.Files.was_written } in
     let stream = g.W.Sink.stream in
     let asked = c.args.asked in
     let pair = c.given_pair-pair.result in
@@ -28,7 +28,7 @@ returns-in_err-errors g c =
 
 pub returns-in_err-flush : goal.returns-in_err-flush
 returns-in_err-flush g c =
-    let port : FilesPort _ = record { state = g.F.Files.state; was_read = g.F.Files.was_read; was_written = g.F.Files.was_written } in
+    let port : FilesPort _ = record { state = g.F.Files.state; reason = g.F.Files.reason; was_read = g.F.Files.was_read; was_written = g.F.Files.was_written } in
     let stream = g.W.Sink.stream in
     let asked = c.args.asked in
     let pair = c.given_pair-pair.result in
@@ -47,7 +47,7 @@ returns-in_err-flush g c =
 
 pub returns : goal.returns
 returns g c =
-    let port : FilesPort _ = record { state = g.F.Files.state; was_read = g.F.Files.was_read; was_written = g.F.Files.was_written } in
+    let port : FilesPort _ = record { state = g.F.Files.state; reason = g.F.Files.reason; was_read = g.F.Files.was_read; was_written = g.F.Files.was_written } in
     let stream = g.W.Sink.stream in
     let asked = c.args.asked in
     let pair = c.given_pair-pair.result in

@@ -17,12 +17,12 @@ now path = path.now
 
 pub loop-path-init : goal.loop-path-init
 loop-path-init g c =
-    let port : FilesPort _ = record { state = g.F.Files.state; was_read = g.F.Files.was_read; was_written = g.F.Files.was_written } in
+    let port : FilesPort _ = record { state = g.F.Files.state; reason = g.F.Files.reason; was_read = g.F.Files.was_read; was_written = g.F.Files.was_written } in
     rw c.new-page.ensures (inspected-nothing port g.R.Source.stream c.form_of-form.result c.args.files.now c.args.input.now (g.W.Sink.stream c.args.out.now) (map now c.args.asked.paths.now))
 
 pub returns-in_err-more : goal.returns-in_err-more
 returns-in_err-more g c =
-    let port : FilesPort _ = record { state = g.F.Files.state; was_read = g.F.Files.was_read; was_written = g.F.Files.was_written } in
+    let port : FilesPort _ = record { state = g.F.Files.state; reason = g.F.Files.reason; was_read = g.F.Files.was_read; was_written = g.F.Files.was_written } in
     let stream = g.R.Source.stream in
     let form = c.form_of-form.result in
     let at = c.loop-path in
@@ -42,7 +42,7 @@ returns-in_err-more g c =
 
 pub loop-path-preserved : goal.loop-path-preserved
 loop-path-preserved g c =
-    let port : FilesPort _ = record { state = g.F.Files.state; was_read = g.F.Files.was_read; was_written = g.F.Files.was_written } in
+    let port : FilesPort _ = record { state = g.F.Files.state; reason = g.F.Files.reason; was_read = g.F.Files.was_read; was_written = g.F.Files.was_written } in
     let stream = g.R.Source.stream in
     let form = c.form_of-form.result in
     let at = c.loop-path in
@@ -61,7 +61,7 @@ loop-path-preserved g c =
 
 pub returns-in_err-flush : goal.returns-in_err-flush
 returns-in_err-flush g c =
-    let port : FilesPort _ = record { state = g.F.Files.state; was_read = g.F.Files.was_read; was_written = g.F.Files.was_written } in
+    let port : FilesPort _ = record { state = g.F.Files.state; reason = g.F.Files.reason; was_read = g.F.Files.was_read; was_written = g.F.Files.was_written } in
     let stream = g.R.Source.stream in
     let at = c.loop-path in
     let paths = c.args.asked.paths.now in
@@ -74,7 +74,7 @@ returns-in_err-flush g c =
 
 pub returns : goal.returns
 returns g c =
-    let port : FilesPort _ = record { state = g.F.Files.state; was_read = g.F.Files.was_read; was_written = g.F.Files.was_written } in
+    let port : FilesPort _ = record { state = g.F.Files.state; reason = g.F.Files.reason; was_read = g.F.Files.was_read; was_written = g.F.Files.was_written } in
     let stream = g.R.Source.stream in
     let at = c.loop-path in
     let paths = c.args.asked.paths.now in

@@ -39,7 +39,8 @@ returns-in-Err-Failed g c =
     let told = rw c.in-Err-Failed.field-0-is at c.in-Err-Failed.ensures.told in
     let links_file = files_linked c.as_slice.result.now c.in-Ok-link_text.ensures.0 c.in-Ok.ensures.read c.as_slice.ensures.value c.in-Ok-link_text.ensures.1 c.in-Ok-link_text.ensures.2 in
     let writes = written links_file c.bytes.ensures (record { call = call; told = told }) in
-    (fault_answer (Unwritable c.args.target), (refuses (Unwritable c.args.target), (refl, (c.in-Ok-link_text.linked, writes)), refl), c.deliver-in-Err-Failed.ensures)
+    let fault = Unwritable c.args.target c.reason-reason.result in
+    (fault_answer fault, (refuses fault, (refl, (c.in-Ok-link_text.linked, writes), c.reason-reason.ensures), refl), c.deliver-in-Err-Failed.ensures)
 
 pub returns : goal.returns
 returns g c =

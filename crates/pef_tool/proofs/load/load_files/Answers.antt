@@ -24,7 +24,7 @@ returns-in-Err g c =
 
 pub store_of-requires-clause-each : goal.store_of-requires-clause-each
 store_of-requires-clause-each g c =
-    let port : FilesPort _ = record { state = g.F.Files.state; was_read = g.F.Files.was_read; was_written = g.F.Files.was_written } in
+    let port : FilesPort _ = record { state = g.F.Files.state; reason = g.F.Files.reason; was_read = g.F.Files.was_read; was_written = g.F.Files.was_written } in
     let named = c.args.named.now in
     let contents = c.in-Ok.contents.items in
     let same = were-length port c.args.files.now c.read_files.new.files (map named_path named) (map items contents) c.in-Ok.ensures.read in
@@ -32,7 +32,7 @@ store_of-requires-clause-each g c =
 
 pub returns-in_default : goal.returns-in_default
 returns-in_default g c =
-    let port : FilesPort _ = record { state = g.F.Files.state; was_read = g.F.Files.was_read; was_written = g.F.Files.was_written } in
+    let port : FilesPort _ = record { state = g.F.Files.state; reason = g.F.Files.reason; was_read = g.F.Files.was_read; was_written = g.F.Files.was_written } in
     let named = map named_path c.args.named.now in
     let contents = map items c.in-Ok.contents.items in
     let read = lacks-all port c.args.files.now c.read_files.new.files named contents c.in-Ok.ensures.read in
@@ -40,7 +40,7 @@ returns-in_default g c =
 
 pub returns : goal.returns
 returns g c =
-    let port : FilesPort _ = record { state = g.F.Files.state; was_read = g.F.Files.was_read; was_written = g.F.Files.was_written } in
+    let port : FilesPort _ = record { state = g.F.Files.state; reason = g.F.Files.reason; was_read = g.F.Files.was_read; was_written = g.F.Files.was_written } in
     let stream = g.W.Sink.stream in
     let named = c.args.named.now in
     let contents = map items c.in-Ok.contents.items in

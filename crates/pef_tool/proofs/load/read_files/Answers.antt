@@ -13,14 +13,14 @@ use Rattle.pef_tool.proofs.load.read_files.Goals as goal
 pub returns-in-Err-clause-refused : goal.returns-in-Err-clause-refused
 returns-in-Err-clause-refused g c =
     let at = c.loop-file in
-    let port : FilesPort _ = record { state = g.F.Files.state; was_read = g.F.Files.was_read; was_written = g.F.Files.was_written } in
+    let port : FilesPort _ = record { state = g.F.Files.state; reason = g.F.Files.reason; was_read = g.F.Files.was_read; was_written = g.F.Files.was_written } in
     let P : List ℕ → Type 0 = λ path. StopsFile port at.files c.read_file.new.files path c.in-Err.fault in
     stops port c.args.files.now at.files c.read_file.new.files c.args.named.now at.file-index _ (map (λ bytes. bytes.items) at.contents.items) c.in-Err.fault c.loop-file-test.true at.invariant (subst P c.as_bytes.ensures.value c.in-Err.ensures.refused)
 
 pub loop-file-preserved : goal.loop-file-preserved
 loop-file-preserved g c =
     let at = c.loop-file in
-    let port : FilesPort _ = record { state = g.F.Files.state; was_read = g.F.Files.was_read; was_written = g.F.Files.was_written } in
+    let port : FilesPort _ = record { state = g.F.Files.state; reason = g.F.Files.reason; was_read = g.F.Files.was_read; was_written = g.F.Files.was_written } in
     let items : Vec ℕ Global → List ℕ = λ bytes. bytes.items in
     let P : List ℕ → Type 0 = λ path. Reads port at.files c.read_file.new.files path (Ok c.in-Ok.bytes.items) in
     let Q : List (List ℕ) → Type 0 = λ contents. WereRead port c.args.files.now c.read_file.new.files (map named_path (take (at.file-index + 1) c.args.named.now)) contents in
@@ -30,7 +30,7 @@ loop-file-preserved g c =
 pub returns-in_default-clause-refused : goal.returns-in_default-clause-refused
 returns-in_default-clause-refused g c =
     let at = c.loop-file in
-    let port : FilesPort _ = record { state = g.F.Files.state; was_read = g.F.Files.was_read; was_written = g.F.Files.was_written } in
+    let port : FilesPort _ = record { state = g.F.Files.state; reason = g.F.Files.reason; was_read = g.F.Files.was_read; was_written = g.F.Files.was_written } in
     let items : Vec ℕ Global → List ℕ = λ bytes. bytes.items in
     let P : List ℕ → Type 0 = λ path. Reads port at.files c.read_file.new.files path (Ok c.in-Ok.bytes.items) in
     let contents = map items at.contents.items in
