@@ -1,6 +1,5 @@
 mod Filling
 mod KeptLemmas
-mod LogSteps
 mod MacFilling
 mod NumberLemmas
 mod PartLemmas

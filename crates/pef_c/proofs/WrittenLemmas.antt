@@ -1,5 +1,5 @@
 -- Rows that come one after the other, and fill places from a number on.
-use Rattle.std.proofs.Common.{◌≡◌, ℕ, zero, suc, ◌+◌, ◌<◌, ◌≤◌, List, [], ◌∷◌, ◌++◌, drop, length, take, slice_set, refl, ap, ◌∙◌, arith}
+use Rattle.std.proofs.Common.{◌≡◌, ℕ, zero, suc, ◌+◌, ◌<◌, ◌≤◌, List, [], ◌∷◌, ◌++◌, drop, length, take, slice_index_or, slice_set, refl, ap, ◌∙◌, arith, append_assoc}
 use Rattle.pef_c.specs.Buffers.{FillsPart}
 
 -- the front of the places gets the first rows
@@ -44,3 +44,19 @@ written_next rows old places from count x passed under fills =
     let len : length places ≡ length old = ap (λ (ps : List _). length ps) fills.0 ∙ same_length left old in
     let few : length (front left old) < length old = omega (arith, under, len, fills.1) in
     rw (drop_snoc rows from x passed, fills.1, fills.0) (place_set left old x few, count_next left old x few)
+
+-- what was in a place, and the places after it
+place_left : {A : Type 0} (places : List A) (count : ℕ) (x other : A) → count < length places
+    → slice_index_or places count other ∷ drop (count + 1) (slice_set places count x) ≡ drop count places
+place_left [] count x other under = absurd (omega (arith, under))
+place_left (p ∷ ps) zero x other under = refl
+place_left (p ∷ ps) (suc count) x other under =
+    let next : suc count + 1 ≡ suc (count + 1) = omega arith in
+    rw next (place_left ps count x other (omega (arith, under)))
+
+-- as one more place is filled, it is known what was in the places before
+pub start_same : {A : Type 0} (were places : List A) (count : ℕ) (x other : A) → count < length places
+    → (were ++ slice_index_or places count other ∷ []) ++ drop (count + 1) (slice_set places count x) ≡ were ++ drop count places
+start_same were places count x other under =
+    append_assoc were (slice_index_or places count other ∷ []) (drop (count + 1) (slice_set places count x))
+    ∙ ap (λ (ys : List _). were ++ ys) (place_left places count x other under)

@@ -16,6 +16,8 @@ pub mod Contexts
 pub mod Reading
 pub mod Places
 pub mod Kept
+pub mod Told
+pub mod Fillings
 pub mod Findings
 pub mod MacForks
 pub mod MacParts

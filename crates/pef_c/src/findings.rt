@@ -1,14 +1,15 @@
 //! The errors of a container and the notes on it, also of one that is damaged.
-ghost use Rattle.std.specs.Prelude.{◌≡◌, ◌-◌, ◌++◌, [], length, map};
+ghost use Rattle.std.specs.Prelude.{◌≡◌, ◌-◌, ◌++◌, [], drop, length, map};
 ghost use Rattle.pef_inspect.specs.Errors.{errors_of};
 ghost use Rattle.pef_inspect.specs.Oddities.{Adds, HasIrregularExports, notes_of};
 ghost use Rattle.pef_c.specs.Buffers.{FillsPart};
 ghost use Rattle.pef_c.specs.Findings.{FindingsAnswer, MoreNotesAnswer, cause_detail, finding_row, note_detail};
+ghost use Rattle.pef_c.specs.Told.{told_items};
 
 use crate::answers::OUT_OF_MEMORY;
-use crate::log::Log;
 use crate::place::place_or_nowhere;
 use crate::structs::PefFinding;
+use crate::told::Told;
 use pef_inspect::{Cause, Finding, Findings, Note, find_errors, find_more_notes, find_notes};
 use std::alloc::Global;
 use std::convert::Infallible;
@@ -28,7 +29,7 @@ pub extern "C" fn pef_findings(
 {
     let mut filling = Filling::new(places, from);
     filling.find(container);
-    *count = filling.count;
+    *count = filling.count();
     0
 }
 
@@ -51,7 +52,7 @@ pub extern "C" fn pef_more_notes(
     };
     let mut filling = Filling::new(places, from);
     filling.take_each(&found);
-    *count = filling.count;
+    *count = filling.count();
     0
 }
 
@@ -64,19 +65,20 @@ struct Filling<'p> {
     skip: usize,
     /// How many places are filled.
     count: usize,
-    /// What was in the places before. Only proofs read it.
-    start: Log<PefFinding>,
-    /// What was found. Only proofs read it.
-    taken: Log<Finding>,
-    ghost filled: { FillsPart (map finding_row taken.items) from start.items places.now count },
-    ghost skipped: { skip ≡ from - length taken.items },
+    /// What was in the places that are filled.
+    were: Told<PefFinding>,
+    /// What was found.
+    taken: Told<Finding>,
+    ghost filled: { FillsPart (map finding_row (told_items taken)) from (told_items were ++ drop count places.now) places.now count },
+    ghost skipped: { skip ≡ from - length (told_items taken) },
 }
 
 impl<'p> Findings for Filling<'p> {
     ghost use Rattle.std.specs.Prelude.{◌++◌};
+    ghost use Rattle.pef_c.specs.Fillings.{start_of};
     ghost use Rattle.pef_c.specs.Kept.{kept};
 
-    ghost taken = { λ rows. kept rows.places.ghost_name rows.from rows.start.items ++ rows.taken.items };
+    ghost taken = { λ rows. kept rows.places.ghost_name rows.from (start_of rows) ++ told_items rows.taken };
 
     type Error = Infallible;
 
@@ -86,13 +88,14 @@ impl<'p> Findings for Filling<'p> {
             from: _,
             skip,
             count,
-            start: _,
+            were,
             taken,
         } = self;
         *taken = taken.and(&finding);
         if *skip > 0 {
             *skip -= 1;
         } else if *count < places.len() {
+            *were = were.and(&places[*count]);
             places[*count] = finding_given(finding);
             *count += 1;
         }
@@ -101,21 +104,22 @@ impl<'p> Findings for Filling<'p> {
 }
 
 impl<'p> Filling<'p> {
+    ghost use Rattle.pef_c.specs.Fillings.{start_of};
+
     /// Returns places of which none is filled.
     fn new(places: &'p mut [PefFinding], from: usize) -> Filling<'p>
         ensures same_reference { result.places.ghost_name ≡ places.entry.ghost_name }
         ensures from { result.from ≡ from }
-        ensures start { result.start.items ≡ places.old }
-        ensures none { result.taken.items ≡ [] }
+        ensures start { start_of result ≡ places.old }
+        ensures none { told_items result.taken ≡ [] }
     {
-        let start = Log::of(places);
         Filling {
             places,
             from,
             skip: from,
             count: 0,
-            start,
-            taken: Log::new(),
+            were: Told::Nothing,
+            taken: Told::Nothing,
         }
     }
 
@@ -123,8 +127,8 @@ impl<'p> Filling<'p> {
     fn find(&mut self, bytes: &[u8])
         ensures same_reference { self.new.places.ghost_name ≡ self.old.places.ghost_name }
         ensures from { self.new.from ≡ self.old.from }
-        ensures start { self.new.start.items ≡ self.old.start.items }
-        ensures found { Adds self.old.taken.items self.new.taken.items (λ irregular. errors_of bytes.now ++ notes_of bytes.now irregular) (HasIrregularExports bytes.now) }
+        ensures start { start_of self.new ≡ start_of self.old }
+        ensures found { Adds (told_items self.old.taken) (told_items self.new.taken) (λ irregular. errors_of bytes.now ++ notes_of bytes.now irregular) (HasIrregularExports bytes.now) }
     {
         match find_errors(bytes, self) {
             Ok(()) => {}
@@ -140,8 +144,8 @@ impl<'p> Filling<'p> {
     fn take_each(&mut self, found: &[Finding])
         ensures same_reference { self.new.places.ghost_name ≡ self.old.places.ghost_name }
         ensures from { self.new.from ≡ self.old.from }
-        ensures start { self.new.start.items ≡ self.old.start.items }
-        ensures found { self.new.taken.items ≡ self.old.taken.items ++ found.now }
+        ensures start { start_of self.new ≡ start_of self.old }
+        ensures found { told_items self.new.taken ≡ told_items self.old.taken ++ found.now }
     {
         for finding in found {
             match self.take(*finding) {
@@ -149,6 +153,14 @@ impl<'p> Filling<'p> {
                 Err(error) => match error {},
             }
         }
+    }
+
+    /// Returns how many places are filled.
+    fn count(self) -> usize
+        ensures count { result ≡ self.entry.count }
+        ensures places { self.exit.0.now ≡ self.entry.places.now }
+    {
+        self.count
     }
 }
 

@@ -16,7 +16,6 @@ mod handle;
 mod link;
 mod list;
 mod loader;
-mod log;
 mod mac_errors;
 mod mac_file;
 mod mac_structs;
@@ -35,6 +34,7 @@ mod structs;
 mod text;
 mod text_handle;
 mod theorems;
+mod told;
 mod unread;
 
 pub use connections::{pef_export_address, pef_import_target, pef_new_fragments, pef_released_by};

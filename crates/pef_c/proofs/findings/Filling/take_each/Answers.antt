@@ -1,6 +1,8 @@
 -- What was taken begins with what is kept.
 use Rattle.std.proofs.Common.{◌≡◌, arith, take}
 use Rattle.std.proofs.lemmas.List.{take_all}
+use Rattle.pef_c.specs.Fillings.{start_of}
+use Rattle.pef_c.specs.Told.{told_items}
 use Rattle.pef_c.proofs.KeptLemmas.{took}
 use Rattle.pef_c.proofs.findings.Filling.take_each.Goals as goal
 
@@ -10,7 +12,7 @@ returns-clause-same_reference c =
     let new = c.loop-finding.self in
     let last = c.loop-finding-test.false in
     let all : take c.loop-finding.finding-index c.args.found.now ≡ c.args.found.now = take_all c.loop-finding.finding-index c.args.found.now (omega (arith, last)) in
-    (took old.places.ghost_name new.places.ghost_name old.from new.from old.start.items new.start.items old.taken.items new.taken.items c.args.found.now
+    (took old.places.ghost_name new.places.ghost_name old.from new.from (start_of old) (start_of new) (told_items old.taken) (told_items new.taken) c.args.found.now
     (rw all at c.loop-finding.invariant)).name_is
 
 pub returns-clause-from : goal.returns-clause-from
@@ -19,7 +21,7 @@ returns-clause-from c =
     let new = c.loop-finding.self in
     let last = c.loop-finding-test.false in
     let all : take c.loop-finding.finding-index c.args.found.now ≡ c.args.found.now = take_all c.loop-finding.finding-index c.args.found.now (omega (arith, last)) in
-    (took old.places.ghost_name new.places.ghost_name old.from new.from old.start.items new.start.items old.taken.items new.taken.items c.args.found.now
+    (took old.places.ghost_name new.places.ghost_name old.from new.from (start_of old) (start_of new) (told_items old.taken) (told_items new.taken) c.args.found.now
     (rw all at c.loop-finding.invariant)).from_is
 
 pub returns-clause-start : goal.returns-clause-start
@@ -28,7 +30,7 @@ returns-clause-start c =
     let new = c.loop-finding.self in
     let last = c.loop-finding-test.false in
     let all : take c.loop-finding.finding-index c.args.found.now ≡ c.args.found.now = take_all c.loop-finding.finding-index c.args.found.now (omega (arith, last)) in
-    (took old.places.ghost_name new.places.ghost_name old.from new.from old.start.items new.start.items old.taken.items new.taken.items c.args.found.now
+    (took old.places.ghost_name new.places.ghost_name old.from new.from (start_of old) (start_of new) (told_items old.taken) (told_items new.taken) c.args.found.now
     (rw all at c.loop-finding.invariant)).old_is
 
 pub returns-clause-found : goal.returns-clause-found
@@ -37,5 +39,5 @@ returns-clause-found c =
     let new = c.loop-finding.self in
     let last = c.loop-finding-test.false in
     let all : take c.loop-finding.finding-index c.args.found.now ≡ c.args.found.now = take_all c.loop-finding.finding-index c.args.found.now (omega (arith, last)) in
-    (took old.places.ghost_name new.places.ghost_name old.from new.from old.start.items new.start.items old.taken.items new.taken.items c.args.found.now
+    (took old.places.ghost_name new.places.ghost_name old.from new.from (start_of old) (start_of new) (told_items old.taken) (told_items new.taken) c.args.found.now
     (rw all at c.loop-finding.invariant)).items_are
