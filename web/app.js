@@ -1,37 +1,22 @@
 // The page: files that are dropped or chosen, and what is in them.
-import { BytesView } from "./bytes.js";
 import { Client } from "./client.js";
+import { groupsOf, join } from "./companion.js";
 import { ContainerView, uninspectedView } from "./container.js";
-import { button, el, save, terms } from "./dom.js";
+import { save } from "./dom.js";
 import { Container, OpenFile } from "./files.js";
-import { DataTable } from "./table.js";
+import { fileView, unreadableView } from "./fileview.js";
+import { chosenFiles, droppedFiles } from "./given.js";
+import { FileList } from "./list.js";
 import * as text from "./text.js";
+import { brokenView, welcomeView } from "./welcome.js";
 
-/** How many containers of a file are listed beside it. The others are in the file's own table. */
-const LISTED = 20;
+const page = Object.fromEntries(["files", "filter", "list", "view", "save", "saveAll", "status", "pick"].map((it) => [it, document.getElementById(it)]));
 
-const FORMATS = {
-    container: "a bare container",
-    macbinary: "MacBinary",
-    applesingle: "AppleSingle",
-    appledouble: "AppleDouble",
-    damaged: "AppleSingle or AppleDouble, damaged",
-    resources: "a resource fork",
-    other: "none of the formats that are known; containers are found by a search",
-};
+/** After how many files the page says how far it is. */
+const SOME = 50;
 
-const USAGES = ["import library", "application", "drop-in addition", "stub library", "weak stub library"];
-
-const LOCATORS = ["in memory", "data fork", "resource"];
-
-const page = {
-    files: document.getElementById("files"),
-    list: document.getElementById("list"),
-    view: document.getElementById("view"),
-    save: document.getElementById("save"),
-    status: document.getElementById("status"),
-    pick: document.getElementById("pick"),
-};
+/** The files that are open, in the order of the list. */
+const files = new Set();
 
 /** The file that is shown, and which of its containers, by its offset. */
 let chosen = null;
@@ -57,6 +42,8 @@ const client = new Client((name) => {
     page.status.textContent = name === null ? said : `Reading ${name}`;
 });
 
+const list = new FileList({ panel: page.files, filter: page.filter, list: page.list }, { choose, remove });
+
 function always() {
     return true;
 }
@@ -69,39 +56,114 @@ function newChoice() {
     return () => number === choices;
 }
 
-/** Adds files, and shows the first of them unless something else was chosen in the meantime. */
+/** Adds files. The first one that can be read is shown at once, unless something else was chosen in the meantime. */
 async function add(given) {
     const isWanted = newChoice();
-    const added = [];
-    for (const it of given) {
-        const file = new OpenFile(opened, it.name);
+    const added = given.map(({ path, file, why }) => {
         opened += 1;
-        try {
-            file.take(await client.ask(file, always, "open", file.number, it));
-        } catch (error) {
-            say(`${it.name} can't be read: ${error.message}`);
-            return;
+        return Object.assign(new OpenFile(opened, path), { why: why ?? null, given: file });
+    });
+    let shown = null;
+    for (const [i, group] of groupsOf(added).entries()) {
+        if (isWanted() && added.length > 1 && i % SOME === 0) {
+            say(i === 0 ? `Reading ${text.counted(added.length, "file")}` : `Reading: ${i.toLocaleString("en")} of ${text.counted(added.length, "file")}`);
         }
-        added.push(file);
-        listFile(file);
+        await addGroup(group);
+        const first = group.find(({ why }) => why === null);
+        if (shown === null && isWanted() && first !== undefined) {
+            shown = show(first, isWanted);
+        }
+        for (const file of group) {
+            await count(file);
+        }
     }
-    if (added.length > 0 && isWanted()) {
-        const [file] = added;
-        if (await choose(file, file.places.length === 1 ? file.places[0] : null)) {
-            say(added.length === 1 ? `${file.name} was read.` : `${added.length} files were read.`);
-        }
+    list.draw();
+    if (shown === null && isWanted()) {
+        shown = show(added[0], isWanted);
+    }
+    if (added.some(({ why }) => why !== null) || (isWanted() && (await shown))) {
+        say(summary(added));
     }
 }
 
+/** Reads files, and lists them. One of them may have the resource fork of the first. */
+async function addGroup(group) {
+    for (const file of group) {
+        await read(file);
+    }
+    if (group[0].why === null) {
+        join(group);
+    }
+    for (const file of group) {
+        files.add(file);
+        if (file.owner === null) {
+            list.add(file);
+        }
+    }
+    page.saveAll.disabled &&= group.every(({ why }) => why !== null);
+}
+
+/** Reads a file, or keeps why it can't be read. */
+async function read(file) {
+    if (file.why !== null) {
+        return;
+    }
+    try {
+        file.take(await client.ask(file, always, "open", file.number, file.given, file.path));
+    } catch (error) {
+        file.why = `${error.message.replace(/\.$/, "")} (${text.counted(file.given.size, "byte")})`;
+    }
+}
+
+/** Counts the errors and notes of a file, so that its row has them. */
+async function count(file) {
+    while (file.why === null && !file.isClosed && !file.isCounted()) {
+        try {
+            file.takeCount(await client.ask(file, always, "count", file.count.next));
+        } catch {
+            // There is too little memory to look into a container. What is shown of it says so.
+            file.takeCount({ errors: 0, notes: 0, isCut: true, next: file.places.length });
+        }
+        list.update(file);
+    }
+}
+
+/** Returns what is said of files that were added. */
+function summary(added) {
+    const bad = added.filter(({ why }) => why !== null);
+    const good = added.filter(({ why }) => why === null);
+    const first = good.length === 1 ? `${good[0].name} was read.` : `${text.counted(good.length, "file")} were read.`;
+    const lost = bad.length === 1 ? `${bad[0].path} can't be read: ${bad[0].why}.` : `${text.counted(bad.length, "file")} can't be read: the list says why.`;
+    return [good.length > 0 ? first : "", bad.length > 0 ? lost : ""].join(" ").trim();
+}
+
+function readable() {
+    return [...files].filter(({ why }) => why === null);
+}
+
+/** Shows a file, or one of its containers by its offset, as the user asks for. */
+function choose(file, place) {
+    return show(file, newChoice(), place);
+}
+
 /** Shows a file, or one of its containers by its offset. Returns whether it can be shown. */
-async function choose(file, place) {
-    const isWanted = newChoice();
-    markChosen(file, place);
-    const shown = place === null ? fileView(file) : await containerView(file, place, isWanted);
-    if (shown !== null) {
+async function show(file, isWanted, place = file.mainPlace()) {
+    chosen = { file, place };
+    list.mark(file, place);
+    page.save.disabled = file.why !== null;
+    const shown = await viewOf(file, place, isWanted);
+    if (shown !== null && isWanted()) {
         page.view.replaceChildren(shown);
     }
     return shown !== null;
+}
+
+/** Returns the view of a file or of a container, or null if it can't be read. */
+async function viewOf(file, place, isWanted) {
+    if (file.why !== null) {
+        return unreadableView(file);
+    }
+    return place === null ? fileView(file, { choose, helps }) : containerView(file, place, isWanted);
 }
 
 /** Returns the view of a container, or null if it can't be read. */
@@ -119,10 +181,14 @@ async function containerView(file, place, isWanted) {
     if (answer === null) {
         return null;
     }
+    const up = () => choose(file, null);
+    const saveAs = (bytes) => save(`${file.name}-${text.at(place)}.pef`, new Blob([bytes]));
     if (answer.container === null) {
-        return uninspectedView({ offset: place, bytes: file.bytes.subarray(place, place + answer.rest) }, title(file, place));
+        const bytes = file.bytes.subarray(place, place + answer.rest);
+        return uninspectedView({ offset: place, bytes }, title(file, place), { up, save: () => saveAs(bytes) });
     }
-    return new ContainerView(new Container(file, k, answer, ask), title(file, place), helps).element;
+    const container = new Container(file, k, answer, ask);
+    return new ContainerView(container, title(file, place), { helps, up, save: () => saveAs(container.ownBytes()) }).element;
 }
 
 /** Returns the title of a container: the name of the fragment in it, if one is, and where it is. */
@@ -132,144 +198,27 @@ function title(file, place) {
     return fragment === undefined ? where : `${text.nameOf(fragment)} (${where})`;
 }
 
-/** Lists a file with its first containers. */
-function listFile(file) {
-    const link = (label, place) => {
-        const made = button(label, () => choose(file, place), { class: "file" });
-        file.links.set(place, made);
-        return el("li", {}, made);
-    };
-    const item = link(file.name, null);
-    const inner = el("ul");
-    for (const place of file.places.subarray(0, LISTED)) {
-        const fragment = file.fragmentAt.get(place);
-        inner.append(link(fragment === undefined ? text.at(place) : `${text.at(place)} ${text.nameOf(fragment)}`, place));
+/** Takes a file out of the page, with the file that has its resource fork, and shows the next one. */
+function remove(file) {
+    for (const it of [file, file.companion].filter((it) => it !== null)) {
+        it.isClosed = true;
+        files.delete(it);
+        client.ask(it, always, "close", it.number);
     }
-    if (file.places.length > LISTED) {
-        inner.append(el("li", { class: "hint" }, `and ${(file.places.length - LISTED).toLocaleString("en")} more`));
+    const beside = list.drop(file);
+    page.saveAll.disabled = readable().length === 0;
+    if (![file, file.companion].includes(chosen?.file)) {
+        return;
     }
-    item.append(inner);
-    page.list.append(item);
-    page.files.hidden = false;
-}
-
-/** Keeps what was chosen, and marks it in the list of files. */
-function markChosen(file, place) {
-    const link = () => chosen?.file.links.get(chosen.place);
-    link()?.removeAttribute("aria-current");
-    chosen = { file, place };
-    link()?.setAttribute("aria-current", "true");
-    page.save.disabled = false;
-}
-
-/** Returns what is known of a file beside its containers. */
-function fileView(file) {
-    const parts = [
-        el("h2", {}, file.name),
-        terms([
-            ["Bytes", file.bytes.length.toLocaleString("en")],
-            ["Format", FORMATS[file.format]],
-            ["Containers", file.places.length.toLocaleString("en")],
-        ]),
-    ];
-    const bytes = new BytesView({ bytes: file.bytes, offset: 0, sections: [] });
-    if (file.findings.length > 0) {
-        parts.push(el("h3", {}, "Errors and notes of the file"), findingsTable(file, bytes).element);
+    if (beside !== null) {
+        choose(beside, beside.mainPlace());
+        return;
     }
-    parts.push(el("h3", {}, "Containers"), containersTable(file).element);
-    const inside = partsOf(file);
-    if (inside.length > 1 || inside.some((it) => it.error !== 0)) {
-        parts.push(el("h3", {}, "Parts of the file"), forksTable(inside).element);
-    }
-    if (file.fragments.length > 0) {
-        parts.push(el("h3", {}, "Fragments"), fragmentsTable(file).element);
-    }
-    if (file.resources.length > 0) {
-        parts.push(el("h3", {}, "Resources"), resourcesTable(file).element);
-    }
-    if (file.hasMoreResources) {
-        parts.push(el("p", { class: "hint" }, "There may be more resources."));
-    }
-    parts.push(el("h3", {}, "Bytes"), bytes.element);
-    return el("article", {}, ...parts);
-}
-
-/** Returns the table of the errors and notes that aren't those of a container. */
-function findingsTable(file, bytes) {
-    const show = (offset) => {
-        bytes.open(0, offset);
-        bytes.lines.focus();
-    };
-    const meaning = ({ number, containers }) => `${helps[number]?.help ?? ""}${containers === undefined ? "" : ` ${text.counted(containers, "container")}.`}`;
-    const columns = [
-        { title: "Number", text: (it) => String(it.number), value: (it) => it.number, class: "number" },
-        { title: "Name", text: (it) => it.name },
-        { title: "Part", text: ({ part, row }) => [part ?? "–", row ?? ""].join(" ").trim() },
-        { ...numeric("Offset", (it) => it.offset, (it) => text.at(it.offset)), go: (it) => (it.offset === null ? null : () => show(it.offset)) },
-        { title: "Meaning", text: meaning, class: "wide" },
-    ];
-    return new DataTable({ caption: "Errors and notes of the file", columns, rows: file.findings });
-}
-
-function errorText(number) {
-    return number === 0 ? "" : `${number} ${helps[number]?.name ?? ""}`;
-}
-
-function numeric(heading, value, shown = (it) => String(value(it))) {
-    return { title: heading, text: (it) => (value(it) === null ? "–" : shown(it)), value, class: "number" };
-}
-
-function containersTable(file) {
-    const fragment = (place) => file.fragmentAt.get(place);
-    const columns = [
-        { title: "#", text: (it, i) => String(i), value: (it, i) => i, class: "number" },
-        { title: "Offset", text: (it) => text.at(it), value: (it) => it, class: "number", go: (it) => () => choose(file, it) },
-        { title: "Fragment", text: (it) => (fragment(it) === undefined ? "" : text.nameOf(fragment(it))) },
-    ];
-    return new DataTable({ caption: "Containers in the file", columns, rows: file.places, empty: "No container is in the file." });
-}
-
-/** Returns the parts that a file has, or their errors. Names and comments without a character are left out. */
-function partsOf(file) {
-    return file.forks.filter((it) => it.length !== 0 || it.kind.endsWith("fork"));
-}
-
-function forksTable(rows) {
-    const columns = [
-        { title: "Part", text: (it) => it.kind },
-        numeric("Offset", (it) => (it.length === null ? null : it.offset), (it) => text.at(it.offset)),
-        numeric("Bytes", (it) => it.length),
-        { title: "Text", text: (it) => text.shownName(it.text) },
-        { title: "Error", text: (it) => errorText(it.error) },
-    ];
-    return new DataTable({ caption: "Parts of the file", columns, rows });
-}
-
-function fragmentsTable(file) {
-    const columns = [
-        { title: "Name", text: text.nameOf },
-        { title: "Usage", text: (it) => USAGES[it.usage] ?? String(it.usage), value: (it) => it.usage },
-        { title: "Architecture", text: (it) => text.shownName(it.architecture) },
-        { title: "Version", text: (it) => it.current_text, value: (it) => it.current },
-        { title: "Oldest definition", text: (it) => it.olddef_text, value: (it) => it.olddef },
-        { title: "Where", text: (it) => LOCATORS[it.where] ?? String(it.where), value: (it) => it.where },
-        { ...numeric("Container at", (it) => it.offset, (it) => text.at(it.offset)), go: (it) => (file.containerAt(it.offset) < 0 ? null : () => choose(file, it.offset)) },
-        numeric("Length", (it) => it.length),
-        { title: "Error", text: (it) => errorText(file.errorAt.get(it.row)?.number ?? 0) },
-    ];
-    return new DataTable({ caption: "Fragments that the file names", columns, rows: file.fragments });
-}
-
-function resourcesTable(file) {
-    const columns = [
-        { title: "Type", text: (it) => text.shownName(it.type) },
-        numeric("Id", (it) => it.id),
-        { title: "Name", text: text.nameOf },
-        numeric("Offset", (it) => (it.length === null ? null : it.offset), (it) => text.at(it.offset)),
-        numeric("Bytes", (it) => it.length),
-        { title: "Error", text: (it) => errorText(it.error) },
-    ];
-    return new DataTable({ caption: "Resources", columns, rows: file.resources });
+    newChoice();
+    chosen = null;
+    page.save.disabled = true;
+    page.view.replaceChildren(welcomeView(add));
+    page.pick.focus();
 }
 
 /** Saves what is known of the chosen file. */
@@ -283,37 +232,68 @@ async function saveJson() {
     }
 }
 
-/** Takes files that are dropped anywhere on the page. */
+/** Saves what is known of all files, each on a line of its own. */
+async function saveAll() {
+    const lines = [];
+    const failed = [];
+    for (const file of readable()) {
+        try {
+            lines.push(await client.ask(file, always, "save"));
+        } catch (error) {
+            failed.push(`${file.name} (${error.message})`);
+        }
+    }
+    save("files.jsonl", new Blob(lines, { type: "application/jsonl" }));
+    say(`The JSON of ${text.counted(lines.length, "file")} was made.${failed.length === 0 ? "" : ` It can't be made of ${failed.join(", ")}.`}`);
+}
+
+/** Takes files that are dropped anywhere on the page, also while the module is loaded. Otherwise the browser would leave the page. */
 function takeDrops() {
     document.addEventListener("dragover", (event) => {
         event.preventDefault();
-        document.body.classList.add("dragging");
+        document.body.classList.toggle("dragging", event.dataTransfer.types.includes("Files"));
     });
     document.addEventListener("dragleave", (event) => {
         if (event.relatedTarget === null) {
             document.body.classList.remove("dragging");
         }
     });
-    document.addEventListener("drop", (event) => {
+    document.addEventListener("drop", async (event) => {
         event.preventDefault();
         document.body.classList.remove("dragging");
-        add([...event.dataTransfer.files]);
+        if (document.body.dataset.ready === "false") {
+            return;
+        }
+        const given = await droppedFiles(event.dataTransfer, (count) => say(`${text.counted(count, "file")} found.`));
+        if (given.length === 0) {
+            say("Nothing that was dropped is a file.");
+        } else {
+            add(given);
+        }
     });
 }
 
 async function start() {
+    takeDrops();
     try {
         helps = await client.ask(null, always, "start");
     } catch (error) {
-        say(`The module can't be loaded in this browser: ${error.message}`);
+        page.view.replaceChildren(brokenView(error.message));
+        document.body.dataset.ready = "false";
         return;
     }
+    if (chosen === null) {
+        page.view.replaceChildren(welcomeView(add));
+    }
+    page.pick.disabled = false;
     page.pick.addEventListener("change", () => {
-        add([...page.pick.files]);
+        if (page.pick.files.length > 0) {
+            add(chosenFiles(page.pick.files));
+        }
         page.pick.value = "";
     });
     page.save.addEventListener("click", saveJson);
-    takeDrops();
+    page.saveAll.addEventListener("click", saveAll);
     document.body.dataset.ready = "true";
 }
 

@@ -1,7 +1,7 @@
 // Bytes in hexadecimal: of a file from a container on, or of a section's image with the words that are relocated.
 import { button, el } from "./dom.js";
 import { PACKED } from "./files.js";
-import { hex } from "./text.js";
+import { counted, hex } from "./text.js";
 
 const LINE = 16;
 
@@ -11,11 +11,15 @@ const PART = 128;
 /** How many additions to the same word are shown. */
 const MOST_ADDED = 8;
 
+/** An offset as people write it. */
+const OFFSET = /^\s*(?:0x|\$)?([0-9a-f]{1,12})\s*$/i;
+
 /** A view of bytes. `open` shows a source from an offset on: 0 is the file, and the others are the sections. */
 export class BytesView {
     /**
      * The bytes of a container or of a file. `offset` is where they begin in the file. `imageOf` gives the image of a section by its
-     * number and what is added to its words, in a promise. `addedText` gives the text of an addition.
+     * number, how many bytes it has with the zeros after these, and what is added to its words, in a promise. `addedText` gives the text
+     * of an addition.
      */
     constructor({ bytes, offset, sections }, imageOf = null, addedText = null) {
         this.bytes = bytes;
@@ -23,26 +27,37 @@ export class BytesView {
         this.sections = sections;
         this.imageOf = imageOf;
         this.addedText = addedText;
-        this.image = null;
-        this.added = new Map();
-        this.mark = null;
         this.select = el("select", { "aria-label": "Bytes of" }, el("option", { value: "0" }, offset === 0 ? "the file" : "the file from the container on"));
         this.select.addEventListener("change", () => this.open(Number(this.select.value), null));
         this.goal = el("input", { type: "text", "aria-label": "Offset in hexadecimal", placeholder: "Offset", size: "10", spellcheck: "false", autocomplete: "off" });
         this.note = el("p", { class: "hint", role: "status" });
+        this.warning = el("p", { class: "warning", role: "alert", hidden: true });
         this.lines = el("div", { class: "hex", role: "region", tabindex: "0", "aria-label": "Bytes in hexadecimal" });
         this.before = button("Show earlier bytes", () => this.showBefore(), { class: "more" });
         this.after = button("Show more bytes", () => this.showAfter(), { class: "more" });
         const form = el("form", { class: "tools" }, el("label", {}, "Bytes of ", this.select), el("label", {}, "Go to ", this.goal), el("button", { type: "submit" }, "Go"));
         form.addEventListener("submit", (event) => {
             event.preventDefault();
-            const offset = parseInt(this.goal.value, 16);
-            if (Number.isFinite(offset)) {
-                this.open(this.source, offset);
-            }
+            this.goTo(this.goal.value);
         });
-        this.element = el("section", { class: "bytes" }, form, this.note, this.before, this.lines, this.after);
+        this.element = el("section", { class: "bytes" }, form, this.warning, this.note, this.before, this.lines, this.after);
         this.open(0, null);
+    }
+
+    /** Shows the place that the user typed. */
+    goTo(typed) {
+        const found = OFFSET.exec(typed);
+        if (found === null) {
+            this.warn(typed.trim() === "" ? "Type an offset in hexadecimal, such as 1A0." : `“${typed}” isn't an offset in hexadecimal, such as 1A0.`);
+        } else {
+            this.open(this.source, parseInt(found[1], 16));
+        }
+    }
+
+    /** Says why a place isn't shown. */
+    warn(words) {
+        this.warning.textContent = words;
+        this.warning.hidden = words === "";
     }
 
     /** Shows a source, from a line before an offset on, and marks the byte there. */
@@ -52,14 +67,15 @@ export class BytesView {
         }
         this.source = source;
         this.select.value = String(source);
+        this.warn("");
         this.first = source === 0 ? this.offset : 0;
         const opening = {};
         this.opening = opening;
         if (source === 0) {
-            this.show({ image: this.bytes, added: new Map(), isCut: false }, offset);
+            this.show({ image: this.bytes, size: this.bytes.length, added: new Map(), isCut: false }, offset);
             return;
         }
-        this.show({ image: new Uint8Array(0), added: new Map(), isCut: false }, null);
+        this.show({ image: new Uint8Array(0), size: 0, added: new Map(), isCut: false }, null);
         this.note.textContent = "";
         this.element.setAttribute("aria-busy", "true");
         const shown = await this.imageOf(source - 1);
@@ -69,14 +85,18 @@ export class BytesView {
     }
 
     /** Shows bytes, or says why there are none. */
-    show({ image, added, isCut }, offset) {
+    show({ image, size, added, isCut }, offset) {
         this.element.removeAttribute("aria-busy");
         this.image = image;
+        this.size = size;
         this.added = added;
         this.isCut = isCut;
         this.mark = offset === null ? null : offset - this.first;
-        this.from = this.mark === null ? 0 : Math.max(0, (Math.floor(this.mark / LINE) - 4) * LINE);
         this.note.textContent = this.hint();
+        if (offset !== null) {
+            this.warn(this.outside(offset));
+        }
+        this.from = this.mark === null ? 0 : Math.max(0, (Math.floor(Math.min(this.mark, size - 1) / LINE) - 4) * LINE);
         this.to = this.from;
         this.lines.replaceChildren();
         this.showAfter();
@@ -87,15 +107,47 @@ export class BytesView {
         }
     }
 
+    /** Returns why an offset isn't shown. The text is empty if it is. */
+    outside(offset) {
+        const last = this.first + this.size - 1;
+        if (this.size === 0 || (offset >= this.first && offset <= last)) {
+            return "";
+        }
+        const where = offset < this.first ? `before the first byte, which is at ${hex(this.first, 8)}` : `past the end: the last byte is at ${hex(last, 8)}`;
+        return `${hex(offset, 8)} is ${where}.`;
+    }
+
+    /** Returns what is said of the bytes. */
     hint() {
         if (this.image === null) {
             return "The bytes aren't all there, can't be expanded, or are too many to be shown.";
         }
-        if (this.image.length === 0) {
+        if (this.size === 0) {
             return "There are no bytes.";
         }
+        return [this.zeros(), this.relocated()].filter((it) => it !== "").join(" ");
+    }
+
+    /** Returns what is said of the words that are relocated. */
+    relocated() {
+        if (this.added.size === 0) {
+            return "";
+        }
+        const words = `${counted(this.added.size, "word")} ${this.added.size === 1 ? "is" : "are"} relocated.`;
         const cut = this.isCut ? " There are more additions, which aren't shown." : "";
-        return this.added.size === 0 ? "" : `${this.added.size.toLocaleString("en")} words are relocated. What is added is at the end of a line, after the word's offset.${cut}`;
+        return `${words} What is added is at the end of a line, after the word's offset.${cut}`;
+    }
+
+    /** Returns what is said of the bytes that the file doesn't have. */
+    zeros() {
+        const count = this.size - this.image.length;
+        if (count === 0) {
+            return "";
+        }
+        if (this.image.length === 0) {
+            return `The file has no bytes of this section. Its ${counted(count, "byte")} begin as zeros.`;
+        }
+        return `The last ${counted(count, "byte")}, from ${hex(this.image.length, 8)} on, aren't in the file. They begin as zeros.`;
     }
 
     showBefore() {
@@ -106,19 +158,25 @@ export class BytesView {
     }
 
     showAfter() {
-        const length = this.image === null ? 0 : this.image.length;
-        const from = Math.min(this.to, length);
-        this.to = Math.min(length, from + PART * LINE);
+        const from = Math.min(this.to, this.size);
+        this.to = Math.min(this.size, from + PART * LINE);
         this.lines.append(...this.linesOf(from, this.to));
-        this.after.hidden = this.to >= length;
+        this.after.hidden = this.to >= this.size;
     }
 
     linesOf(from, to) {
         const lines = [];
         for (let at = from; at < to; at += LINE) {
-            lines.push(this.line(at, this.image.subarray(at, Math.min(at + LINE, this.image.length))));
+            lines.push(this.line(at, this.bytesAt(at, Math.min(at + LINE, this.size))));
         }
         return lines;
+    }
+
+    /** Returns bytes: those of the image, and zeros after these. */
+    bytesAt(from, to) {
+        const bytes = new Uint8Array(to - from);
+        bytes.set(this.image.subarray(from, to));
+        return bytes;
     }
 
     line(at, bytes) {
@@ -135,7 +193,8 @@ export class BytesView {
             }
         }
         const text = String.fromCharCode(...bytes).replace(/[^ -~]/g, ".");
-        return el("div", {}, el("span", { class: "at" }, hex(this.first + at, 8)), "  ", cells, el("span", { class: "text" }, text), additions.length === 0 ? null : el("span", { class: "added" }, `  ${additions.join("; ")}`));
+        const end = additions.length === 0 ? null : el("span", { class: "added" }, ...additions.map((it) => el("span", {}, it)));
+        return el("div", {}, el("span", { class: "at" }, `${hex(this.first + at, 8)}  `), cells, el("span", { class: "text" }, text.padEnd(LINE)), end);
     }
 
     kindAt(offset) {
@@ -147,6 +206,6 @@ export class BytesView {
                 return "relocated";
             }
         }
-        return null;
+        return offset >= this.image.length ? "zero" : null;
     }
 }

@@ -2,7 +2,9 @@
 import { BytesView } from "./bytes.js";
 import { button, el, terms } from "./dom.js";
 import { MOST_BESIDE, MOST_LISTED } from "./files.js";
+import { findingColumns } from "./findings.js";
 import { mapOf } from "./map.js";
+import { Stop } from "./rove.js";
 import { DataTable } from "./table.js";
 import * as text from "./text.js";
 
@@ -22,9 +24,21 @@ function coded(words, code) {
     return words[code] === undefined ? String(code) : `${code} ${words[code]}`;
 }
 
-/** The tabs of a container, each drawn when it is first shown. `helps` has what errors and notes mean, by their numbers. */
+/** What the overview shows of a header in its own way. */
+const HEADER = [
+    "architecture", "format_version", "current", "current_text", "olddef", "olddef_text", "oldimp", "oldimp_text", "date", "date_text",
+    "sections", "instantiated", "reserved",
+];
+
+/** The tab that was chosen last. It stays when the file changes. */
+let lastTab = "Overview";
+
+/**
+ * The tabs of a container, each drawn when it is first shown. `helps` has what errors and notes mean, by their numbers. `up` shows the
+ * file, and `save` saves the container.
+ */
 export class ContainerView {
-    constructor(container, title, helps) {
+    constructor(container, title, { helps, up, save }) {
         this.container = container;
         this.helps = helps;
         this.drawn = new Set();
@@ -39,12 +53,12 @@ export class ContainerView {
             ["Relocations", () => this.relocations()],
             ["Bytes", () => this.bytes()],
         ];
-        this.buttons = this.tabs.map(([key]) => button(this.label(key), () => this.show(key), { role: "tab", id: `tab-${key}`, "aria-controls": `panel-${key}`, "data-tab": key }));
+        this.buttons = this.tabs.map(([key]) => button(this.label(key), () => this.show(key), { role: "tab", tabindex: "-1", id: `tab-${key}`, "aria-controls": `panel-${key}`, "data-tab": key }));
         this.panels = this.tabs.map(([key]) => el("div", { role: "tabpanel", id: `panel-${key}`, "aria-labelledby": `tab-${key}`, hidden: true }));
         const list = el("div", { role: "tablist", "aria-label": "Views of the container", class: "tabs" }, ...this.buttons);
-        list.addEventListener("keydown", (event) => this.move(event));
-        this.element = el("article", {}, el("h2", {}, title), list, ...this.panels);
-        this.show("Overview");
+        this.stop = new Stop(list, "[role=tab]", (it) => this.show(it.dataset.tab));
+        this.element = el("article", {}, headOf(title, up, save), verdict(container), list, ...this.panels);
+        this.show(lastTab);
     }
 
     /** Returns the label of a tab: how many rows it has, with `+` if there may be more. */
@@ -57,29 +71,18 @@ export class ContainerView {
         return rows === undefined ? key : `${key} ${listed(rows.length, container.more.has(TABLES[key]))}`;
     }
 
-    /** Moves between the tabs by the arrow keys. */
-    move(event) {
-        const here = this.buttons.findIndex((it) => it.getAttribute("aria-selected") === "true");
-        const last = this.buttons.length - 1;
-        const next = { ArrowRight: here === last ? 0 : here + 1, ArrowLeft: here === 0 ? last : here - 1, Home: 0, End: last }[event.key];
-        if (next !== undefined) {
-            event.preventDefault();
-            this.show(this.tabs[next][0]);
-            this.buttons[next].focus();
-        }
-    }
-
     show(key) {
+        lastTab = key;
         this.tabs.forEach(([it, draw], i) => {
             const isShown = it === key;
             this.buttons[i].setAttribute("aria-selected", String(isShown));
-            this.buttons[i].tabIndex = isShown ? 0 : -1;
             this.panels[i].hidden = !isShown;
             if (isShown && !this.drawn.has(key)) {
                 this.drawn.add(key);
                 this.panels[i].append(...[draw()].flat());
             }
         });
+        this.stop.rest(this.buttons.find((it) => it.dataset.tab === key));
     }
 
     /** Shows the bytes of the file at an offset. */
@@ -111,18 +114,20 @@ export class ContainerView {
 
     overview() {
         const { header, loader, entries, offset } = this.container;
-        const parts = [verdict(this.container)];
+        const parts = [];
         if (header !== null) {
             parts.push(
                 terms([
                     ["Begins at", text.at(offset)],
                     ["Architecture", text.shownName(header.architecture)],
                     ["Format version", String(header.format_version)],
-                    ["Date", header.date_text.replace("T", " ")],
-                    ["Current version", text.version(header.current, header.current_text)],
-                    ["Oldest definition", text.version(header.olddef, header.olddef_text)],
-                    ["Oldest implementation", text.version(header.oldimp, header.oldimp_text)],
+                    ["Date", text.date(header.date, header.date_text)],
+                    versionTerm("Current version", header, "current"),
+                    versionTerm("Oldest definition", header, "olddef"),
+                    versionTerm("Oldest implementation", header, "oldimp"),
                     ["Sections", `${header.sections}, of which ${header.instantiated} get memory`],
+                    ...text.others(header, HEADER),
+                    ...text.others(this.container.others, ["offset"]),
                 ]),
             );
         }
@@ -139,14 +144,7 @@ export class ContainerView {
     findings() {
         const { errors, notes, isCut } = this.container;
         const rows = [...errors.map((it) => ({ ...it, kind: "error" })), ...notes.map((it) => ({ ...it, kind: "note" }))];
-        const columns = [
-            { title: "Kind", text: (it) => it.kind },
-            { title: "Number", text: (it) => String(it.number), value: (it) => it.number, class: "number" },
-            { title: "Name", text: (it) => it.name },
-            { title: "Part", text: (it) => partText(it), go: (it) => this.rowOf(it) },
-            { title: "Offset", text: (it) => (it.offset === null ? "–" : text.at(it.offset)), value: (it) => it.offset, class: "number", go: (it) => (it.offset === null ? null : () => this.goTo(it.offset)) },
-            { title: "Meaning", text: (it) => meaning(this.helps, it), class: "wide" },
-        ];
+        const columns = findingColumns(this.helps, { show: (offset) => this.goTo(offset), rowOf: (it) => this.rowOf(it) });
         const table = this.table("Findings", new DataTable({ caption: "Errors and notes", columns, rows, empty: "No errors and no notes." }));
         return isCut ? [hint("There are more errors or notes. The saved JSON has all of them."), table] : [table];
     }
@@ -176,7 +174,7 @@ export class ContainerView {
         return this.rows("Sections", "Sections", [
             number("#"),
             { title: "Name", text: text.nameOf },
-            { title: "Kind", text: (it) => coded(KINDS, it.kind), value: (it) => it.kind },
+            { title: "Kind", text: (it) => coded(KINDS, it.kind), value: (it) => it.kind, class: "words" },
             { title: "Share", text: (it) => coded(SHARES, it.share), value: (it) => it.share },
             plain("Total", (it) => it.total),
             plain("Unpacked", (it) => it.unpacked),
@@ -193,8 +191,8 @@ export class ContainerView {
         return this.rows("Libraries", "Imported libraries", [
             number("#"),
             { title: "Name", text: text.nameOf },
-            { title: "Current version", text: (it) => text.version(it.current, it.current_text), value: (it) => it.current },
-            { title: "Oldest implementation", text: (it) => text.version(it.oldimp, it.oldimp_text), value: (it) => it.oldimp },
+            { title: "Current version", ...text.versionColumn("current") },
+            { title: "Oldest implementation", ...text.versionColumn("oldimp") },
             { title: "Options", text: (it) => libraryOptions(it.options) },
             plain("First import", (it) => it.first),
             plain("Imports", (it) => it.count),
@@ -296,7 +294,7 @@ export class ContainerView {
         return this.bytesView.element;
     }
 
-    /** Returns the image of a section, and what is added to each word, by the offset of the word. */
+    /** Returns the image of a section, how many bytes it has in memory, and what is added to each word, by the offset of the word. */
     async imageOf(i) {
         const [image, { rows, cut }] = await Promise.all([this.container.image(this.container.sections[i]), this.container.additions(MOST_BESIDE, i)]);
         const added = new Map();
@@ -305,14 +303,25 @@ export class ContainerView {
             all.push(it);
             added.set(it.offset, all);
         }
-        return { image, added, isCut: cut };
+        return { image, size: image === null ? 0 : this.container.sizeOf(i, image), added, isCut: cut };
     }
 }
 
 /** Returns the view of a container that isn't inspected, because the ones before take what a file may. */
-export function uninspectedView({ offset, bytes }, title) {
+export function uninspectedView({ offset, bytes }, title, { up, save }) {
     const why = "This container isn't inspected: those before it in the file pass a limit.";
-    return el("article", {}, el("h2", {}, title), hint(why), new BytesView({ offset, bytes, sections: [] }).element);
+    return el("article", {}, headOf(title, up, save), hint(why), new BytesView({ offset, bytes, sections: [] }).element);
+}
+
+/** Returns the title of a container, with the way to its file. */
+function headOf(title, up, save) {
+    const tools = el("div", { class: "tools" }, button("Show the file", up), button("Save the container", save));
+    return el("div", { class: "head" }, el("h2", {}, title), tools);
+}
+
+function versionTerm(title, header, field) {
+    const { text: words, hint: raw } = text.versionColumn(field);
+    return [title, el("span", { title: raw(header) }, words(header))];
 }
 
 /** Returns an element for parts that are promised. It is busy until they are there. */
@@ -358,37 +367,10 @@ function libraryOptions(options) {
 
 /** Returns how many errors and notes there are, if that is known. */
 function verdict({ errors, notes, isCut }) {
-    const words = [errors.length === 0 ? "no errors" : text.counted(errors.length, "error"), notes.length === 0 ? "no notes" : text.counted(notes.length, "note")].join(", ");
-    const kind = errors.length > 0 ? "damaged" : isCut ? "" : "sound";
-    const said = isCut ? `Of those that were read: ${words}.` : `${words[0].toUpperCase()}${words.slice(1)}.`;
-    return el("p", { class: `verdict ${kind}` }, said);
-}
-
-const ROWLESS = ["header", "loader", "main", "init", "term"];
-
-function partText({ part, row }) {
-    if (part === null) {
-        return "–";
+    const badge = (kind, rows) => el("span", { class: `badge ${rows.length === 0 ? "none" : kind}` }, rows.length === 0 ? `no ${kind}s` : text.counted(rows.length, kind));
+    if (errors.length + notes.length === 0) {
+        return el("p", { class: "verdict" }, el("span", { class: "badge sound" }, "No errors, no notes"));
     }
-    if (part === "packed") {
-        return `packed data of section ${row}`;
-    }
-    if (part === "program") {
-        return `program of relocation header ${row}`;
-    }
-    return ROWLESS.includes(part) ? part : `${part} ${row}`;
-}
-
-function meaning(helps, finding) {
-    return `${helps[finding.number]?.help ?? ""}${detailText(finding)}`;
-}
-
-function detailText({ word, length, sections }) {
-    if (word !== undefined) {
-        return ` The word is at ${text.hex(word, 8)}.`;
-    }
-    if (length !== undefined) {
-        return ` ${length.toLocaleString("en")} bytes.`;
-    }
-    return sections === undefined ? "" : ` ${text.counted(sections, "section")} may be instantiated.`;
+    const comma = el("span", { class: "hidden" }, ", ");
+    return el("p", { class: "verdict" }, badge("error", errors), comma, badge("note", notes), isCut ? " of those that were read" : null);
 }

@@ -6,6 +6,9 @@ const TABLES = ["sections", "libraries", "imports", "relocations", "exports"];
 /** The kind of a section with packed data. */
 export const PACKED = 2;
 
+/** The last of the errors of a container's header and its sections. */
+const LAST_OF_PARTS = 10;
+
 /** The largest image that the page expands. */
 const MOST_EXPANDED = 0x10000000;
 
@@ -14,29 +17,88 @@ export const MOST_LISTED = 20000;
 
 export const MOST_BESIDE = 100000;
 
-/** A file that the worker has read. */
+/** The place of a member that is in the data fork. */
+const IN_DATA_FORK = 1;
+
+/** A file that the user gave. */
 export class OpenFile {
-    constructor(number, name) {
+    constructor(number, path) {
         this.number = number;
-        this.name = name;
-        /** The buttons that lead to the file and to its containers, by their offsets. That of the file has no offset. */
-        this.links = new Map();
+        this.path = path;
+        this.name = path.slice(path.lastIndexOf("/") + 1);
+        /** Why it can't be read, if so. */
+        this.why = null;
+        this.isClosed = false;
+        /** How many errors and notes were found so far, whether there may be more, and in how many of the containers they were counted. */
+        this.count = { errors: 0, notes: 0, isCut: false, next: 0 };
+        this.format = null;
+        /** The file that has its resource fork, and the file whose resource fork this one has. */
+        this.companion = null;
+        this.owner = null;
+        this.places = new Float64Array(0);
     }
 
     /** Takes what the worker says of the file. */
     take({ bytes, report, forks, resources, hasMoreResources, places }) {
         this.bytes = bytes;
+        this.report = report;
         this.format = report.format;
         this.fragments = report.fragments;
-        this.findings = [...report.errors, ...report.notes];
+        this.findings = [...report.errors.map((it) => ({ ...it, kind: "error" })), ...report.notes.map((it) => ({ ...it, kind: "note" }))];
         this.forks = forks;
         this.resources = resources;
         this.hasMoreResources = hasMoreResources;
         this.places = places;
+        this.count.errors = report.errors.length;
+        this.count.notes = report.notes.length;
         /** The fragments by the offsets of their containers, the first of each. */
         this.fragmentAt = new Map([...this.fragments].reverse().map((it) => [it.offset, it]));
         /** The first error of each fragment, by its row. */
         this.errorAt = new Map([...report.errors].reverse().filter(({ part }) => part === "fragment").map((it) => [it.row, it]));
+    }
+
+    /** Takes further errors and notes that were counted. */
+    takeCount({ errors, notes, isCut, next }) {
+        const { count } = this;
+        this.count = { errors: count.errors + errors, notes: count.notes + notes, isCut: count.isCut || isCut, next };
+    }
+
+    isCounted() {
+        return this.count.next >= this.places.length;
+    }
+
+    hasResourceFork() {
+        return this.why === null && this.report.forks.some(({ kind }) => kind === "resource");
+    }
+
+    /** Takes the file that has the resource fork of this one. Its fragments name containers of this file. */
+    takeCompanion(companion) {
+        this.companion = companion;
+        companion.owner = this;
+        // The data fork is here.
+        const findings = companion.findings.filter(({ name }) => name !== "DataForkElsewhere");
+        companion.count.notes -= companion.findings.length - findings.length;
+        companion.findings = findings;
+        for (const fragment of companion.fragments) {
+            const found = companion.containerOf(fragment);
+            if (found?.file === this && !this.fragmentAt.has(found.place)) {
+                this.fragmentAt.set(found.place, fragment);
+            }
+        }
+    }
+
+    /** Returns the file and the place of the container that a fragment of this file names, or null. */
+    containerOf({ offset, where, place }) {
+        if (this.containerAt(offset) >= 0) {
+            return { file: this, place: offset };
+        }
+        const isInOwner = this.owner !== null && where === IN_DATA_FORK && this.owner.containerAt(place) >= 0;
+        return isInOwner ? { file: this.owner, place } : null;
+    }
+
+    /** Returns the place that is shown first: that of the only container, or null for the file. */
+    mainPlace() {
+        return this.places.length === 1 ? this.places[0] : null;
     }
 
     /** Returns the number of the container at a place, or -1. */
@@ -60,6 +122,8 @@ export class Container {
     constructor(file, k, { container, lists, asked, rest }, ask) {
         const { offset, header, loader, entries } = container;
         Object.assign(this, { offset, header, loader, entries, sections: [], libraries: [], imports: [], relocations: [], exports: [], errors: [], notes: [] }, lists);
+        /** What the report says of the container besides. */
+        this.others = container;
         this.k = k;
         this.file = file;
         this.ask = ask;
@@ -100,6 +164,19 @@ export class Container {
             rows.push({ section: this.relocations[relocation].section, offset, kind: kind === 1 ? "section" : "import", number });
         }
         return { rows, cut };
+    }
+
+    /** Returns the bytes of the container alone, as `pef extract` writes them: a note says where it ends, unless its parts are damaged. */
+    ownBytes() {
+        const isDamaged = this.errors.some(({ number }) => number <= LAST_OF_PARTS);
+        const after = this.notes.find(({ name }) => name === "TrailingBytes");
+        return isDamaged || after === undefined ? this.bytes : this.bytes.subarray(0, after.offset - this.offset);
+    }
+
+    /** Returns how many bytes a section has in memory: those of its image, and zeros after them. */
+    sizeOf(i, image) {
+        const isInMemory = this.header !== null && i < this.header.instantiated;
+        return isInMemory ? Math.max(this.sections[i].total, image.length) : image.length;
     }
 
     /** Returns the image of a section: its bytes, expanded if they are packed, or null if they aren't there or can't be expanded. */

@@ -1,19 +1,13 @@
 // A map of a container: which bytes of the file are which part, with the errors marked.
-import { el, svg } from "./dom.js";
+import { button, el } from "./dom.js";
+import { Stop } from "./rove.js";
 import { DataTable } from "./table.js";
-import { at } from "./text.js";
+import { at, counted } from "./text.js";
 
-const WIDTH = 1000;
-
-const HEIGHT = 56;
-
-/** How many errors are marked in a part, and how many parts a bar has. */
+/** How many errors and notes are marked in a part, and how many parts a bar has. */
 const MOST_MARKS = 50;
 
 const MOST_PARTS = 120;
-
-/** The least width of a part, so that it can be seen and pointed at. */
-const LEAST = 5;
 
 const CONTAINER_HEADER = 40;
 
@@ -29,9 +23,9 @@ const UNOWNED = ["UnownedBytes", "TrailingBytes"];
 export function partsOf(container) {
     const { header, sections, notes, offset } = container;
     const end = offset + container.rest;
-    const found = header === null ? [] : [part("container header", "header", offset, CONTAINER_HEADER)];
+    const found = header === null ? [] : [{ ...part("container header", "header", offset, CONTAINER_HEADER), label: "header" }];
     sections.forEach((section, i) => {
-        found.push(part(`section header ${i}`, "header", section.offset, SECTION_HEADER));
+        found.push({ ...part(`section header ${i}`, "header", section.offset, SECTION_HEADER), label: `head ${i}` });
         if (section.packed > 0 && section.raw < end) {
             const kind = isLoader(section, container) ? "loader" : "section";
             const length = Math.min(section.packed, end - section.raw);
@@ -111,29 +105,39 @@ function part(name, kind, from, length) {
 export function mapOf(container, go) {
     const parts = partsOf(container);
     const inside = loaderParts(container);
-    const errors = container.errors.filter((it) => it.offset !== null).map((it) => it.offset).sort((a, b) => a - b);
-    const list = [...parts, ...inside];
+    const findings = { error: offsetsOf(container.errors), note: offsetsOf(container.notes) };
+    const count = (kind) => ({ text: (it) => String(countIn(it, findings[kind]) || ""), value: (it) => countIn(it, findings[kind]), class: "number" });
     const columns = [
         { title: "From", text: (it) => at(it.from), value: (it) => it.from, class: "number", go: (it) => () => go(it.from) },
         { title: "To", text: (it) => at(it.to), value: (it) => it.to, class: "number" },
         { title: "Bytes", text: (it) => String(it.to - it.from), value: (it) => it.to - it.from, class: "number" },
         { title: "Part", text: (it) => it.name },
-        { title: "Errors", text: (it) => String(countIn(it, errors) || ""), value: (it) => countIn(it, errors), class: "number" },
+        { title: "Errors", ...count("error") },
+        { title: "Notes", ...count("note") },
     ];
-    const table = new DataTable({ caption: "Parts of the container", columns, rows: list });
-    return el("div", { class: "map" }, bar("The container", parts, errors, go), inside.length === 0 ? null : bar("The loader section", inside, errors, go), legend(), table.element);
+    const table = new DataTable({ caption: "Parts of the container", columns, rows: [...parts, ...inside] });
+    const bars = [bar("The container", parts, findings, go), inside.length === 0 ? null : bar("The loader section", inside, findings, go)];
+    const drawn = el("div", { role: "group", "aria-label": "Map of the container" }, ...bars);
+    new Stop(drawn, "button.part").rest();
+    return el("div", { class: "map" }, drawn, legend(), table.element);
 }
 
-/** Returns what the colors of the bars mean. */
+/** Returns the offsets of errors or of notes in rising order. */
+function offsetsOf(rows) {
+    return rows.filter((it) => it.offset !== null).map((it) => it.offset).sort((a, b) => a - b);
+}
+
+/** Returns what the colors and the marks of the bars mean. */
 function legend() {
-    const colors = { header: "headers", section: "sections", loader: "loader section", gap: "bytes of no part, or that align", error: "an error" };
-    const items = Object.entries(colors).map(([kind, label]) => el("li", {}, svg("svg", { viewBox: "0 0 10 10", "aria-hidden": "true" }, svg("rect", { width: 10, height: 10, class: kind })), label));
-    return el("ul", { class: "legend" }, ...items);
+    const parts = { header: "headers", section: "sections", loader: "loader section", gap: "bytes of no part, or that align" };
+    const items = Object.entries(parts).map(([kind, label]) => el("li", {}, el("span", { class: `key part ${kind}`, "aria-hidden": "true" }), label));
+    const marks = Object.entries({ error: "an error", note: "a note" }).map(([kind, label]) => el("li", {}, el("span", { class: `key at-${kind}`, "aria-hidden": "true" }), label));
+    return el("ul", { class: "legend" }, ...items, ...marks);
 }
 
-/** Returns how many of the errors, whose offsets are in rising order, are in a part. */
-function countIn(part, errors) {
-    return before(errors, part.to) - before(errors, part.from);
+/** Returns how many of some offsets, which are in rising order, are in a part. */
+function countIn(part, offsets) {
+    return before(offsets, part.to) - before(offsets, part.from);
 }
 
 /** Returns how many of some numbers in rising order are below a limit. */
@@ -152,34 +156,27 @@ function before(numbers, limit) {
 }
 
 /** Returns a bar of parts. Each is as wide as its bytes, but no narrower than can be seen. */
-function bar(label, parts, errors, go) {
-    const shown = parts.slice(0, MOST_PARTS);
-    const whole = shown.reduce((sum, it) => sum + it.to - it.from, 0) || 1;
-    const room = WIDTH - LEAST * shown.length;
-    const picture = svg("svg", { viewBox: `0 0 ${WIDTH} ${HEIGHT}`, preserveAspectRatio: "none", role: "group", "aria-label": label });
-    let x = 0;
-    for (const it of shown) {
-        const width = LEAST + (room * (it.to - it.from)) / whole;
-        const hurt = countIn(it, errors);
-        const name = `${it.name}, ${at(it.from)} to ${at(it.to)}${hurt === 0 ? "" : `, ${hurt} ${hurt === 1 ? "error" : "errors"}`}`;
-        const onkey = (event) => {
-            if (event.key === "Enter" || event.key === " ") {
-                event.preventDefault();
-                go(it.from);
-            }
-        };
-        const title = svg("title");
-        title.textContent = name;
-        const block = svg("rect", { x: x + 0.5, y: 10, width: Math.max(width - 1, 1), height: HEIGHT - 12, class: it.kind });
-        const group = svg("g", { tabindex: "0", role: "button", "aria-label": name, onclick: () => go(it.from), onkeydown: onkey }, title, block);
-        const first = before(errors, it.from);
-        for (const offset of errors.slice(first, first + Math.min(hurt, MOST_MARKS))) {
-            const place = x + (width * (offset - it.from)) / Math.max(it.to - it.from, 1);
-            group.append(svg("rect", { x: Math.max(place - 1.5, 0), y: 0, width: 3, height: HEIGHT, class: "error" }));
+function bar(label, parts, findings, go) {
+    const blocks = parts.slice(0, MOST_PARTS).map((it) => block(it, findings, go));
+    const rest = parts.length > blocks.length ? ` (the first ${blocks.length} parts)` : "";
+    return el("figure", { class: "bar" }, el("figcaption", {}, `${label}${rest}`), el("div", { class: "blocks" }, ...blocks));
+}
+
+/** Returns a part of a bar, with marks at its errors and notes. */
+function block(part, findings, go) {
+    const length = part.to - part.from;
+    const counts = Object.entries(findings).map(([kind, offsets]) => [kind, countIn(part, offsets)]).filter(([, count]) => count > 0);
+    const name = [`${part.name}, ${at(part.from)} to ${at(part.to)}`, ...counts.map(([kind, count]) => counted(count, kind))].join(", ");
+    const label = el("span", { class: "label" }, part.label ?? part.name, el("small", {}, counted(length, "byte")));
+    const made = button(label, () => go(part.from), { class: `part ${part.kind}`, title: name, "aria-label": name, tabindex: "-1" });
+    made.style.flexGrow = String(length);
+    for (const [kind, count] of counts) {
+        const first = before(findings[kind], part.from);
+        for (const offset of findings[kind].slice(first, first + Math.min(count, MOST_MARKS))) {
+            const mark = el("span", { class: `at-${kind}` });
+            mark.style.left = `${(100 * (offset - part.from)) / Math.max(length, 1)}%`;
+            made.append(mark);
         }
-        picture.append(group);
-        x += width;
     }
-    const rest = parts.length > shown.length ? ` (the first ${shown.length} parts)` : "";
-    return el("figure", { class: "bar" }, el("figcaption", {}, `${label}${rest}`), picture);
+    return made;
 }

@@ -6,12 +6,15 @@ const PART = 200;
 
 const MOST_CHARACTERS = 50000;
 
+/** A cell may be too narrow for a text with more characters. */
+const LONG = 30;
+
 /** How many rows are shown before one that is far down. */
 const BEFORE = 10;
 
 /**
- * A table of rows. A column has a title, the text that it shows of a row, and maybe a value to sort by, a place to go to and
- * `class`. `more` says whether there are further rows, and reads some of them into `rows`.
+ * A table of rows. A column has a title, the text that it shows of a row, and maybe a value to sort by, a place to go to, `class`,
+ * a hint, and the kind of `badge` that the text is. `more` says whether there are further rows, and reads some of them into `rows`.
  */
 export class DataTable {
     constructor({ caption, columns, rows, more = { has: () => false }, empty = "None." }) {
@@ -30,10 +33,11 @@ export class DataTable {
         this.body = el("tbody");
         this.before = button("Show earlier rows", () => this.fillBefore());
         this.rest = button("Show more rows", () => this.showMore(), { class: "more" });
+        this.tools = el("div", { class: "tools" }, this.search, this.count, this.before);
         this.element = el(
             "section",
             { class: "data" },
-            el("div", { class: "tools" }, this.search, this.count, this.before),
+            this.tools,
             el(
                 "div",
                 { class: "scroller", tabindex: "0", role: "region", "aria-label": caption },
@@ -163,6 +167,7 @@ export class DataTable {
 
     drawCount() {
         const more = this.more.has();
+        this.tools.hidden = this.rows.length < 2 && !more;
         this.before.hidden = this.from === 0;
         this.rest.hidden = this.to === this.numbers.length && !more;
         const shown = this.to - this.from;
@@ -175,15 +180,24 @@ export class DataTable {
     line(place) {
         const i = this.numbers[place] ?? place;
         const row = this.rows[i];
-        const cells = this.columns.map((column) => el("td", { class: column.class }, this.cell(column, row, i)));
+        const cells = this.columns.map((column) => el("td", { class: column.class, title: hintOf(column, row, i) }, this.cell(column, row, i)));
         return el("tr", { class: i === this.marked ? "marked" : null, tabindex: "-1" }, ...cells);
     }
 
     cell(column, row, i) {
         const text = column.text(row, i);
         const go = column.go?.(row, i);
-        return go === undefined || go === null ? text : button(text, go, { class: "link" });
+        if (go !== undefined && go !== null) {
+            return button(text, go, { class: "link" });
+        }
+        return column.badge === undefined ? text : el("span", { class: `badge ${column.badge(row, i)}` }, text);
     }
+}
+
+/** Returns what is said of a cell beside it: the hint of its column, or a text that may be too long for the cell. */
+function hintOf(column, row, i) {
+    const text = column.text(row, i);
+    return column.hint?.(row, i) ?? (text.length > LONG && column.class === undefined ? text : null);
 }
 
 /** Compares two values to sort by. What isn't there comes last. */

@@ -27,9 +27,35 @@ export function at(offset) {
     return hex(offset, 8);
 }
 
+/** The largest version that is shown as a plain number if it isn't one as people write it. */
+const MOST_PLAIN = 0xFFFF;
+
 /** Returns a version by its number and its text, which is `-` if it isn't one as people write it. */
-export function version(number, text) {
-    return text === "-" ? hex(number, 8) : `${text} (${hex(number, 8)})`;
+function version(number, text) {
+    if (text !== "-") {
+        return text;
+    }
+    return number <= MOST_PLAIN ? String(number) : hex(number, 8);
+}
+
+/** Returns what a column shows of a version. Its hint has the four bytes. */
+export function versionColumn(field) {
+    return {
+        text: (it) => version(it[field], it[`${field}_text`]),
+        value: (it) => it[field],
+        hint: (it) => `${hex(it[field], 8)} in hexadecimal`,
+    };
+}
+
+/** Returns a date by its seconds since 1904 and its text. Linkers leave 0 if they don't know it. */
+export function date(seconds, text) {
+    return seconds === 0 ? "none" : text.replace("T", " ");
+}
+
+/** Returns the names and values of an object that the page doesn't know, and that aren't objects: a later report may have more. */
+export function others(object, known) {
+    const isPlain = (value) => ["string", "number", "boolean"].includes(typeof value);
+    return Object.entries(object).filter(([name, value]) => !known.includes(name) && isPlain(value)).map(([name, value]) => [shownName(name), shownName(String(value))]);
 }
 
 /** Returns how many of something there are. */

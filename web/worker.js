@@ -24,6 +24,9 @@ const LONG_PROGRAM = 500000;
 /** For how many milliseconds programs are read. A damaged file can have many that take long and give nothing. */
 const MOST_TIME = 5000;
 
+/** For how many milliseconds errors and notes are counted at once. */
+const SHORT = 200;
+
 const MOST_RESOURCES = 65536;
 
 const TABLES = ["sections", "libraries", "imports", "relocations", "exports"];
@@ -34,7 +37,7 @@ const TEXT = new TextDecoder();
 
 let reader = null;
 
-/** The files that were opened, by their numbers, each with what the reader knows of its containers. */
+/** The files that were opened, by their numbers, each with its path, what the reader knows of its containers, and what was counted. */
 const files = new Map();
 
 /** The number of the file that the reader has. */
@@ -109,6 +112,13 @@ function longerExcerptOf(k, size) {
     return null;
 }
 
+/** Keeps how many errors and notes an excerpt has. */
+function countIn(counts, k, { container, asked }) {
+    const errors = container?.errors.length ?? 0;
+    const notes = container?.notes.length ?? 0;
+    counts.set(k, { errors, notes, isCut: errors + notes >= asked });
+}
+
 /** Returns the end of the relocation headers from one on whose instructions are asked for together. */
 function batchEnd(halfwords, from) {
     let end = from;
@@ -129,21 +139,46 @@ const calls = {
     },
 
     /** Opens a file. Returns its bytes, its report without the containers, and what that doesn't have. */
-    async open(number, file) {
+    async open(number, file, path) {
         const bytes = new Uint8Array(await file.arrayBuffer());
         opened = null;
-        reader.open(bytes, file.name);
+        reader.open(bytes, path);
         opened = number;
-        files.set(number, { file, containers: reader.containers });
+        files.set(number, { file, path, containers: reader.containers, counts: new Map() });
         const report = JSON.parse(TEXT.decode(reader.head()) + TEXT.decode(reader.end()));
         const forks = reader.forks();
         const resources = reader.resources(forks, MOST_RESOURCES);
         return { bytes, report, forks, resources, hasMoreResources: resources.length === MOST_RESOURCES, places: reader.containers.places.slice() };
     },
 
+    /** Counts errors and notes of containers from number `from` on. Returns the sums, and the number of the next one. */
+    count(from) {
+        const { counts } = files.get(opened);
+        const late = performance.now() + SHORT;
+        const sum = { errors: 0, notes: 0, isCut: false, next: from };
+        while (sum.next < reader.containers.places.length && (sum.next === from || performance.now() < late)) {
+            if (!counts.has(sum.next)) {
+                countIn(counts, sum.next, parsed(reader.excerpt(sum.next, FEW_ROWS), FEW_ROWS));
+            }
+            const { errors, notes, isCut } = counts.get(sum.next);
+            sum.errors += errors;
+            sum.notes += notes;
+            sum.isCut ||= isCut;
+            sum.next += 1;
+        }
+        return sum;
+    },
+
+    /** Forgets a file. */
+    close(number) {
+        files.delete(number);
+        opened = opened === number ? null : opened;
+    },
+
     /** Gives the lists of the beginning of container `k`. Returns the rest, how many rows were asked for, and how many bytes it can have. */
     async container(k) {
         const { container, asked, size } = excerptOf(k);
+        countIn(files.get(opened).counts, k, { container, asked });
         if (container !== null) {
             await post(Object.fromEntries(LISTS.map((it) => [it, container[it]])), size);
             LISTS.forEach((it) => delete container[it]);
@@ -226,20 +261,20 @@ async function reopen(number, bytes) {
     if (number === opened) {
         return true;
     }
-    const { file, containers } = files.get(number);
+    const { file, path, containers } = files.get(number);
     const contents = bytes ?? (await file.arrayBuffer().then((it) => new Uint8Array(it), () => null));
     if (contents === null) {
         return false;
     }
     opened = null;
-    reader.open(contents, file.name, containers);
+    reader.open(contents, path, containers);
     opened = number;
     return true;
 }
 
 /** Answers a message. If the file has changed on the disk, the page is asked for its bytes. */
 async function answer({ number, bytes, call, words }) {
-    if (call === "start" || call === "open") {
+    if (["start", "open", "close"].includes(call)) {
         return { answer: await calls[call](...words) };
     }
     return (await reopen(number, bytes)) ? { answer: await calls[call](...words) } : { isLost: true };
