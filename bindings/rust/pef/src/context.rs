@@ -1,0 +1,597 @@
+//! Contexts: the memory that containers become.
+
+use std::fmt;
+use std::sync::{Arc, PoisonError, RwLock, RwLockReadGuard, RwLockWriteGuard};
+
+use pef_sys as sys;
+
+use crate::error::Error;
+use crate::raw::{self, Which};
+use crate::tables::{SectionKind, Share, Text};
+
+/// What a context and its connections have together. The last of them frees it.
+struct Shared<'a>(RwLock<raw::Context<'a>>);
+
+impl<'a> Shared<'a> {
+    /// No call panics while it has the lock.
+    fn read(&self) -> RwLockReadGuard<'_, raw::Context<'a>> {
+        self.0.read().unwrap_or_else(PoisonError::into_inner)
+    }
+
+    fn write(&self) -> RwLockWriteGuard<'_, raw::Context<'a>> {
+        self.0.write().unwrap_or_else(PoisonError::into_inner)
+    }
+}
+
+/// Options of a context. What isn't set has its usual value, and so has what is set to 0.
+///
+/// ```
+/// let context = pef::Context::with(pef::ContextOptions::new().granule(4096).steps(50_000_000).bytes(0x400_0000))?;
+/// assert_eq!(pef::Context::with(pef::ContextOptions::new().granule(24)).unwrap_err().code(), pef::Code::BadGranule);
+/// # Ok::<(), pef::Error>(())
+/// ```
+#[derive(Clone, Copy, Debug)]
+#[must_use]
+pub struct ContextOptions(sys::pef_options);
+
+impl ContextOptions {
+    /// The usual options.
+    pub fn new() -> Self {
+        Self(sys::PEF_USUAL_OPTIONS)
+    }
+
+    /// No section passes this address; usually 10000000 (hexadecimal).
+    pub fn limit(mut self, address: u32) -> Self {
+        self.0.limit = address;
+        self
+    }
+
+    /// Each section begins at a multiple of this, and takes a multiple of it: a power of two from 16 on; usually 16.
+    pub fn granule(mut self, size: u32) -> Self {
+        self.0.granule = size;
+        self
+    }
+
+    /// How many connections the context gives in all, closed ones included; usually 65,536.
+    pub fn connections(mut self, count: u32) -> Self {
+        self.0.connections = count;
+        self
+    }
+
+    /// How many steps the relocation programs of one preparation may take together; usually there is no bound. Bound them if containers
+    /// come from strangers.
+    pub fn steps(mut self, count: u64) -> Self {
+        self.0.steps = count;
+        self
+    }
+
+    /// How many bytes the new sections of one preparation may take together; usually there is no bound. Bound them if containers come from
+    /// strangers.
+    pub fn bytes(mut self, count: u64) -> Self {
+        self.0.bytes = count;
+        self
+    }
+}
+
+impl Default for ContextOptions {
+    fn default() -> Self {
+        Self::new()
+    }
+}
+
+/// Fragments by name, and the memory in which they are prepared. It needs the features `native` and `std`.
+///
+/// It keeps the names and containers that are added, without a copy: `'a` is how long they stay. It is freed when it and all of its
+/// connections are dropped.
+///
+/// A context and its connections may be used by several threads: those that read do so at once, and what changes the context waits for
+/// them.
+///
+/// ```
+/// let tools = pef::link("section data data process 4 4\nbytes data 0000002A\nexport answer data data 0\n")?;
+/// let app = pef::link("library Tools 1 0 -\nimport answer data strong\nsection data data process 4 4\nfix data 0 import answer\n")?;
+///
+/// let context = pef::Context::new()?;
+/// context.add("Tools", &tools)?;
+/// context.add("App", &app)?;
+/// let connection = context.prepare("App")?;
+/// let mut memory = vec![0; 0x20000];
+/// for fragment in connection.new_fragments() {
+///     for section in fragment.sections() {
+///         let at = section.address() as usize;
+///         section.copy_to(&mut memory[at..])?;
+///     }
+/// }
+/// assert_eq!(memory[0x10000..0x10004], [0, 0, 0, 42]);
+/// assert_eq!(memory[0x10010..0x10014], [0, 1, 0, 0]);
+/// connection.close()?;
+/// # Ok::<(), Box<dyn std::error::Error>>(())
+/// ```
+///
+/// What is added stays as long as the context:
+///
+/// ```compile_fail,E0505
+/// let context = pef::Context::new().unwrap();
+/// let tools = vec![0; 40];
+/// context.add("Tools", &tools).unwrap();
+/// drop(tools);
+/// context.prepare("Tools").unwrap();
+/// ```
+///
+/// and as long as its connections, also if it was added when they were open:
+///
+/// ```compile_fail,E0597
+/// let context = pef::Context::new().unwrap();
+/// let connection = context.prepare("App");
+/// {
+///     let later = vec![0; 40];
+///     context.add("Later", &later).unwrap();
+/// }
+/// drop(connection);
+/// ```
+pub struct Context<'a> {
+    shared: Arc<Shared<'a>>,
+}
+
+impl<'a> Context<'a> {
+    /// Opens a context without fragments.
+    ///
+    /// # Errors
+    ///
+    /// 99.
+    pub fn new() -> Result<Self, Error> {
+        Self::with(ContextOptions::new())
+    }
+
+    /// Opens a context with options.
+    ///
+    /// # Errors
+    ///
+    /// 205 if the granule is no power of two from 16 on, or 99.
+    pub fn with(options: ContextOptions) -> Result<Self, Error> {
+        let it = raw::Context::open(&options.0).map_err(Error::new)?;
+        Ok(Self { shared: Arc::new(Shared(RwLock::new(it))) })
+    }
+
+    /// Adds a fragment: its name, and the bytes of its container. They are read by each preparation, and refused then. If two fragments have
+    /// the same name, the first is used.
+    ///
+    /// Fragments may be added at any time, also while connections are open. Those stay as they are.
+    ///
+    /// # Errors
+    ///
+    /// 203 if a fragment of an open connection has a weak library of this name, and was prepared without it; 204 for the 257th fragment; or
+    /// 99. The context is changed only if there is no error.
+    pub fn add<N: AsRef<[u8]> + ?Sized>(&self, name: &'a N, bytes: &'a [u8]) -> Result<(), Error> {
+        self.shared.write().add(name.as_ref(), bytes).map_err(Error::new)
+    }
+
+    /// Takes addresses out of use, as long as the context is open: no section is placed in them.
+    ///
+    /// The range begins at the multiple of 16 at or below the address, and ends at the one at or above its end. A size of 0 takes nothing.
+    ///
+    /// # Errors
+    ///
+    /// 67 if the range meets a section in memory or another range, or passes the last address of 32 bits; or 99.
+    pub fn reserve(&self, address: u32, size: u32) -> Result<(), Error> {
+        self.shared.write().reserve(address, size).map_err(Error::new)
+    }
+
+    /// Prepares the fragment of a name and all that it needs: places them, fills them and relocates them, unless they are present already.
+    ///
+    /// # Errors
+    ///
+    /// 1 to 39, 60 to 70, 75 or 99, with its names, and its place in the container of the fragment that it names. The context is then as it
+    /// was.
+    pub fn prepare<N: AsRef<[u8]> + ?Sized>(&self, name: &N) -> Result<Connection<'a>, Error> {
+        let prepared = self.shared.write().prepare(name.as_ref());
+        match prepared {
+            Ok(number) => Ok(Connection { shared: Arc::clone(&self.shared), number, is_open: true }),
+            Err((number, names, place)) => Err(Error::of_preparation(number, &names, place)),
+        }
+    }
+
+    /// Whether the fragment of a name is present: the closure of an open connection has it. False if none was added.
+    pub fn is_present<N: AsRef<[u8]> + ?Sized>(&self, name: &N) -> bool {
+        self.shared.read().is_present(name.as_ref())
+    }
+
+    /// The name of a fragment by its number, from 0 in the order in which they were added.
+    pub fn fragment_name(&self, number: usize) -> Option<&'a [u8]> {
+        self.shared.read().name(number)
+    }
+}
+
+impl fmt::Debug for Context<'_> {
+    fn fmt(&self, out: &mut fmt::Formatter<'_>) -> fmt::Result {
+        let names: Vec<_> = (0..).map_while(|number| self.fragment_name(number)).map(Text).collect();
+        out.debug_struct("Context").field("fragments", &names).finish()
+    }
+}
+
+/// An open connection to a fragment, with its closure: that fragment and all that it needs. It is closed when it is dropped, or by
+/// [`close`](Self::close), which says so.
+///
+/// ```
+/// let tools = pef::link("section data data process 4 4\nexport answer data data 0\n")?;
+/// let context = pef::Context::new()?;
+/// context.add("Tools", &tools)?;
+/// {
+///     let connection = context.prepare("Tools")?;
+///     assert!(context.is_present("Tools"));
+///     assert_eq!(connection.root().symbol("answer"), Some(0x10000));
+/// }
+/// assert!(!context.is_present("Tools"));
+/// # Ok::<(), Box<dyn std::error::Error>>(())
+/// ```
+///
+/// It isn't used after it is closed, nor is what was read of it:
+///
+/// ```compile_fail,E0382
+/// let context = pef::Context::new().unwrap();
+/// let connection = context.prepare("Tools").unwrap();
+/// connection.close().unwrap();
+/// connection.fragments();
+/// ```
+///
+/// ```compile_fail,E0505
+/// let context = pef::Context::new().unwrap();
+/// let connection = context.prepare("Tools").unwrap();
+/// let tools = connection.root();
+/// connection.close().unwrap();
+/// tools.sections();
+/// ```
+#[must_use = "a connection that is dropped is closed"]
+pub struct Connection<'a> {
+    shared: Arc<Shared<'a>>,
+    number: u32,
+    is_open: bool,
+}
+
+/// What a call for an open connection needs.
+const OPEN: &str = "the connection is open";
+
+impl<'a> Connection<'a> {
+    /// Its number, which the context gives to no other.
+    pub fn number(&self) -> u32 {
+        self.number
+    }
+
+    /// The closure: libraries before the fragments that need them, except in cycles, and the root last.
+    pub fn fragments(&self) -> Fragments<'_, 'a> {
+        self.those(Which::All).expect(OPEN)
+    }
+
+    /// The same fragments in the order in which they are initialized.
+    pub fn init_order(&self) -> Fragments<'_, 'a> {
+        self.those(Which::InitOrder).expect(OPEN)
+    }
+
+    /// The fragments that its preparation placed, in the order in which they are initialized. Copy exactly these into the machine, and
+    /// initialize exactly these: the others of the closure were present already, and may have run since.
+    pub fn new_fragments(&self) -> Fragments<'_, 'a> {
+        self.those(Which::New).expect(OPEN)
+    }
+
+    /// The fragments that [`close`](Self::close) would release, because no other open connection needs them, the last to be initialized
+    /// first. Call their termination routines in this order, and then close.
+    ///
+    /// # Errors
+    ///
+    /// 99.
+    pub fn released(&self) -> Result<Fragments<'_, 'a>, Error> {
+        self.those(Which::Released)
+    }
+
+    /// The fragment that was prepared.
+    pub fn root(&self) -> Fragment<'_, 'a> {
+        self.fragments().next_back().expect("a closure has its root")
+    }
+
+    /// Closes the connection. Fragments that no other open connection needs are no longer present.
+    ///
+    /// # Errors
+    ///
+    /// None is known: this connection is open.
+    pub fn close(mut self) -> Result<(), Error> {
+        self.is_open = false;
+        self.shared.write().close(self.number).map_err(Error::new)
+    }
+
+    fn those(&self, which: Which) -> Result<Fragments<'_, 'a>, Error> {
+        let numbers = self.shared.read().fragments(which, self.number).map_err(Error::new)?;
+        Ok(Fragments { connection: self, numbers: numbers.into_iter() })
+    }
+}
+
+impl Drop for Connection<'_> {
+    fn drop(&mut self) {
+        if self.is_open {
+            // the connection is open, so it is closed
+            let _ = self.shared.write().close(self.number);
+        }
+    }
+}
+
+impl fmt::Debug for Connection<'_> {
+    fn fmt(&self, out: &mut fmt::Formatter<'_>) -> fmt::Result {
+        let names: Vec<_> = self.fragments().map(|it| it.name()).map(Text).collect();
+        out.debug_struct("Connection").field("number", &self.number).field("fragments", &names).finish()
+    }
+}
+
+/// Fragments of a connection.
+#[derive(Clone)]
+pub struct Fragments<'c, 'a> {
+    connection: &'c Connection<'a>,
+    numbers: std::vec::IntoIter<usize>,
+}
+
+impl<'c, 'a> Iterator for Fragments<'c, 'a> {
+    type Item = Fragment<'c, 'a>;
+
+    fn next(&mut self) -> Option<Self::Item> {
+        let number = self.numbers.next()?;
+        Some(Fragment { connection: self.connection, number })
+    }
+
+    fn size_hint(&self) -> (usize, Option<usize>) {
+        self.numbers.size_hint()
+    }
+}
+
+impl DoubleEndedIterator for Fragments<'_, '_> {
+    fn next_back(&mut self) -> Option<Self::Item> {
+        let number = self.numbers.next_back()?;
+        Some(Fragment { connection: self.connection, number })
+    }
+}
+
+impl ExactSizeIterator for Fragments<'_, '_> {}
+
+impl std::iter::FusedIterator for Fragments<'_, '_> {}
+
+impl fmt::Debug for Fragments<'_, '_> {
+    fn fmt(&self, out: &mut fmt::Formatter<'_>) -> fmt::Result {
+        out.debug_list().entries(self.clone()).finish()
+    }
+}
+
+/// A fragment of a connection's closure.
+///
+/// ```
+/// let tools = pef::link("section data data process 4 4\nexport answer data data 0\nmain data 0\n")?;
+/// let context = pef::Context::new()?;
+/// context.add("Tools", &tools)?;
+/// let connection = context.prepare("Tools")?;
+/// let fragment = connection.root();
+/// assert_eq!((fragment.name(), fragment.symbol("answer"), fragment.entries().main), (&b"Tools"[..], Some(0x10000), Some(0x10000)));
+/// # Ok::<(), Box<dyn std::error::Error>>(())
+/// ```
+#[derive(Clone, Copy)]
+pub struct Fragment<'c, 'a> {
+    connection: &'c Connection<'a>,
+    number: usize,
+}
+
+impl<'c, 'a> Fragment<'c, 'a> {
+    /// Its number, from 0 in the order in which fragments were added.
+    pub fn number(&self) -> usize {
+        self.number
+    }
+
+    /// The name that it was added with.
+    pub fn name(&self) -> &'a [u8] {
+        self.read().name(self.number).unwrap_or(&[])
+    }
+
+    /// Its sections in memory, by their numbers.
+    pub fn sections(&self) -> PlacedSections<'c, 'a> {
+        PlacedSections { fragment: *self, numbers: 0..self.read().section_count(self.number) }
+    }
+
+    /// The section in memory with a number.
+    pub fn section(&self, number: usize) -> Option<PlacedSection<'c, 'a>> {
+        let row = self.read().section(self.connection.number, self.number, number)?;
+        Some(PlacedSection { fragment: *self, number, row })
+    }
+
+    /// The addresses of its entry points.
+    pub fn entries(&self) -> Entries {
+        self.read().entries(self.connection.number, self.number).map_or_else(Entries::default, Entries::of)
+    }
+
+    /// The address of its first export of a name.
+    pub fn symbol<N: AsRef<[u8]> + ?Sized>(&self, name: &N) -> Option<u32> {
+        self.read().symbol(self.connection.number, self.number, name.as_ref())
+    }
+
+    /// The address of the export with this number in [`Container::exports`](crate::Container::exports).
+    pub fn export_address(&self, number: usize) -> Option<u32> {
+        self.read().export_address(self.connection.number, self.number, number)
+    }
+
+    /// What the import with this number in [`Container::imports`](crate::Container::imports) means. Exports that are passed on have been
+    /// followed.
+    pub fn import_target(&self, number: usize) -> Option<Target<'c, 'a>> {
+        let row = self.read().import_target(self.connection.number, self.number, number)?;
+        Some(match row.kind {
+            sys::PEF_TARGET_MISSING => Target::Missing,
+            sys::PEF_TARGET_ABSOLUTE => Target::Absolute(row.address),
+            _ => Target::InSection {
+                fragment: Fragment { connection: self.connection, number: row.fragment },
+                section: row.section,
+                offset: row.offset,
+                address: row.address,
+            },
+        })
+    }
+
+    fn read(&self) -> RwLockReadGuard<'c, raw::Context<'a>> {
+        self.connection.shared.read()
+    }
+}
+
+impl fmt::Debug for Fragment<'_, '_> {
+    fn fmt(&self, out: &mut fmt::Formatter<'_>) -> fmt::Result {
+        out.debug_struct("Fragment").field("number", &self.number).field("name", &Text(self.name())).finish()
+    }
+}
+
+/// The addresses at which a fragment is entered, as far as it has them.
+#[derive(Clone, Copy, Debug, Default, PartialEq, Eq, Hash)]
+pub struct Entries {
+    /// The initialization routine.
+    pub init: Option<u32>,
+    /// The main entry point.
+    pub main: Option<u32>,
+    /// The termination routine.
+    pub term: Option<u32>,
+}
+
+impl Entries {
+    fn of(row: sys::pef_entries) -> Self {
+        Self { init: row.has_init.then_some(row.init), main: row.has_main.then_some(row.main), term: row.has_term.then_some(row.term) }
+    }
+}
+
+/// What an import means.
+#[derive(Clone, Copy, Debug)]
+#[non_exhaustive]
+pub enum Target<'c, 'a> {
+    /// That of a weak import, or of an import from a weak library, which is missing.
+    Missing,
+    /// A number.
+    Absolute(u32),
+    /// A place in a section of a fragment.
+    InSection {
+        /// The fragment.
+        fragment: Fragment<'c, 'a>,
+        /// The number of the section.
+        section: u32,
+        /// The offset in it.
+        offset: u32,
+        /// The address.
+        address: u32,
+    },
+}
+
+impl Target<'_, '_> {
+    /// What was added wherever the import is relocated: 0 for a missing target.
+    pub fn address(&self) -> u32 {
+        match *self {
+            Self::Missing => 0,
+            Self::Absolute(address) | Self::InSection { address, .. } => address,
+        }
+    }
+}
+
+/// A section in memory. Its bytes are those right after relocation.
+///
+/// ```
+/// let tools = pef::link("section data data process 4 8\nbytes data 0000002A\n")?;
+/// let context = pef::Context::new()?;
+/// context.add("Tools", &tools)?;
+/// let connection = context.prepare("Tools")?;
+/// let section = connection.root().section(0).unwrap();
+/// assert_eq!((section.address(), section.size(), section.kind()), (0x10000, 8, pef::SectionKind::Data));
+/// assert_eq!(section.to_vec()?, [0, 0, 0, 42, 0, 0, 0, 0]);
+/// # Ok::<(), Box<dyn std::error::Error>>(())
+/// ```
+#[derive(Clone, Copy)]
+pub struct PlacedSection<'c, 'a> {
+    fragment: Fragment<'c, 'a>,
+    number: usize,
+    row: sys::pef_fragment_section,
+}
+
+impl<'c, 'a> PlacedSection<'c, 'a> {
+    /// Its number in the container.
+    pub fn number(&self) -> usize {
+        self.number
+    }
+
+    /// The fragment that has it.
+    pub fn fragment(&self) -> Fragment<'c, 'a> {
+        self.fragment
+    }
+
+    /// Where it begins.
+    pub fn address(&self) -> u32 {
+        self.row.address
+    }
+
+    /// How many bytes it has.
+    pub fn size(&self) -> usize {
+        self.row.size
+    }
+
+    /// What it holds.
+    pub fn kind(&self) -> SectionKind {
+        self.row.kind.into()
+    }
+
+    /// How its instances are shared.
+    pub fn share(&self) -> Share {
+        self.row.share.into()
+    }
+
+    /// Copies its bytes to the front of a buffer, as the memory of a machine.
+    ///
+    /// # Errors
+    ///
+    /// 200 if the buffer is too small.
+    pub fn copy_to(&self, buffer: &mut [u8]) -> Result<(), Error> {
+        self.fragment.read().copy_section(self.fragment.number, self.number, buffer).map(drop).map_err(Error::new)
+    }
+
+    /// A copy of its bytes.
+    ///
+    /// # Errors
+    ///
+    /// 99.
+    pub fn to_vec(&self) -> Result<Vec<u8>, Error> {
+        self.fragment.read().section_bytes(self.fragment.number, self.number, self.row.size).map_err(Error::new)
+    }
+}
+
+impl fmt::Debug for PlacedSection<'_, '_> {
+    fn fmt(&self, out: &mut fmt::Formatter<'_>) -> fmt::Result {
+        out.debug_struct("PlacedSection")
+            .field("number", &self.number)
+            .field("address", &self.row.address)
+            .field("size", &self.row.size)
+            .field("kind", &self.kind())
+            .field("share", &self.share())
+            .finish_non_exhaustive()
+    }
+}
+
+/// The sections of a fragment that are in memory.
+#[derive(Clone)]
+pub struct PlacedSections<'c, 'a> {
+    fragment: Fragment<'c, 'a>,
+    numbers: std::ops::Range<usize>,
+}
+
+impl<'c, 'a> Iterator for PlacedSections<'c, 'a> {
+    type Item = PlacedSection<'c, 'a>;
+
+    fn next(&mut self) -> Option<Self::Item> {
+        self.fragment.section(self.numbers.next()?)
+    }
+
+    fn size_hint(&self) -> (usize, Option<usize>) {
+        self.numbers.size_hint()
+    }
+}
+
+impl ExactSizeIterator for PlacedSections<'_, '_> {}
+
+impl std::iter::FusedIterator for PlacedSections<'_, '_> {}
+
+impl fmt::Debug for PlacedSections<'_, '_> {
+    fn fmt(&self, out: &mut fmt::Formatter<'_>) -> fmt::Result {
+        out.debug_list().entries(self.clone()).finish()
+    }
+}

@@ -1,0 +1,126 @@
+//! All that is wrong with a container, and what is odd.
+
+use alloc::vec::Vec;
+use core::fmt;
+
+use pef_sys as sys;
+
+use crate::code::Code;
+use crate::error::{Error, Place};
+use crate::{raw, rows};
+
+/// An error of a container, or a note on it: something odd that breaks no rule.
+#[derive(Clone, Copy, Debug, PartialEq, Eq)]
+#[non_exhaustive]
+pub struct Finding {
+    /// What it is.
+    pub code: Code,
+    /// Whether it is an error, and no note.
+    pub is_error: bool,
+    /// Where it is.
+    pub place: Option<Place>,
+    /// For 37 to 39, 107 and 114 the offset of a relocated word in its section; for 109, 112 and 113 a number of bytes; for 116 a number of
+    /// sections.
+    pub detail: Option<u64>,
+}
+
+impl Finding {
+    fn of(row: &sys::pef_finding) -> Self {
+        let has_detail = matches!(row.number, 37..=39 | 107 | 109 | 112..=114 | 116);
+        Self { code: row.number.into(), is_error: row.is_error, place: Place::of(row.place), detail: has_detail.then_some(row.detail) }
+    }
+}
+
+impl fmt::Display for Finding {
+    /// Writes the number, the name and the place.
+    fn fmt(&self, out: &mut fmt::Formatter<'_>) -> fmt::Result {
+        write!(out, "{}", self.code)?;
+        self.place.map_or(Ok(()), |place| write!(out, " in {place}"))
+    }
+}
+
+/// Finds all errors of a container, and then the notes on it.
+///
+/// Packed data is expanded and relocation programs are run, without keeping what they make. So a container without errors is refused by no
+/// preparation, as far as its own bytes are concerned. Errors come in the order in which other calls find the first one. Bytes that are no
+/// container have one error. The notes that need memory, 109 and 112 to 114, need the feature `native`.
+///
+/// # Errors
+///
+/// 99.
+///
+/// ```
+/// # #[cfg(feature = "native")] {
+/// let mut bytes = pef::link("section data data process 4 4\nbytes data 0000002A\n")?;
+/// assert!(pef::findings(&bytes)?.is_empty());
+/// bytes[15] = 2;
+/// let found = pef::findings(&bytes)?;
+/// assert_eq!(found[0].to_string(), "4 BadFormatVersion in container header at 0xC");
+/// # }
+/// # Ok::<(), Box<dyn std::error::Error>>(())
+/// ```
+pub fn findings(bytes: &[u8]) -> Result<Vec<Finding>, Error> {
+    let found = rows::findings(bytes).map_err(Error::new)?;
+    Ok(found.iter().map(Finding::of).collect())
+}
+
+/// The text of JSON that `pef inspect --json` prints of a file: its forks, fragments and containers, with all errors and notes. It is read
+/// by [`std::io::Read`], or by [`read_part`](Self::read_part).
+///
+/// `docs/INSPECT.md` of the project has its members. The whole text is in memory until the report is dropped.
+///
+/// ```
+/// # #[cfg(feature = "std")] {
+/// use std::io::Read;
+///
+/// let mut text = String::new();
+/// pef::Report::of_file("a file", b"no container")?.read_to_string(&mut text)?;
+/// assert!(text.starts_with(r#"{"file":"a%20file""#) && text.ends_with("}\n"));
+/// # }
+/// # Ok::<(), Box<dyn std::error::Error>>(())
+/// ```
+pub struct Report(raw::Report);
+
+impl Report {
+    /// Makes the report on a file, whatever it is. `path` is what the report calls the file. Neither is kept.
+    ///
+    /// # Errors
+    ///
+    /// 99.
+    pub fn of_file<P: AsRef<[u8]> + ?Sized>(path: &P, file: &[u8]) -> Result<Self, Error> {
+        raw::Report::of_file(path.as_ref(), file).map(Self).map_err(Error::new)
+    }
+
+    /// Makes the object that such a report has for a container, of bytes that are looked at as a container whatever they are. The offsets
+    /// are those in these bytes, and there is no end of a line. The bytes aren't kept. It needs the feature `native`.
+    ///
+    /// # Errors
+    ///
+    /// 99.
+    #[cfg(feature = "native")]
+    pub fn of_container(bytes: &[u8]) -> Result<Self, Error> {
+        raw::Report::of_container(bytes).map(Self).map_err(Error::new)
+    }
+
+    /// Writes the next bytes to the front of a buffer, as many as fit, and returns how many these are: fewer than fit only at the end.
+    ///
+    /// # Errors
+    ///
+    /// 99, and then the next call goes on where this one began.
+    pub fn read_part(&mut self, buffer: &mut [u8]) -> Result<usize, Error> {
+        self.0.next(buffer).map_err(Error::new)
+    }
+}
+
+#[cfg(feature = "std")]
+impl std::io::Read for Report {
+    fn read(&mut self, buffer: &mut [u8]) -> std::io::Result<usize> {
+        Ok(self.read_part(buffer)?)
+    }
+}
+
+impl fmt::Debug for Report {
+    fn fmt(&self, out: &mut fmt::Formatter<'_>) -> fmt::Result {
+        out.debug_struct("Report").finish_non_exhaustive()
+    }
+}

@@ -1,0 +1,429 @@
+//! Contexts: what is prepared, and what the errors are.
+
+mod common;
+
+use std::sync::atomic::{AtomicBool, Ordering};
+
+use common::linked;
+use pef::{Code, Connection, Context, ContextOptions, Entries, Error, Fragments, SectionKind, Share, Target};
+
+/// The fragments that weak libraries need: `Late` isn't there.
+const WEAK: &str = "library Late 1 0 weak\nimport v data strong\nsection w data process 4 4\nfix w 0 import v\n";
+
+fn names(fragments: Fragments<'_, '_>) -> Vec<String> {
+    fragments.map(|it| it.name().escape_ascii().to_string()).collect()
+}
+
+/// The names of an error, as text.
+fn named(error: &Error) -> Vec<String> {
+    [error.fragment(), error.library(), error.symbol()].iter().flatten().map(|it| it.escape_ascii().to_string()).collect()
+}
+
+fn refuses<T: std::fmt::Debug>(number: u32, given: Result<T, Error>) -> Error {
+    let error = given.unwrap_err();
+    assert_eq!(error.number(), number, "{error}");
+    error
+}
+
+#[test]
+fn a_library_and_what_uses_it() {
+    let (user, tools) = (linked("uses-library"), linked("shared-library"));
+    let context = Context::new().unwrap();
+    context.add("user", &user).unwrap();
+    context.add(b"Tools", &tools).unwrap();
+    let connection = context.prepare("user").unwrap();
+    let fragments: Vec<_> = connection.fragments().collect();
+    assert_eq!((names(connection.fragments()), connection.root().name()), (vec!["Tools".into(), "user".into()], &b"user"[..]));
+    assert_eq!(fragments.iter().map(|it| it.number()).collect::<Vec<_>>(), [1, 0]);
+    let sections = |at: usize| fragments[at].sections().map(|it| (it.address(), it.to_vec().unwrap())).collect::<Vec<_>>();
+    assert_eq!(sections(0), [(0x10000, vec![0, 0, 0, 0x2A])]);
+    assert_eq!(sections(1), [(0x10010, vec![0, 1, 0, 0, 0, 1, 0, 0x14])]);
+    let section = fragments[1].section(0).unwrap();
+    assert_eq!((section.number(), section.size(), section.kind(), section.share()), (0, 8, SectionKind::Data, Share::Process));
+    assert!(fragments[1].section(1).is_none() && section.fragment().number() == 0);
+    assert_eq!((fragments[0].entries(), fragments[1].entries().main), (Entries::default(), Some(0x10010)));
+    assert_eq!((fragments[0].symbol("answer"), fragments[0].symbol("question")), (Some(0x10000), None));
+    assert_eq!(names(connection.init_order()), ["Tools", "user"]);
+    assert_eq!((context.fragment_name(0), context.fragment_name(2)), (Some(&b"user"[..]), None));
+}
+
+#[test]
+fn copies_of_sections() {
+    let user = linked("shared-library");
+    let context = Context::new().unwrap();
+    context.add("Tools", &user).unwrap();
+    let connection = context.prepare("Tools").unwrap();
+    let section = connection.root().section(0).unwrap();
+    let mut buffer = [7; 6];
+    section.copy_to(&mut buffer).unwrap();
+    assert_eq!(buffer, [0, 0, 0, 0x2A, 7, 7]);
+    refuses(200, section.copy_to(&mut buffer[..3]));
+    assert_eq!(buffer, [0, 0, 0, 0x2A, 7, 7]);
+}
+
+#[test]
+fn connections() {
+    let tools = linked("shared-library");
+    let context = Context::new().unwrap();
+    context.add("Tools", &tools).unwrap();
+    let second = {
+        let first = context.prepare("Tools").unwrap();
+        let second = context.prepare("Tools").unwrap();
+        assert_eq!((first.number(), second.number()), (0, 1));
+        second
+    };
+    assert_eq!(second.root().section(0).unwrap().address(), 0x10000);
+    second.close().unwrap();
+    assert!(!context.is_present("Tools"));
+    assert_eq!(context.prepare("Tools").unwrap().number(), 2);
+}
+
+/// A connection has all that it needs when the context is dropped before it.
+#[test]
+fn connections_outlive_their_context() {
+    let (user, tools) = (linked("uses-library"), linked("shared-library"));
+    let context = Context::new().unwrap();
+    context.add("user", &user).unwrap();
+    context.add("Tools", &tools).unwrap();
+    let (first, second) = (context.prepare("user").unwrap(), context.prepare("Tools").unwrap());
+    drop(context);
+    first.close().unwrap();
+    assert_eq!(second.root().section(0).unwrap().to_vec().unwrap(), [0, 0, 0, 0x2A]);
+    drop(second);
+    drop(tools);
+}
+
+/// A struct may have a context and its connections side by side.
+#[test]
+fn in_one_struct() {
+    struct Machine<'a> {
+        open: Vec<Connection<'a>>,
+        context: Context<'a>,
+    }
+    let tools = linked("shared-library");
+    let context = Context::new().unwrap();
+    context.add("Tools", &tools).unwrap();
+    let mut machine = Machine { open: Vec::new(), context };
+    for _ in 0..3 {
+        machine.open.push(machine.context.prepare("Tools").unwrap());
+    }
+    machine.open.swap_remove(0).close().unwrap();
+    assert_eq!(names(machine.open[1].released().unwrap()), Vec::<String>::new());
+    machine.open.truncate(1);
+    assert_eq!(names(machine.open[0].released().unwrap()), ["Tools"]);
+}
+
+#[test]
+fn what_changes_with_a_connection() {
+    let (user, tools) = (linked("uses-library"), linked("shared-library"));
+    let context = Context::new().unwrap();
+    context.add("user", &user).unwrap();
+    context.add("Tools", &tools).unwrap();
+    let (first, second) = (context.prepare("Tools").unwrap(), context.prepare("user").unwrap());
+    assert_eq!((names(first.new_fragments()), names(second.new_fragments())), (vec!["Tools".to_string()], vec!["user".to_string()]));
+    assert_eq!((names(first.released().unwrap()), names(second.released().unwrap())), (vec![], vec!["user".to_string()]));
+    drop(first);
+    assert_eq!(names(second.released().unwrap()), ["user", "Tools"]);
+}
+
+#[test]
+fn what_is_present() {
+    let (user, tools) = (linked("uses-library"), linked("shared-library"));
+    let context = Context::new().unwrap();
+    context.add("user", &user).unwrap();
+    context.add("Tools", &tools).unwrap();
+    let present = || ["user", "Tools", "Late", ""].iter().filter(|it| context.is_present(**it)).count();
+    assert_eq!(present(), 0);
+    let (first, second) = (context.prepare("user").unwrap(), context.prepare("Tools").unwrap());
+    assert_eq!((present(), context.is_present("user"), context.is_present(b"Tools")), (2, true, true));
+    first.close().unwrap();
+    assert_eq!((present(), context.is_present("Tools")), (1, true));
+    second.close().unwrap();
+    assert_eq!(present(), 0);
+}
+
+#[test]
+fn what_imports_and_exports_mean() {
+    let (user, tools) = (linked("uses-library"), linked("shared-library"));
+    let context = Context::new().unwrap();
+    context.add("user", &user).unwrap();
+    context.add("Tools", &tools).unwrap();
+    let connection = context.prepare("user").unwrap();
+    match connection.root().import_target(0) {
+        Some(Target::InSection { fragment, section, offset, address }) => {
+            assert_eq!((fragment.name(), section, offset, address), (&b"Tools"[..], 0, 0, 0x10000))
+        }
+        other => panic!("{other:?}"),
+    }
+    assert!(connection.root().import_target(1).is_none());
+    let tools = connection.fragments().next().unwrap();
+    assert_eq!((tools.export_address(0), tools.export_address(1)), (Some(0x10000), None));
+
+    let number = pef::link("versions 1 0 0\nabsolute v data 77\n").unwrap();
+    let user = pef::link("library L 1 0 -\nimport v data strong\n").unwrap();
+    let context = Context::new().unwrap();
+    context.add("L", &number).unwrap();
+    context.add("user", &user).unwrap();
+    let connection = context.prepare("user").unwrap();
+    let target = connection.root().import_target(0).unwrap();
+    assert!(matches!(target, Target::Absolute(77)) && target.address() == 77);
+}
+
+#[test]
+fn reserved() {
+    let tools = linked("shared-library");
+    let context = Context::new().unwrap();
+    context.add("Tools", &tools).unwrap();
+    context.reserve(0x10001, 0xF).unwrap();
+    context.reserve(0x10000, 0).unwrap();
+    refuses(67, context.reserve(0x1000F, 1));
+    refuses(67, context.reserve(0xFFFF_FFF0, 17));
+    let connection = context.prepare("Tools").unwrap();
+    assert_eq!(connection.root().section(0).unwrap().address(), 0x10010);
+    refuses(67, context.reserve(0x10010, 1));
+}
+
+#[test]
+fn refusals_have_names() {
+    let (user, lacks) = (linked("uses-library"), pef::link("library L 1 0 -\nimport w data strong\n").unwrap());
+    let other = pef::link("versions 1 0 0\nabsolute v data 0\n").unwrap();
+    let context = Context::new().unwrap();
+    context.add("user", &user).unwrap();
+    context.add("bad", b"no container").unwrap();
+    context.add("lacks", &lacks).unwrap();
+    context.add("L", &other).unwrap();
+    let error = refuses(61, context.prepare("user"));
+    assert_eq!((named(&error), error.code()), (vec!["user".into(), "Tools".into()], Code::LibraryMissing));
+    assert!(error.to_string().starts_with("61 LibraryMissing fragment user library Tools in library 0 at 0x"), "{error}");
+    assert_eq!(error.place().unwrap().part, pef::Part::Library);
+    assert_eq!(named(&refuses(1, context.prepare("bad"))), ["bad"]);
+    assert_eq!(named(&refuses(62, context.prepare("lacks"))), ["lacks", "L", "w"]);
+    assert_eq!(named(&refuses(60, context.prepare("nobody"))), [""; 0]);
+}
+
+/// The names of an error stay when all that was added is gone.
+#[test]
+fn errors_own_their_names() {
+    let error = {
+        let user = linked("uses-library");
+        let context = Context::new().unwrap();
+        context.add("user", &user).unwrap();
+        context.prepare("user").unwrap_err()
+    };
+    assert_eq!(named(&error), ["user", "Tools"]);
+}
+
+#[test]
+fn added_too_late() {
+    let (tools, weak) = (linked("shared-library"), pef::link(WEAK).unwrap());
+    let context = Context::new().unwrap();
+    context.add("Tools", &tools).unwrap();
+    let _tools = context.prepare("Tools").unwrap();
+    context.add("more", b"").unwrap();
+    context.add("weak", &weak).unwrap();
+    let without = context.prepare("weak").unwrap();
+    refuses(203, context.add("Late", b""));
+    let target = without.root().import_target(0).unwrap();
+    assert!(matches!(target, Target::Missing) && target.address() == 0);
+    without.close().unwrap();
+    context.add("Late", b"").unwrap();
+}
+
+#[test]
+fn as_many_fragments_as_there_may_be() {
+    let names: Vec<String> = (0..257).map(|it| it.to_string()).collect();
+    let context = Context::new().unwrap();
+    for name in &names[..256] {
+        context.add(name, b"").unwrap();
+    }
+    refuses(204, context.add(&names[256], b""));
+    assert_eq!(context.fragment_name(255), Some(&b"255"[..]));
+}
+
+#[test]
+fn no_room() {
+    let it = pef::link("section d data process 4 17\n").unwrap();
+    let context = Context::with(ContextOptions::new().limit(0x10010)).unwrap();
+    context.add("it", &it).unwrap();
+    assert_eq!(named(&refuses(67, context.prepare("it"))), ["it"]);
+}
+
+#[test]
+fn pages() {
+    let it = pef::link("versions 1 0 0\nsection a data process 4 4\nsection b data process 4 4\n").unwrap();
+    let context = Context::with(ContextOptions::new().granule(4096)).unwrap();
+    context.add("A", &it).unwrap();
+    let connection = context.prepare("A").unwrap();
+    let mut sections = connection.root().sections();
+    assert_eq!(sections.len(), 2);
+    assert!([0x10000, 0x11000].iter().all(|address| sections.next().unwrap().address() == *address));
+}
+
+#[test]
+fn as_many_connections_as_asked_for() {
+    let it = pef::link("versions 1 0 0\nsection a data process 4 4\n").unwrap();
+    let context = Context::with(ContextOptions::new().connections(2)).unwrap();
+    context.add("A", &it).unwrap();
+    context.prepare("A").unwrap().close().unwrap();
+    let _second = context.prepare("A").unwrap();
+    assert_eq!(named(&refuses(69, context.prepare("A"))), [""; 0]);
+}
+
+#[test]
+fn bounds() {
+    let two = pef::link("versions 1 0 0\nsection a data process 4 17\nsection b data process 4 4\nfix a 0 section a\nfix b 0 section a\n")
+        .unwrap();
+    let prepared = |options: ContextOptions| {
+        let context = Context::with(options).unwrap();
+        context.add("A", &two).unwrap();
+        context.prepare("A").map(drop)
+    };
+    let usual = ContextOptions::default;
+    assert!(prepared(usual().bytes(48)).is_ok() && prepared(usual().steps(2)).is_ok());
+    assert_eq!(named(&refuses(75, prepared(usual().bytes(47)))), ["A"]);
+    assert_eq!(named(&refuses(70, prepared(usual().steps(1)))), ["A"]);
+}
+
+#[test]
+fn options_that_are_none() {
+    for granule in [8, 24] {
+        refuses(205, Context::with(ContextOptions::new().granule(granule)));
+    }
+    assert!(Context::with(ContextOptions::new().granule(0).limit(0)).is_ok());
+}
+
+/// What a thread reads of a connection.
+fn read(connection: &Connection<'_>) -> String {
+    let mut said = format!("{connection:?}");
+    for fragment in connection.fragments() {
+        said +=
+            &format!("{:?} {:?} {:?} {:?}", fragment.sections(), fragment.symbol("answer"), fragment.entries(), fragment.import_target(0));
+        said += &format!("{:?}", fragment.sections().map(|it| it.to_vec()).collect::<Vec<_>>());
+    }
+    said
+}
+
+/// Threads read a context while others open and close connections of it, and each reads what one thread reads alone.
+#[test]
+fn threads() {
+    let times = if std::env::var_os("PEF_FEW").is_some() { 20 } else { 300 };
+    let (user, tools) = (linked("uses-library"), linked("shared-library"));
+    let context = Context::new().unwrap();
+    context.add("user", &user).unwrap();
+    context.add("Tools", &tools).unwrap();
+    let connection = context.prepare("user").unwrap();
+    let alone = read(&connection);
+    let done = AtomicBool::new(false);
+    std::thread::scope(|scope| {
+        let readers: Vec<_> = (0..4).map(|_| scope.spawn(|| (0..times).for_each(|_| assert_eq!(read(&connection), alone)))).collect();
+        for _ in 0..2 {
+            scope.spawn(|| {
+                while !done.load(Ordering::Relaxed) {
+                    context.prepare("Tools").unwrap().close().unwrap();
+                    std::thread::yield_now();
+                    if context.prepare("Tools").unwrap().number() > 60_000 {
+                        break;
+                    }
+                }
+            });
+        }
+        for reader in readers {
+            reader.join().unwrap();
+        }
+        done.store(true, Ordering::Relaxed);
+    });
+}
+
+/// A context and a connection go to another thread.
+#[test]
+fn contexts_go_to_another_thread() {
+    fn goes<T: Send + Sync>(_: &T) {}
+    static TOOLS: &[u8] = b"no container";
+    let context = Context::new().unwrap();
+    goes(&context);
+    let thread = std::thread::spawn(move || {
+        context.add("Tools", TOOLS).unwrap();
+        context.prepare("Tools").unwrap_err().number()
+    });
+    assert_eq!(thread.join().unwrap(), 1);
+    let tools = linked("shared-library");
+    let context = Context::new().unwrap();
+    context.add("Tools", &tools).unwrap();
+    let connection = context.prepare("Tools").unwrap();
+    goes(&connection);
+    drop(context);
+    std::thread::scope(|scope| scope.spawn(|| connection.close().unwrap()).join().unwrap());
+}
+
+/// Bytes that were added may go, and be changed, when the context and its connections are gone.
+#[test]
+fn what_was_added_is_free_again() {
+    let (mut user, mut tools, mut name) = (linked("uses-library"), linked("shared-library"), "Tools".to_string());
+    {
+        let context = Context::new().unwrap();
+        context.add("user", &user).unwrap();
+        context.add(&name, &tools).unwrap();
+        let connection = context.prepare("user").unwrap();
+        assert_eq!(connection.fragments().next().unwrap().name(), b"Tools");
+    }
+    user.fill(0);
+    tools.clear();
+    name.push('!');
+    drop((user, tools, name));
+}
+
+/// A context that is forgotten keeps its memory, and nothing is wrong with that.
+#[test]
+fn forgotten() {
+    let tools = linked("shared-library");
+    let context = Context::new().unwrap();
+    context.add("Tools", &tools).unwrap();
+    std::mem::forget(context.prepare("Tools").unwrap());
+    assert!(context.is_present("Tools"));
+    assert_eq!(context.prepare("Tools").unwrap().number(), 1);
+}
+
+#[test]
+fn two_contexts() {
+    let tools = linked("shared-library");
+    let (one, other) = (Context::new().unwrap(), Context::with(ContextOptions::new().limit(0x20000)).unwrap());
+    for context in [&one, &other] {
+        context.add("Tools", &tools).unwrap();
+    }
+    let (first, second) = (one.prepare("Tools").unwrap(), other.prepare("Tools").unwrap());
+    assert_eq!(first.root().symbol("answer"), second.root().symbol("answer"));
+}
+
+#[test]
+fn what_debug_says() {
+    let tools = linked("shared-library");
+    let context = Context::new().unwrap();
+    context.add("Tools", &tools).unwrap();
+    let connection = context.prepare("Tools").unwrap();
+    assert_eq!(format!("{context:?}"), r#"Context { fragments: [b"Tools"] }"#);
+    assert_eq!(format!("{connection:?}"), r#"Connection { number: 0, fragments: [b"Tools"] }"#);
+    assert_eq!(format!("{:?}", connection.root()), r#"Fragment { number: 0, name: b"Tools" }"#);
+}
+
+/// 100,000 contexts take the memory of one.
+#[cfg(target_os = "linux")]
+#[test]
+fn memory() {
+    let (user, tools) = (linked("uses-library"), linked("shared-library"));
+    let open_once = || {
+        let context = Context::new().unwrap();
+        context.add("user", &user).unwrap();
+        context.add("Tools", &tools).unwrap();
+        let _ = context.prepare("user").unwrap();
+    };
+    let resident = || {
+        let said = std::fs::read_to_string("/proc/self/statm").unwrap();
+        4096 * said.split_whitespace().nth(1).unwrap().parse::<usize>().unwrap()
+    };
+    let times = if std::env::var_os("PEF_FEW").is_some() { 200 } else { 100_000 };
+    (0..1000.min(times)).for_each(|_| open_once()); // the heap has found its size
+    let before = resident();
+    (0..times).for_each(|_| open_once());
+    // other tests run beside this one
+    assert!(resident() < before + (8 << 20));
+}

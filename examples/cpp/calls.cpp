@@ -1,0 +1,167 @@
+/*
+ * Makes each call of pef.hpp, and compares what it gives. What differs is printed, a line each, and the status is then 1.
+ */
+#include "../../include/pef.hpp"
+
+#include <cstdio>
+#include <type_traits>
+
+static unsigned compared, different;
+
+static void expect(const char *what, bool holds)
+{
+    compared++;
+    if (holds)
+        return;
+    different++;
+    std::printf("differs: %s\n", what);
+}
+
+/* The error that something throws, or one with the number 0. */
+template <class Work> static pef::error thrown(Work work)
+{
+    try {
+        work();
+    } catch (const pef::error &error) {
+        return error;
+    }
+    return pef::error(0);
+}
+
+static const char tools_script[] = "section data data process 4 4\nbytes data 0000002A\nexport answer data data 0\n";
+static const char app_script[] = "library Tools 1 0 -\nimport answer data strong\nsection data data process 4 8\nbytes data 0000000000000000\nfix data 0 import answer\nfix data 4 section data\nmain data 0\n";
+
+static void test_bytes()
+{
+    pef::buffer none;
+    expect("no bytes", pef::bytes().empty() && pef::bytes(none).data() != nullptr && pef::bytes(nullptr, 0).data() != nullptr);
+    expect("text", pef::bytes("abc").text() == "abc" && pef::bytes(std::string("abc")) == "abc" && pef::bytes("abc") != "abd" && pef::bytes("abc")[1] == 'b');
+    expect("a copy", pef::bytes("ab").copy() == pef::buffer({'a', 'b'}));
+}
+
+static void test_link()
+{
+    expect("a container", pef::bytes(pef::link(tools_script).data(), 8) == "Joy!peff");
+    pef::error error = thrown([] { pef::link("section d data process 4 8\nfix d 0 section d\nfix d 2 section d\n"); });
+    expect("the error of a script", error.number == PEF_SCRIPT_OVERLAP && error.line == 3 && error.where.part == PEF_LINE_PART && error.where.offset == 51);
+    expect("what it says", error.what() == std::string("46 Overlap line 3") && error.name == "Overlap" && !error.help.empty());
+    expect("a long container", pef::link("section d data process 4 100000\nbytes d " + std::string(200000, '1') + "\n").size() > 100000);
+}
+
+static void test_container()
+{
+    pef::buffer contents = pef::link(app_script);
+    pef::container app(contents);
+    expect("the header", app.header().section_count == 2 && app.loader().import_count == 1);
+    expect("a library", app.libraries().size() == 1 && pef::bytes(app.libraries()[0].name) == "Tools");
+    expect("an import", app.imports().size() == 1 && pef::bytes(app.imports()[0].name) == "answer" && app.imports()[0].library == 0);
+    expect("a relocation", app.relocations().size() == 1 && app.fixups(0).size() == 2 && app.fixups(0)[1].offset == 4 && app.fixups(0)[1].kind == PEF_FIXUP_SECTION);
+    expect("no findings", pef::findings(contents).empty());
+    pef::buffer tools_contents = pef::link(tools_script);
+    pef::container tools(tools_contents);
+    pef::exported found;
+    expect("an export", tools.exports().size() == 1 && tools.find("answer", found) && found.section == 0 && !tools.find("question", found));
+    expect("an image", tools.image(0) == pef::buffer({0, 0, 0, 42}));
+    pef::bytes raw;
+    expect("a section", tools.section(0, raw).kind == PEF_KIND_DATA && raw.size() == 4 && raw.data() > tools_contents.data());
+    expect("no section", thrown([&] { tools.section(2, raw); }).number == PEF_NOT_THERE);
+    pef::buffer packed_contents = pef::link("section d pattern process 4 64\nbytes d " + std::string(64, '0') + "01\n");
+    pef::container packed(packed_contents);
+    expect("a packed image", packed.image(0).size() == 33 && packed.image(0)[32] == 1);
+    tools_contents[15] = 2;
+    expect("a finding", pef::findings(tools_contents).size() == 1 && pef::findings(tools_contents)[0].number == PEF_BAD_FORMAT_VERSION);
+    pef::error error = thrown([&] { pef::container again(tools_contents); });
+    expect("the error of a container", error.number == PEF_BAD_FORMAT_VERSION && error.where.part == PEF_CONTAINER_HEADER_PART && error.where.offset == 12);
+}
+
+static void test_parts()
+{
+    pef::buffer contents = pef::link(tools_script);
+    pef::listing listing(contents);
+    char first[9];
+    expect("a part", listing.next(first, sizeof first) == 9 && std::string(first, 9) == "container");
+    pef::listing moved = std::move(listing);
+    std::string rest = moved.rest();
+    expect("the rest", rest.find("export answer class 1 section 0") != std::string::npos && moved.rest().empty());
+    expect("a listing that was moved", thrown([&] { listing.rest(); }).number == PEF_NOT_OPEN);
+    std::string report = pef::report("a file", contents).rest();
+    expect("a report", report.find("{\"file\":\"a%20file\"") == 0 && report.back() == '\n');
+    expect("no listing", thrown([] { pef::listing none(""); }).number == PEF_TOO_SHORT);
+}
+
+static void test_context()
+{
+    pef::buffer tools = pef::link(tools_script), app_bytes = pef::link(app_script), memory(0x20000);
+    pef::context context;
+    context.add("Tools", tools);
+    context.keep("App", std::move(app_bytes));
+    context.reserve(0x10000, 16);
+    pef::connection app = context.prepare("App");
+    expect("what is present", context.is_present("Tools") && !context.is_present("None"));
+    std::vector<pef::fragment> all = app.fragments();
+    expect("fragments", all.size() == 2 && all[0].name() == "Tools" && all[1].name() == "App" && app.init_order().size() == 2 && app.new_fragments().size() == 2);
+    for (const pef::fragment &it : all)
+        for (size_t k = 0; k < it.section_count(); k++)
+            it.copy(k, memory.data() + it.section(k).address, it.section(k).size);
+    expect("memory", pef::bytes(memory.data() + 0x10020, 8).copy() == pef::buffer({0, 1, 0, 0x10, 0, 1, 0, 0x20}));
+    expect("too small a buffer", thrown([&] { all[0].copy(0, memory.data(), 3); }).number == PEF_ROOM_TOO_SMALL);
+    uint32_t address = 0;
+    pef::target target;
+    expect("a symbol", all[0].symbol("answer", address) && address == 0x10010 && !all[0].symbol("question", address));
+    expect("an export", all[0].export_address(0, address) && !all[0].export_address(1, address));
+    expect("an import", all[1].import_target(0, target) && target.address == 0x10010 && !all[1].import_target(1, target));
+    expect("entries", all[1].entries().has_main && all[1].entries().main == 0x10020 && !all[1].entries().has_init);
+    {
+        pef::connection other = context.prepare("Tools");
+        expect("a second connection", other.number() == 1 && app.released().size() == 1 && other.released().empty());
+        pef::connection moved = std::move(other);
+        expect("a connection that was moved", thrown([&] { other.fragments(); }).number == PEF_NOT_THERE && moved.fragments().size() == 1);
+    }
+    expect("it closed when it went", app.released().size() == 2);
+    app.close();
+    expect("closed", !context.is_present("Tools") && thrown([&] { app.close(); }).number == PEF_BAD_CONNECTION);
+}
+
+static void test_errors()
+{
+    pef::buffer app = pef::link(app_script);
+    pef::context context;
+    context.add("App", app);
+    pef::error error = thrown([&] { context.prepare("App"); });
+    expect("a library that is missing", error.number == PEF_LIBRARY_MISSING && error.fragment == "App" && error.library == "Tools" && error.where.part == PEF_LIBRARY_PART);
+    expect("what it says", error.what() == std::string("61 LibraryMissing fragment App library Tools"));
+    pef::options options = PEF_USUAL_OPTIONS;
+    options.granule = 24;
+    expect("a granule", thrown([&] { pef::context other(options); }).number == PEF_BAD_GRANULE);
+    for (int i = 1; i < 256; i++)
+        context.keep("more", pef::buffer());
+    expect("too many", thrown([&] { context.keep("more", pef::buffer()); }).number == PEF_STORE_FULL);
+}
+
+/* A connection has all that it needs when its context goes first. */
+static void test_owners()
+{
+    std::unique_ptr<pef::connection> kept;
+    {
+        pef::context context;
+        context.keep("Tools", pef::link(tools_script));
+        kept.reset(new pef::connection(context.prepare("Tools")));
+    }
+    expect("a connection without its context", kept->fragments().size() == 1 && kept->fragments()[0].name() == "Tools");
+}
+
+static_assert(!std::is_copy_constructible<pef::context>::value && !std::is_copy_constructible<pef::connection>::value, "contexts and connections are moved");
+static_assert(!std::is_copy_constructible<pef::listing>::value && std::is_nothrow_move_constructible<pef::listing>::value, "listings are moved");
+
+int main()
+{
+    test_bytes();
+    test_link();
+    test_container();
+    test_parts();
+    test_context();
+    test_errors();
+    test_owners();
+    std::printf("%u compared, %u of them differ\n", compared, different);
+    return different == 0 ? 0 : 1;
+}
