@@ -2,17 +2,10 @@
  * Loads fragments: load NAME=FILE .. prepares the first, with the others as its libraries, and prints its memory, as
  * `pef load` does.
  */
-#include "files.h"
+#include "printed.h"
 
 static struct pef_context context;
 static uint32_t app;
-
-/* Prints a name, with each byte that isn't printable and each % as % and two digits. */
-static void print_name(struct pef_bytes name)
-{
-    for (size_t i = 0; i < name.length; i++)
-        printf(name.at[i] > 0x20 && name.at[i] < 0x7f && name.at[i] != '%' ? "%c" : "%%%02X", name.at[i]);
-}
 
 /* Prints a refusal with those of its names that it tells. */
 static void print_fault(uint32_t number, const struct pef_names *names)
@@ -35,18 +28,6 @@ static void print_fault(uint32_t number, const struct pef_names *names)
     putchar('\n');
 }
 
-/* Prints bytes with their addresses, sixteen in a line, in groups of four. */
-static void print_memory(uint32_t address, const uint8_t *bytes, size_t length)
-{
-    for (size_t i = 0; i < length; i++) {
-        if (i % 16 == 0)
-            printf("%08X", (unsigned)(address + i));
-        printf(i % 4 == 0 ? " %02X" : "%02X", bytes[i]);
-        if (i % 16 == 15 || i + 1 == length)
-            putchar('\n');
-    }
-}
-
 static uint32_t print_section(size_t fragment, size_t number)
 {
     struct pef_fragment_section section = {0};
@@ -58,10 +39,8 @@ static uint32_t print_section(size_t fragment, size_t number)
     if (room == NULL)
         return PEF_OUT_OF_MEMORY;
     answer = pef_fragment_bytes(&context, fragment, number, room, section.size, &written);
-    if (answer == PEF_OK) {
-        printf("section %zu at %08X size %zu\n", number, (unsigned)section.address, section.size);
-        print_memory(section.address, room, written);
-    }
+    if (answer == PEF_OK)
+        print_memory(number, section.address, room, written);
     free(room);
     return answer;
 }

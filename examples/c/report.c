@@ -14,7 +14,8 @@ static const char empty[] = "{\"file\":\"a%20b\",\"size\":0,\"format\":\"other\"
 static const char refused[] =
     "{\"offset\":0,\"header\":null,\"sections\":[],\"loader\":null,\"libraries\":[],\"imports\":[],\"relocations\":[],\"exports\":[],"
     "\"entries\":{\"main\":null,\"init\":null,\"term\":null},\"errors\":[{\"number\":1,\"name\":\"TooShort\",\"part\":\"header\",\"row\":0,"
-    "\"field\":null,\"offset\":0}],\"notes\":[]}";
+    "\"field\":null,\"offset\":0}],\"notes\":[],\"verdict\":{\"state\":\"cut\",\"needs\":40,\"has\":4,\"sections\":\"damaged\","
+    "\"imports\":\"damaged\",\"exports\":\"damaged\",\"relocations\":\"damaged\",\"as_text\":false}}";
 
 /* Reads a report in parts of one size, and compares all of them with a text. */
 static void read_in_parts(struct pef_report *report, size_t size, const char *text)
