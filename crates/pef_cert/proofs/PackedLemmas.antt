@@ -15,39 +15,10 @@ use Rattle.pef_cert.proofs.TextProofs.RangeLemmas.{run_text-more}
 abbrev pub Packs : ℕ → List ℕ → List ℕ → List ℕ → Type 0
 Packs before steps far done = (ss ff : List ℕ) → numbers_at 0 (steps ++ ss) (far ++ ff) ≡ done ++ numbers_at before ss ff
 
-pub packs-more : (before number : ℕ) (steps far steps' far' done : List ℕ) → Packs before steps far done → AddsNumber before number steps far steps' far' → Packs number steps' far' (done ++ number ∷ [])
-packs-more before number steps far steps' far' done packs adds ss ff =
-    ap₂ (λ (s f : List ℕ). numbers_at 0 (s ++ ss) (f ++ ff)) adds.steps_are adds.far_are
-    ∙ ap₂ (numbers_at 0) (append_assoc steps (adds.step ∷ []) ss) (append_assoc far adds.more ff)
-    ∙ packs (adds.step ∷ ss) (adds.more ++ ff)
-    ∙ ap₂ (λ (n : ℕ) (f : List ℕ). done ++ (n ∷ numbers_at n ss f)) (adds.leads ff) (adds.rest ff)
-    ∙ sym (append_assoc done (number ∷ []) (numbers_at number ss ff))
-
 -- all numbers were packed
 pub packs-all : (before : ℕ) (steps far done : List ℕ) → Packs before steps far done → numbers_at 0 steps far ≡ done
 packs-all before steps far done packs =
     ap₂ (numbers_at 0) (sym (append-nil steps)) (sym (append-nil far)) ∙ packs [] [] ∙ append-nil done
-
--- a number that is near the one before it, and one that is far from it
-pub adds-near : (before number step : ℕ) (steps far steps' far' : List ℕ) → (step == 255) ≡ false → stepped before step ≡ number → steps' ≡ steps ++ step ∷ [] → far' ≡ far → AddsNumber before number steps far steps' far'
-adds-near before number step steps far steps' far' near is more same = record {
-  step = step;
-  more = [];
-  steps_are = more;
-  far_are = same ∙ sym (append-nil far);
-  leads = λ left. ap (λ b. cond b (slice_index_or left 0 0) (stepped before step)) near ∙ is;
-  rest = λ left. ap (λ b. cond b (drop 1 left) left) near;
-}
-
-pub adds-far : (before number step : ℕ) (steps far steps' far' : List ℕ) → (step == 255) ≡ true → steps' ≡ steps ++ step ∷ [] → far' ≡ far ++ number ∷ [] → AddsNumber before number steps far steps' far'
-adds-far before number step steps far steps' far' away more one = record {
-  step = step;
-  more = number ∷ [];
-  steps_are = more;
-  far_are = one;
-  leads = λ left. ap (λ b. cond b number (stepped before step)) away;
-  rest = λ left. ap (λ b. cond b left (number ∷ left)) away;
-}
 
 -- the next number is behind those that were read
 pub read-more : (old now next room : List ℕ) (place number : ℕ) → place < length room → old ≡ take place room ++ now → now ≡ number ∷ next → old ≡ take (place + 1) (set room place number) ++ next
@@ -62,11 +33,6 @@ pub run-rises : (w passed end : ℕ) (ends rest values : List ℕ) → RunsFull 
 run-rises w passed end ends rest values full is =
     let up = subst (λ (es : List ℕ). above_all passed es ≡ true) is full.rising in
     ltb-true passed end (and_parts (nat_lt passed end) (above_all end rest) up).0
-
-pub run-wide : (w passed end : ℕ) (ends rest values : List ℕ) → RunsFull w passed ends values → ends ≡ end ∷ rest → w ≤ length values
-run-wide w passed end ends rest values full is =
-    let product : w * length (end ∷ rest) ≡ w + w * length rest = omega arith in
-    omega (arith, full.full, ap (λ (es : List ℕ). w * length es) is, product)
 
 -- the line of its rows, and then the lines of the others
 pub packed_text-more : (w first end : ℕ) (ends rest numbers : List ℕ) → RunsFull w first ends numbers → ends ≡ end ∷ rest

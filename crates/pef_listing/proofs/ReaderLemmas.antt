@@ -26,10 +26,6 @@ use Rattle.pef_listing.proofs.PartLemmas.{each_text-more, each_text-none}
 pub parts-front : (text : ℕ → List ℕ) (count i : ℕ) (tail : List ℕ) → i < count → lines_from text count i ++ tail ≡ text i ++ (lines_from text count (i + 1) ++ tail)
 parts-front text count i tail under = ap (λ (xs : List ℕ). xs ++ tail) (each_text-more text i count under) ∙ append_assoc (text i) (lines_from text count (i + 1)) tail
 
--- after the last one what follows them is left
-pub parts-end : (text : ℕ → List ℕ) (count i : ℕ) (tail : List ℕ) → count ≤ i → lines_from text count i ++ tail ≡ tail
-parts-end text count i tail past = ap (λ (xs : List ℕ). xs ++ tail) (each_text-none text i count past)
-
 all-from : (text : ℕ → List ℕ) (count : ℕ) → lines_from text count 0 ≡ each_text text 0 count
 all-from text count =
     let all : count - 0 ≡ count = omega arith in

@@ -72,10 +72,6 @@ cut-there bytes from most end ended before =
     let there = is-some (name_at bytes from) (ended from ∙ lt-leb end from before) in
     rw there.1 (ap Some (sym (front-cut (drop from bytes) there.0 most there.1)))
 
--- no name begins after it
-pub cut-missing : (bytes : List ℕ) (from most end : ℕ) → NamesEndAt bytes end → end ≤ from → option_map (cut_name most) (name_at bytes from) ≡ None
-cut-missing bytes from most end ended past = missing most (name_at bytes from) (ended from ∙ le-leb end from past)
-
 -- no name begins past the end
 pub cut-outside : (bytes : List ℕ) (from most : ℕ) → length bytes < from → option_map (cut_name most) (name_at bytes from) ≡ None
 unfolding name_at

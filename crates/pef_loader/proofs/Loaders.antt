@@ -53,11 +53,6 @@ pub accepts : (l : Loaded) → IsAccepted l → IsLoader l
 unfolding loaded_of
 accepts l a = rw (a.header, a.tables, a.libraries, a.imports, a.entries, a.relocs, a.table, a.exports) refl
 
--- a fault that isn't there: its test isn't met
-fault_unmet : (test : Bool) (fault : LoaderFault) → fault_if test fault ≡ None → test ≡ false
-fault_unmet true fault none = absurd (cc)
-fault_unmet false fault none = refl
-
 -- each entry is in an instantiated section or isn't there
 pub record HasEntries (l : Loaded) : Type 0 where
   pub main : IsTrue (is_entry l.sections l.header.main_section)

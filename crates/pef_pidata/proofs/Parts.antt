@@ -141,9 +141,6 @@ copied_on : (xs : List ℕ) (at k : ℕ) → IsCopiedTo xs at → parts_of (drop
 copied_on xs at k before step =
     rw (take-add at k xs, ← drop-drop k at xs) (before ∙ ap (copied_before (take at xs)) step ∙ sym (copied_before-append (take at xs) (take k (drop at xs)) (parts_of (drop k (drop at xs)))))
 
-pub copied_to_none : (xs : List ℕ) → IsCopiedTo xs 0
-copied_to_none xs = refl
-
 pub copied_by_one : (xs : List ℕ) (at : ℕ) → at < length xs → zeros_first (drop at xs) < 3 → IsCopiedTo xs at → IsCopiedTo xs (at + 1)
 copied_by_one xs at under few before =
     copied_on xs at 1 before (one_copied (drop at xs) (omega (arith, length-drop at xs)) few)
@@ -163,13 +160,6 @@ copied_left xs (suc n) i is few here =
 
 pub copied_to_end : (xs : List ℕ) (at : ℕ) → at ≤ length xs → length xs ≤ at + 2 → IsCopiedTo xs at → IsCopiedTo xs (length xs)
 copied_to_end xs at within most here = copied_left xs (length xs - at) at (omega arith) (omega arith) here
-
--- where a run begins, and where none does
-pub run_here : (xs : List ℕ) (at : ℕ) → at + 2 < length xs → get_or xs at 0 ≡ 0 → get_or xs (at + 1) 0 ≡ 0 → get_or xs (at + 2) 0 ≡ 0 → 3 ≤ zeros_first (drop at xs)
-run_here xs at under first second third =
-    let next : at + 1 + 1 ≡ at + 2 = omega arith in
-    let two = zeros_first-next xs (at + 1) (omega arith) second in
-    omega (arith, zeros_first-next xs at (omega arith) first, rw next at two, zeros_first-next xs (at + 2) under third)
 
 pub short_here : (xs : List ℕ) (at : ℕ) → at < length xs → get_or xs at 0 ≢ 0 → zeros_first (drop at xs) < 3
 short_here xs at under other = omega (arith, zeros_first-here xs at under other)

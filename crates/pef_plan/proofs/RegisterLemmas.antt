@@ -30,14 +30,6 @@ unmarked zero k = refl
 unmarked (suc n) zero = refl
 unmarked (suc n) (suc k) = unmarked n k
 
--- the marks after one more base
-pub marked-section : (used : List Bool) (section k : ℕ) → section < length used → slice_index_or (slice_set used section true) k false ≡ (slice_index_or used k false || section == k)
-marked-section used section k inside =
-    elim (eqb_tells k section) [
-      | inl same ↦ rw same.1 (get_or-set_same used section true false inside ∙ sym (or_right (slice_index_or used section false) (section == section) (eq-eqb section section refl)))
-      | inr other ↦ rw (ne_eqb section k (λ e. other.1 (sym e))) (get_or-set_other used section k true false other.1 ∙ sym (or_false (slice_index_or used k false)))
-    ]
-
 -- the sections marked so far, with those of the fixups left
 pub marked-more : (used new : List Bool) (base : Base) (rest : List Fixup) (all : Bool) (k : ℕ) → slice_index_or new k false ≡ (slice_index_or used k false || is_section k base) → (slice_index_or used k false || (is_section k base || uses_section rest k)) ≡ all → (slice_index_or new k false || uses_section rest k) ≡ all
 marked-more used new base rest all k next before =

@@ -38,11 +38,6 @@ section_unmet bytes h i s none under there =
     let refused = none_among (section_refusal bytes h) 0 h.section_count i none (omega arith) (omega arith) in
     rw there at refused
 
--- .. and its raw bytes lie inside
-pub section_inside : (bytes : List ℕ) (h : Header) (i : ℕ) (s : SectionHeader) → first_among (section_refusal bytes h) 0 h.section_count ≡ None → i < h.section_count → section_at bytes i ≡ Some s → IsTrue (is_inside s (length bytes))
-section_inside bytes h i s none under there =
-    unmet_inside i (is_instantiated h i) s (length bytes) (section_unmet bytes h i s none under there)
-
 -- raw bytes inside have their full length
 pub length-raw_of : (bytes : List ℕ) (s : SectionHeader) → IsTrue (is_inside s (length bytes)) → length (raw_of bytes s) ≡ s.packed_size
 length-raw_of bytes s inside =

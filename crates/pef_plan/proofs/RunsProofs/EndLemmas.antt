@@ -154,20 +154,6 @@ end_led k h r value l s of same at e =
       falls = omega (arith, there, one, worth);
     }
 
--- the chosen instruction leads on
-pub chosen-led : (k : SolvedSuffix) (h : OpenState) (x : Choice) → Chosen k h x → Led k h x.value
-chosen-led k h x chosen l s agrees at =
-    let goes = chosen.goes s at in
-    let worth = chosen.worth l agrees in
-    let end = extension-there l k.registers.now x.step.next _ agrees.same.registers_are goes.next in
-    record {
-      instr = x.step.instr;
-      left = x.step.next.left.now;
-      flat = goes.flat;
-      delivers = goes.delivers;
-      falls = omega (arith, worth, end);
-    }
-
 -- the better of a value and the ends of a run
 pub best-led : (k : SolvedSuffix) (h : OpenState) (r : Run) (first value i : ℕ) (rows : List (List ℕ)) → RunOf k.registers.now r h.place h.place.position → Led k h first → BestOf first rows i value → ((l : Labels) → Agrees l k h.others.now → IsOne 1 value rows i → EndAmong l r (limit r) h.place.left.now h.place.position h.place.import_index h.place.c h.place.d value) → Led k h value
 best-led k h r first value i rows of led best ends l s agrees at =

@@ -162,10 +162,6 @@ overlaps_is leads fixups offset count marks = by (leads_overlap leads offset cou
               ]
         ]
 
--- no fixups have no marks
-pub none_marked_yet : AreMarked [] []
-none_marked_yet = record { each = tt; only = λ i some. absurd (omega (arith, some)) }
-
 -- marks that are the same everywhere
 each_same : (leads others : List ℕ) (fixups : List Fixup) → ((i : ℕ) → lead_at others i ≡ lead_at leads i) → AllByRecursion (IsMarked leads) fixups → AllByRecursion (IsMarked others) fixups
 each_same leads others [] same marked = tt

@@ -51,14 +51,6 @@ after_cuts-last byte n (b ∷ bytes) none = by (b == byte) (cut_at byte bytes) n
 
 -- names so far the same
 
-pub past_common-more : (one other : List ℕ) (i : ℕ) → i < length one → i < length other → get_or one i 0 ≡ get_or other i 0 → past_common (drop i one) (drop i other) ≡ past_common (drop (i + 1) one) (drop (i + 1) other)
-past_common-more [] other i under below same = absurd (omega (arith, under))
-past_common-more (x ∷ one) [] i under below same = absurd (omega (arith, below))
-past_common-more (x ∷ one) (y ∷ other) zero under below same = rw (eq-eqb x y same) refl
-past_common-more (x ∷ one) (y ∷ other) (suc i) under below same =
-    let next : suc i + 1 ≡ suc (i + 1) = omega arith in
-    rw next (past_common-more one other i (omega (arith, under)) (omega (arith, below)) same)
-
 -- and no longer
 
 pub past_common-stop : (one other : List ℕ) (i : ℕ) → i < length one → i < length other → (get_or one i 0 == get_or other i 0) ≡ false → past_common (drop i one) (drop i other) ≡ (drop i one, drop i other)
@@ -128,13 +120,6 @@ count-more (b ∷ line) zero under = by (b == 0x20)
 count-more (b ∷ line) (suc i) under =
     let next : suc i + 1 ≡ suc (i + 1) = omega arith in
     rw next (count-more line i (omega (arith, under)))
-
-pub two_spaces-more : (line : List ℕ) (i : ℕ) → i < length line → has_two_spaces (drop i line) ≡ (((get_or line i 0 == 0x20) && is_space (slice_get line (i + 1))) || has_two_spaces (drop (i + 1) line))
-two_spaces-more [] i under = absurd (omega (arith, under))
-two_spaces-more (b ∷ line) zero under = refl
-two_spaces-more (b ∷ line) (suc i) under =
-    let next : suc i + 1 ≡ suc (i + 1) = omega arith in
-    rw next (two_spaces-more line i (omega (arith, under)))
 
 -- places are inside what they are places of
 

@@ -76,10 +76,6 @@ any-placed p (f ∷ fixups) new none here =
       | inr after ↦ rw (after.0, unmet.0) (any-placed p fixups new unmet.1 here)
     ]
 
--- one fixup that overlaps none is apart from all
-pub apart_one : (fixups : List Fixup) (offset : ℕ) (b : Base) → overlaps fixups offset 1 ≡ false → AreApart fixups (fixup_of offset b ∷ [])
-apart_one fixups offset b free = (free, tt)
-
 -- and so are two in a row
 pub apart_two : (fixups : List Fixup) (offset : ℕ) (a b : Base) → overlaps fixups offset 2 ≡ false → AreApart fixups (fixup_of offset a ∷ fixup_of (offset + 4) b ∷ [])
 apart_two fixups offset a b free =

@@ -33,10 +33,6 @@ pub apart-more : (before fixups : List Fixup) (new : Fixup) → AreApart before 
 apart-more before [] new apart free = (free, tt)
 apart-more before (f ∷ fixups) new apart free = (apart.0, apart-more (placed before f) fixups new apart.1 free)
 
--- no fixups rise
-pub none_rise : (end : ℕ) → IsRising [] end
-none_rise end = record { inside = tt; apart = tt; ordered = refl }
-
 -- with one more, they rise still
 pub rising-more : (fixups : List Fixup) (end after : ℕ) (new : Fixup) → IsRising fixups end → end ≤ new.offset → after ≡ new.offset + 4 → IsRising (fixups ++ new ∷ []) after
 rising-more fixups end after new rising past is =

@@ -40,12 +40,6 @@ all_among-next answers i n under =
     let e : n - i ≡ suc (n - (i + 1)) = omega arith in
     rw e refl
 
--- no place is left after the last one
-pub all_among-end : {F : Type 0} (answers : ℕ → List F) (i n : ℕ) → n ≤ i → all_among answers i (n - i) ≡ []
-all_among-end answers i n past =
-    let e : n - i ≡ 0 = omega arith in
-    rw e refl
-
 -- the first test of two tables that holds
 pub first_met-append : {F : Type 0} (tests others : List (Bool × F)) → first_met (tests ++ others) ≡ option_or (first_met tests) (first_met others)
 first_met-append [] others = refl
@@ -84,8 +78,3 @@ none-among {F} answers from (suc n) k none low high =
 pub none-map : {F G : Type 0} (f : F → G) (xs : List F) → map f xs ≡ [] → xs ≡ []
 none-map f [] none = refl
 none-map f (x ∷ xs) none = absurd (cc none)
-
--- what is read is the other result if there is no refusal at all
-pub unless_value : {A F : Type 0} (fault : Option F) (r : Result A F) (x : A) → (result_err r ≡ None → r ≡ Ok x) → result_err (unless fault r) ≡ None → unless fault r ≡ Ok x
-unless_value None r x rest none = rest none
-unless_value (Some fault) r x rest none = absurd (cc none)

@@ -96,10 +96,3 @@ first_unmet false x others none = (refl, none)
 pub unless_ok : {A F : Type 0} (fault : Option F) (r : Result A F) (x : A) → unless fault r ≡ Ok x → (fault ≡ None) × (r ≡ Ok x)
 unless_ok None r x ok = (refl, ok)
 unless_ok (Some fault) r x ok = absurd (cc)
-
--- tests after tests that don't hold
-pub first_met-after : {F : Type 0} (tests others : List (Bool × F)) → first_met tests ≡ None → first_met (tests ++ others) ≡ first_met others
-first_met-after [] others none = refl
-first_met-after (test ∷ tests) others none =
-    let p = first_unmet test.0 test.1 (first_met tests) none in
-    rw p.0 (first_met-after tests others p.1)
