@@ -1,2 +1,6 @@
+mod ConverseLemmas
 mod NamedLemmas
+mod PreparedLemmas
+mod ReadLemmas
 mod SoundLemmas
+mod WrittenLemmas

@@ -23,23 +23,25 @@ use Rattle.cfm_prepare.specs.declared.fragment_fault.FragmentFault.TheVariants a
 use Rattle.cfm_prepare.specs.declared.image_fault.ImageFault.{ImageFault}
 use Rattle.cfm_prepare.proofs.Laws.{bad-image, bad-program, new-members}
 use Rattle.pef_loader.specs.declared.program_fault.ProgramFault.{ProgramFault}
-use Rattle.pef_inspect.proofs.Laws.{no_errors_sound}
+use Rattle.pef_inspect.specs.Sound.{IsSound}
+use Rattle.pef_inspect.proofs.Laws.{no_errors_within_sound}
 use Rattle.cfm_sound.specs.Named.{BindingNames, FragmentNames, Names, NamesUnsound}
 use Rattle.cfm_sound.proofs.SoundLemmas.{sound-filled, sound-read, sound-relocated, sound_fragment}
 
+-- in a container that isn't sound something is found within any limits
+names-unsound : (pairs : List Pair) (name : List ℕ) (p : ℕ) → place_of pairs name ≡ Some p → (IsSound (pair_of pairs p).bytes → ⊥) → NamesUnsound pairs name
+names-unsound pairs name p is unsound = record { position = p; is = is; unsound = unsound; found = λ limits none. unsound (no_errors_within_sound limits (pair_of pairs p).bytes none) }
+
 -- a fragment that isn't read
 unread : (pairs : List Pair) (root : ℕ) (asked name : List ℕ) (r : BindRefusal) → place_of pairs asked ≡ Some root → IsOfUnread pairs root name r → NamesUnsound pairs name
-unread pairs root asked name r is of = record {
-  position = of.position;
-  is = elim of.found [
-    | inl same ↦ (let P : ℕ → Type 0 = λ p. (pair_of pairs p).name ≡ name in
-        ap (place_of pairs) (sym (subst P same of.named) ∙ place_of-named pairs asked root is) ∙ is ∙ ap Some (sym same))
-    | inr first ↦ first
-  ];
-  found = λ none. (let read = sound-read pairs of.position (no_errors_sound (pair_of pairs of.position).bytes none) in
-      let both : Ok (sound_fragment pairs of.position (no_errors_sound (pair_of pairs of.position).bytes none)) ≡ Err r = sym read ∙ of.refused in
-      absurd (cc both));
-}
+unread pairs root asked name r is of = names-unsound pairs name of.position
+    (elim of.found [
+      | inl same ↦ (let P : ℕ → Type 0 = λ p. (pair_of pairs p).name ≡ name in
+          ap (place_of pairs) (sym (subst P same of.named) ∙ place_of-named pairs asked root is) ∙ is ∙ ap Some (sym same))
+      | inr first ↦ first
+    ])
+    (λ sound. (let both : Ok (sound_fragment pairs of.position sound) ≡ Err r = sym (sound-read pairs of.position sound) ∙ of.refused in
+    absurd (cc both)))
 
 -- a new fragment of a closure is the one that its name means
 new-first : (s : ContextState) (asked : List ℕ) (closure : HasClosure s asked) (p : ℕ) → Contains (new_of s closure.closed) p → place_of s.pairs (pair_of s.pairs p).name ≡ Some p
@@ -57,13 +59,10 @@ unfilled : (s : ContextState) (asked name : List ℕ) (closure : HasClosure s as
 unfilled s asked name closure k bad =
     let r = bad-image s.pairs bad.fresh name k bad.first in
     let there = subst (λ ps. Contains ps r.position) bad.are.are r.member in
-    record {
-      position = r.position;
-      is = ap (place_of s.pairs) r.is ∙ new-first s asked closure r.position there;
-      found = λ none. (let sound : image_refusal_in s.pairs r.position ≡ None = sound-filled s.pairs r.position (no_errors_sound (pair_of s.pairs r.position).bytes none) in
-          let refused : image_refusal_in s.pairs r.position ≡ Some r.fault = r.refused in
-          absurd (cc (sound, refused)));
-    }
+    names-unsound s.pairs name r.position (ap (place_of s.pairs) r.is ∙ new-first s asked closure r.position there)
+    (λ sound. (let filled : image_refusal_in s.pairs r.position ≡ None = sound-filled s.pairs r.position sound in
+    let refused : image_refusal_in s.pairs r.position ≡ Some r.fault = r.refused in
+    absurd (cc (filled, refused))))
 
 -- .. or a relocation header
 unrelocated : (s : ContextState) (asked name : List ℕ) (closure : HasClosure s asked) (k : ProgramFault) → HasBadProgram s.pairs s.present s.memory (new_of s closure.closed) name k → NamesUnsound s.pairs name
@@ -71,13 +70,10 @@ unrelocated s asked name closure k bad =
     let all = s.present ++ bad.fresh in
     let r = bad-program s.pairs all s.memory bad.are.empty bad.fresh name k bad.are.placed bad.first in
     let there = subst (λ ps. Contains ps r.one.position) bad.are.are r.position in
-    record {
-      position = r.one.position;
-      is = ap (place_of s.pairs) r.is ∙ new-first s asked closure r.one.position there;
-      found = λ none. (let sound : reloc_refusal_in s.pairs (addresses_of s.pairs all r.one) r.one.position ≡ None = sound-relocated s.pairs r.one.position (no_errors_sound (pair_of s.pairs r.one.position).bytes none) all r.before r.after r.one.places r.placed in
-          let refused : reloc_refusal_in s.pairs (addresses_of s.pairs all r.one) r.one.position ≡ Some r.fault = r.refused in
-          absurd (cc (sound, refused)));
-    }
+    names-unsound s.pairs name r.one.position (ap (place_of s.pairs) r.is ∙ new-first s asked closure r.one.position there)
+    (λ sound. (let relocated : reloc_refusal_in s.pairs (addresses_of s.pairs all r.one) r.one.position ≡ None = sound-relocated s.pairs r.one.position sound all r.before r.after r.one.places r.placed in
+    let refused : reloc_refusal_in s.pairs (addresses_of s.pairs all r.one) r.one.position ≡ Some r.fault = r.refused in
+    absurd (cc (relocated, refused))))
 
 names-bound : (s : ContextState) (asked : List ℕ) (root : ℕ) (f : BindFault) → place_of s.pairs asked ≡ Some root → binds.fault_number f ≤ 39 → FailsAs f (closed_of s.pairs root) → BindingNames s.pairs f
 names-bound s asked root (bind.Container f v) is low fails = unread s.pairs root asked f.now (no_container f.now v) is (closed-no_container s.pairs root f.now v (place_of-below s.pairs asked root is) fails)

@@ -1,30 +1,21 @@
 -- A fragment whose container is sound is read, and none of its images and relocation headers is refused.
-use Rattle.std.proofs.Common.{◌≡◌, ◌∙◌, ℕ, ◌<◌, ◌≤◌, Bool, true, false, cond, List, [], length, take, Option, None, Some, Ok, Err, Result, refl, sym, ap, subst, arith}
+use Rattle.std.proofs.Common.{◌≡◌, ◌∙◌, ℕ, ◌<◌, Bool, true, false, cond, List, length, take, Option, None, Some, Ok, refl, sym, ap, arith}
 use Rattle.std.specs.Prelude.{option_map, nat_le}
 use Rattle.std.specs.Option.{option_and_then, option_map_or, option_or}
-use Rattle.std.specs.Result.{result_err, result_ok, result_unwrap_or}
+use Rattle.std.specs.Result.{result_err, result_ok}
 use Rattle.std.proofs.lemmas.Bool.{le-leb, lt-ltb}
-use Rattle.std.proofs.lemmas.List.{length-map, length-take}
-use Rattle.pef_words.specs.Bytes.{filled}
-use Rattle.pef_words.specs.Refusals.{◌>>=◌, first_met, result_map, unless}
-use Rattle.pef_words.proofs.Laws.Images.{length-filled}
+use Rattle.std.proofs.lemmas.List.{length-map}
+use Rattle.pef_words.specs.Refusals.{◌>>=◌}
 use Rattle.pef_words.proofs.Laws.Refusals.{first_among-none}
 use Rattle.pef_format.specs.Sections.{is_packed, kind_of}
-use Rattle.pef_views.specs.Container.{Contained, IsContainer, IsInstantiable, Section, container_of, section_in, section_of}
-use Rattle.pef_views.specs.Header.{header_of, tag_tests}
-use Rattle.pef_views.specs.Partial as views
-use Rattle.pef_views.specs.Section.{raw_of, section_at}
-use Rattle.pef_views.specs.declared.fault.ViewFault.{ViewFault}
-use Rattle.pef_views.specs.declared.fault.ViewFault.TheVariants.{TooShort}
-use Rattle.pef_views.specs.declared.header.Header.{Header}
+use Rattle.pef_views.specs.Container.{Contained, section_in}
+use Rattle.pef_views.specs.Section.{raw_of}
 use Rattle.pef_views.specs.declared.section.SectionHeader.{SectionHeader}
-use Rattle.pef_views.proofs.Laws.{counts, instantiable, raw_whole, section_header_is, whole_container}
+use Rattle.pef_views.proofs.Laws.{raw_whole}
 use Rattle.pef_loader.specs.Loader.{IsLoader, Loaded, reloc_of}
 use Rattle.pef_loader.specs.Partial.{RelocationRow, relocation_row}
 use Rattle.pef_loader.proofs.Laws.{loaded_of-ok, reloc_row, reloc_section}
 use Rattle.pef_pidata.specs.Pattern.{pattern_text}
-use Rattle.pef_pidata.specs.declared.fault.PackFault.{PackFault}
-use Rattle.pef_pidata.proofs.Laws.{pattern_text-length}
 use Rattle.pef_reloc.specs.Applied.{Addresses}
 use Rattle.pef_reloc.specs.Headers.{refusal_at}
 use Rattle.pef_reloc.specs.Unrolled.{program_fault}
@@ -37,43 +28,14 @@ use Rattle.cfm_closure.specs.Fragments.{Fragment, container_at, fragment_of, imp
 use Rattle.cfm_memory.specs.Extents.{ArePlaced}
 use Rattle.cfm_memory.specs.Instances.{Layout}
 use Rattle.cfm_memory.specs.declared.place.Place.{Place}
+use Rattle.cfm_sound.proofs.ReadLemmas.{filled-len, header, header-at, header-in, is-container, low, section-is}
 use Rattle.cfm_prepare.specs.Addresses.{addresses_from, addresses_of}
 use Rattle.cfm_prepare.specs.Fragments.{Present, extents_in, image_refusal_in, reloc_refusal_in}
-use Rattle.cfm_prepare.specs.Images.{filled_at, filled_in, first_image_refusal, image_of, image_refusal}
+use Rattle.cfm_prepare.specs.Images.{filled_at, first_image_refusal, image_of, image_refusal}
 use Rattle.cfm_prepare.specs.Prepared.{addresses_at, first_reloc_refusal}
 use Rattle.cfm_prepare.proofs.Laws.{headers-unrefused, length-addresses, length-there}
 use Rattle.pef_inspect.specs.Errors.{image_fault, packed_at, program_at, run_at, run_of, sizes_at}
 use Rattle.pef_inspect.specs.Sound.{IsSound}
-
--- what can be read of some bytes has these bytes
-opened-bytes : (bytes : List ℕ) (c : Contained) → views.partial_of bytes ≡ Ok c → c.bytes ≡ bytes
-unfolding views.partial_of
-opened-bytes bytes c is = by (header_of bytes) is
-  where
-    at : (h : Header) (o : Option ViewFault) → unless o (Ok (views.opened bytes h)) ≡ Ok c → c.bytes ≡ bytes
-    at h None is = (let same : views.opened bytes h ≡ c = cc is in sym (ap (λ (k : Contained). k.bytes) same))
-    at h (Some fault) is = absurd (cc is)
-
-    by : (o : Option Header) → option_map_or (λ h. unless (first_met (tag_tests h)) (Ok (views.opened bytes h))) o (Err TooShort) ≡ Ok c → c.bytes ≡ bytes
-    by None is = absurd (cc is)
-    by (Some h) is = at h (first_met (tag_tests h)) is
-
--- an image that isn't refused is no longer than the header says
-image-short : (s : Section) (image : List ℕ) → image_of s ≡ Ok image → length image ≤ s.header.unpacked_size
-unfolding image_of
-image-short s image is = by (is_packed (kind_of s.header.section_kind)) is
-  where
-    by : (packed : Bool) → cond packed (pattern_text s.raw s.header.unpacked_size) (Ok (take s.header.unpacked_size s.raw)) ≡ Ok image → length image ≤ s.header.unpacked_size
-    by true is = (let len = pattern_text-length s.raw s.header.unpacked_size image is in omega (arith, len))
-    by false is = (let same : take s.header.unpacked_size s.raw ≡ image = cc is in let len = ap length same in let most = length-take s.header.unpacked_size s.raw in omega (arith, len, most))
-
--- so its section fills its memory
-filled-whole : (s : Section) → IsInstantiable s → result_err (image_of s) ≡ None → length (result_unwrap_or (filled_in s) []) ≡ s.header.total_size
-filled-whole s can none = by (image_of s) refl none
-  where
-    by : (r : Result (List ℕ) PackFault) → image_of s ≡ r → result_err r ≡ None → length (result_unwrap_or (result_map (λ image. filled image s.header.total_size) r) []) ≡ s.header.total_size
-    by (Ok image) was none = (let short = image-short s image was in let fits = can.image in length-filled image s.header.total_size (omega (arith, short, fits)))
-    by (Err fault) was none = absurd (cc none)
 
 abbrev with_section : ℕ → List ℕ → ℕ × List ℕ
 with_section section program = (section, program)
@@ -82,11 +44,6 @@ none-either : (f g : Option RelocFault) → f ≡ None → g ≡ None → option
 none-either f g none also = rw (none, also) refl
 
 module _ (bytes : List ℕ) (s : IsSound bytes) where
-  is-container : IsContainer s.container
-  is-container =
-      let same = opened-bytes bytes s.container (whole_container bytes s.container s.contained) in
-      subst (λ b. container_of b ≡ Ok s.container) (sym same) s.contained
-
   is-loader : IsLoader s.loader
   is-loader = (loaded_of-ok s.container.header.instantiated_section_count s.container.loader s.loader s.loaded).0
 
@@ -95,44 +52,29 @@ module _ (bytes : List ℕ) (s : IsSound bytes) where
 
   -- section k
   module _ (k : ℕ) (under : k < s.container.header.instantiated_section_count) where
-    abbrev low : k < s.container.header.section_count
-    low = let most = counts s.container is-container in omega (arith, under, most)
-
-    abbrev header : SectionHeader
-    header = (section_header_is s.container k is-container low).0
-
-    header-at : section_at s.container.bytes k ≡ Some header
-    header-at = (section_header_is s.container k is-container low).1
-
-    header-in : views.header_in s.container k ≡ Some header
-    header-in = rw (lt-ltb k s.container.header.section_count low) header-at
-
-    section-is : section_of s.container k ≡ Some (section_in s.container.bytes header)
-    unfolding section_of
-    section-is = rw (lt-ltb k s.container.header.section_count low, header-at) refl
+    abbrev section : SectionHeader
+    section = header bytes s.container s.contained k under
 
     -- its image isn't refused
-    image-sound : result_err (image_of (section_in s.container.bytes header)) ≡ None
+    image-sound : result_err (image_of (section_in s.container.bytes section)) ≡ None
     unfolding image_of
-    image-sound = by (is_packed (kind_of header.section_kind)) refl
+    image-sound = by (is_packed (kind_of section.section_kind)) refl
       where
-        whole : nat_le header.packed_size (length (raw_of s.container.bytes header)) ≡ true
-        whole = (let len = raw_whole s.container k header is-container low header-at in le-leb header.packed_size (length (raw_of s.container.bytes header)) (omega (arith, len)))
+        whole : nat_le section.packed_size (length (raw_of s.container.bytes section)) ≡ true
+        whole = (let len = raw_whole s.container k section (is-container bytes s.container s.contained) (low bytes s.container s.contained k under) (header-at bytes s.container s.contained k under) in le-leb section.packed_size (length (raw_of s.container.bytes section)) (omega (arith, len)))
 
-        there : is_packed (kind_of header.section_kind) ≡ true → packed_at s.container k ≡ Some header
-        there packed = rw (header-in, packed, whole) refl
+        there : is_packed (kind_of section.section_kind) ≡ true → packed_at s.container k ≡ Some section
+        there packed = rw (header-in bytes s.container s.contained k under, packed, whole) refl
 
-        by : (packed : Bool) → is_packed (kind_of header.section_kind) ≡ packed → result_err (cond packed (pattern_text (raw_of s.container.bytes header) header.unpacked_size) (Ok (take header.unpacked_size (raw_of s.container.bytes header)))) ≡ None
+        by : (packed : Bool) → is_packed (kind_of section.section_kind) ≡ packed → result_err (cond packed (pattern_text (raw_of s.container.bytes section) section.unpacked_size) (Ok (take section.unpacked_size (raw_of s.container.bytes section)))) ≡ None
         by true packed = ap (option_and_then (image_fault s.container)) (sym (there packed)) ∙ s.images k under
         by false packed = refl
 
     image-unrefused : image_refusal s.container k ≡ None
-    image-unrefused = rw (section-is, image-sound) refl
+    image-unrefused = rw (section-is bytes s.container s.contained k under, image-sound) refl
 
-    filled-len : length (filled_at s.container k) ≡ header.total_size
-    filled-len =
-        ap (λ o. length (option_map_or (λ t. result_unwrap_or (filled_in t) []) o [])) section-is
-        ∙ filled-whole (section_in s.container.bytes header) (instantiable s.container k header is-container low header-at under) image-sound
+    sound-len : length (filled_at s.container k) ≡ section.total_size
+    sound-len = filled-len bytes s.container s.contained k under image-sound
 
   images-sound : first_image_refusal s.container s.container.header.instantiated_section_count ≡ None
   images-sound = first_among-none (image_refusal s.container) 0 s.container.header.instantiated_section_count (λ k low high. image-unrefused k (omega (arith, high)))
@@ -147,8 +89,8 @@ module _ (bytes : List ℕ) (s : IsSound bytes) where
 
     sizes-are : (section : ℕ) → section < s.container.header.instantiated_section_count → sizes_at s.container s.loader section ≡ Some (sizes section)
     sizes-are section under =
-        let len = filled-len section under in
-        rw (lt-ltb section s.container.header.instantiated_section_count under, header-in section under, sections, imports, len) refl
+        let len = sound-len section under in
+        rw (lt-ltb section s.container.header.instantiated_section_count under, header-in bytes s.container s.contained section under, sections, imports, len) refl
 
     -- the program of a header that is there
     program-sound : (i : ℕ) (r : RelocationRow) (program : List ℕ) → i < s.loader.header.reloc_count → relocation_row s.loader i ≡ Some r → r.program ≡ Some program → r.section < s.container.header.instantiated_section_count → program_verified (sizes r.section) program ≡ None

@@ -10,13 +10,17 @@ use Rattle.cfm_prepare.specs.declared.fault.PrepareFault.{PrepareFault}
 use Rattle.cfm_prepare.specs.declared.fault.PrepareFault.TheVariants as fault
 use Rattle.cfm_prepare.specs.declared.fragment_fault.FragmentFault.{FragmentFault}
 use Rattle.cfm_prepare.specs.declared.fragment_fault.FragmentFault.TheVariants as fragment
-use Rattle.pef_inspect.specs.Errors.{errors_of}
+use Rattle.pef_inspect.specs.Errors.{errors_within}
+use Rattle.pef_inspect.specs.Sound.{IsSound}
+use Rattle.pef_inspect.specs.declared.limits.Limits.{Limits}
 
--- the fragment that a name means in a store has a container in which an error is found, or something is left unverified
+-- the fragment that a name means in a store has no sound container: within any limits an error is found in it, or something is
+-- left unverified
 pub record NamesUnsound (pairs : List Pair) (name : List ℕ) : Type 0 where
   pub position : ℕ
   pub is : place_of pairs name ≡ Some position
-  pub found : errors_of (pair_of pairs position).bytes ≢ []
+  pub unsound : IsSound (pair_of pairs position).bytes → ⊥
+  pub found : (limits : Limits) → errors_within limits (pair_of pairs position).bytes ≢ []
 
 -- an error names such a fragment
 abbrev pub BindingNames : List Pair → BindFault → Type 0

@@ -3,4 +3,5 @@ pub mod Faults
 pub mod Kept
 pub mod Names
 pub mod Notes
+pub mod Numbers
 pub mod Places

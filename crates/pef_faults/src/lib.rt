@@ -9,6 +9,7 @@ mod fault;
 mod names;
 mod notes;
 mod place;
+pub mod theorems;
 
 pub use fault::Fault;
 pub use names::Names;

@@ -1,7 +1,7 @@
 //! What is known of an error beyond its line, and how the explanation says it.
 ghost use Rattle.std.specs.Prelude.{◌≡◌};
 ghost use Rattle.pef_ports.specs.Sent.{Sends};
-ghost use Rattle.pef_faults.specs.Notes.Notes.{bind_note, fragment_note, list_note, note_of, note_text, place_note, prepare_note, reason_text, script_fault_note, unread_note, unwritten_note, versions_text};
+ghost use Rattle.pef_faults.specs.Notes.Notes.{bind_note, fragment_note, list_note, note_of, note_text, place_note, prepare_note, reason_text, script_fault_note, unread_note, versions_text};
 
 mod excerpt;
 mod places;
@@ -61,7 +61,7 @@ pub fn note_of(fault: &Fault<'_>) -> Note
         Fault::Listing(fault) => list_note(*fault),
         Fault::Prepare(fault) => prepare_note(fault),
         Fault::Unreadable { reason, .. } => unread_note(*reason),
-        Fault::Unwritable { reason, .. } => unwritten_note(*reason),
+        Fault::Unwritable { reason, .. } => Note::File(*reason),
         Fault::Certificate(_)
         | Fault::SectionsDiffer
         | Fault::Input(_)
@@ -168,21 +168,7 @@ fn unread_note(reason: FileReason) -> Note
         | FileReason::Forbidden
         | FileReason::Full
         | FileReason::NotUtf8
-        | FileReason::Other => unwritten_note(reason),
-    }
-}
-
-/// Returns what is known of a file that couldn't be written.
-fn unwritten_note(reason: FileReason) -> Note
-    ensures { result ≡ unwritten_note reason }
-{
-    match reason {
-        FileReason::Other => Note::Nothing,
-        FileReason::Missing
-        | FileReason::Folder
-        | FileReason::Forbidden
-        | FileReason::Full
-        | FileReason::NotUtf8 => Note::File(reason),
+        | FileReason::Other => Note::File(reason),
     }
 }
 
@@ -225,7 +211,7 @@ pub fn print_note<W: Sink>(out: &mut W, page: &mut Page, note: &Note) -> Result<
     }
 }
 
-/// Returns the sentence on a file that couldn't be read or written.
+/// Returns the sentence on a file that couldn't be read or written: none for other reasons than these.
 fn reason_text(reason: FileReason) -> &'static [u8]
     ensures { result.now ≡ reason_text reason }
 {

@@ -1,5 +1,5 @@
 -- The first of all errors is the one that is reported.
-use Rattle.std.proofs.Common.{◌≡◌, ◌∙◌, ℕ, zero, suc, ◌+◌, true, List, [], ◌∷◌, ◌++◌, map, Option, None, Some, inl, inr, refl, sym, ap, subst, arith}
+use Rattle.std.proofs.Common.{◌≡◌, ◌∙◌, ℕ, zero, suc, ◌+◌, ◌<◌, true, List, [], ◌∷◌, ◌++◌, map, Option, None, Some, inl, inr, refl, sym, ap, subst, arith}
 use Rattle.std.specs.Prelude.{◌⊎◌, Result, Ok, Err, nat_lt}
 use Rattle.std.specs.Option.{option_and_then, option_map, option_to_list}
 use Rattle.std.specs.Result.{result_err}
@@ -25,7 +25,8 @@ use Rattle.pef_inspect.specs.Findings.{loader_finding, program_finding, view_fin
 use Rattle.pef_inspect.specs.First.{IsLimit, first_of_container, first_of_loader, first_program, first_reported, program_refused}
 use Rattle.pef_inspect.specs.Limits.{checked_within, container_limits, rest_of, within}
 use Rattle.pef_inspect.specs.declared.limits.Limits.{Limits}
-use Rattle.pef_inspect.proofs.Soundness.{allowed_is, found_there, tables_whole}
+use Rattle.pef_inspect.proofs.Soundness.{allowed_is, found_there, none-first, none-mapped, tables_whole}
+use Rattle.pef_inspect.proofs.Within.{Stops, within-stops}
 
 first-map : {F G : Type 0} (f : F → G) (xs : List F) → first_fault (map f xs) ≡ option_map f (first_fault xs)
 first-map f [] = refl
@@ -34,10 +35,6 @@ first-map f (x ∷ xs) = refl
 first-listed : {F : Type 0} (o : Option F) → first_fault (option_to_list o) ≡ o
 first-listed None = refl
 first-listed (Some x) = refl
-
-none-first : {F : Type 0} (xs : List F) → first_fault xs ≡ None → xs ≡ []
-none-first [] none = refl
-none-first (x ∷ xs) none = absurd (cc none)
 
 -- the first of some findings, if it is one of the first part
 first-here : {F : Type 0} (xs ys : List F) (x : F) → first_fault xs ≡ Some x → first_fault (xs ++ ys) ≡ Some x
@@ -48,15 +45,29 @@ first-later : {F : Type 0} (xs ys : List F) → first_fault xs ≡ None → firs
 first-later xs ys none = first_fault-append xs ys ∙ rw none refl
 
 -- an error is the first, or the note on programs that weren't verified is
-abbrev IsFirst : List Finding → Finding → Type 0
-IsFirst errors f = (first_fault errors ≡ Some f) ⊎ IsLimit (first_fault errors)
+abbrev IsFirst : Limits → List ℕ → List Finding → Finding → Type 0
+IsFirst limits bytes errors f = (first_fault errors ≡ Some f) ⊎ IsLimit limits bytes (first_fault errors)
 
-is-here : (xs ys : List Finding) (f : Finding) → IsFirst xs f → IsFirst (xs ++ ys) f
-is-here xs ys f (inl is) = inl (first-here xs ys f is)
-is-here xs ys f (inr limit) = inr (record { container = limit.container; header = limit.header; is = first-here xs ys (programs_unverified limit.container limit.header) limit.is })
+limit-here : (limits : Limits) (bytes : List ℕ) (xs ys : List Finding) → IsLimit limits bytes (first_fault xs) → IsLimit limits bytes (first_fault (xs ++ ys))
+limit-here limits bytes xs ys limit = record {
+  container = limit.container;
+  contained = limit.contained;
+  loader = limit.loader;
+  loaded = limit.loaded;
+  header = limit.header;
+  there = limit.there;
+  readable = limit.readable;
+  before = limit.before;
+  past = limit.past;
+  is = first-here xs ys (programs_unverified limit.container limit.header) limit.is;
+}
 
-is-later : (xs ys : List Finding) (f : Finding) → first_fault xs ≡ None → IsFirst ys f → IsFirst (xs ++ ys) f
-is-later xs ys f none first = subst (λ o. (o ≡ Some f) ⊎ IsLimit o) (sym (first-later xs ys none)) first
+is-here : (limits : Limits) (bytes : List ℕ) (xs ys : List Finding) (f : Finding) → IsFirst limits bytes xs f → IsFirst limits bytes (xs ++ ys) f
+is-here limits bytes xs ys f (inl is) = inl (first-here xs ys f is)
+is-here limits bytes xs ys f (inr limit) = inr (limit-here limits bytes xs ys limit)
+
+is-later : (limits : Limits) (bytes : List ℕ) (xs ys : List Finding) (f : Finding) → first_fault xs ≡ None → IsFirst limits bytes ys f → IsFirst limits bytes (xs ++ ys) f
+is-later limits bytes xs ys f none first = subst (λ o. (o ≡ Some f) ⊎ IsLimit limits bytes o) (sym (first-later xs ys none)) first
 
 -- the program of a relocation header is the same, however it is read
 abbrev with_section : ℕ → List ℕ → ℕ × List ℕ
@@ -74,9 +85,17 @@ program-same l k = ap (option_and_then (λ (h : ℕ × List ℕ). program_fault 
     by None = refl
     by (Some r) = at r.section r.program
 
+-- the first of some findings is the note that the parts from one on weren't checked, and the parts before it have no error
+record StopsAt (cost : ℕ → ℕ) (error : ℕ → Option Finding) (unchecked : ℕ → Finding) (most count : ℕ) (found : List Finding) : Type 0 where
+  pub reached : ℕ
+  pub there : reached < count
+  pub none : (k : ℕ) → k < reached → error k ≡ None
+  pub stops : Stops cost most 0 reached
+  pub is : first_fault found ≡ Some (unchecked reached)
+
 -- the first error of some parts, or the note on those that weren't checked
 first-checked : (cost : ℕ → ℕ) (error : ℕ → Option Finding) (unchecked : ℕ → Finding) (most count : ℕ) (f : Finding) → first_among error 0 count ≡ Some f
-    → (first_fault (checked_within cost error unchecked most count) ≡ Some f) ⊎ ((reached : ℕ) × (first_fault (checked_within cost error unchecked most count) ≡ Some (unchecked reached)))
+    → (first_fault (checked_within cost error unchecked most count) ≡ Some f) ⊎ StopsAt cost error unchecked most count (checked_within cost error unchecked most count)
 unfolding checked_within
 first-checked cost error unchecked most count f is =
     let reached = within cost most 0 count in
@@ -88,21 +107,39 @@ first-checked cost error unchecked most count f is =
     elim (leb_tells reached at) [
       | inl past ↦ (
           let none : first_among error 0 reached ≡ None = first_among-none error 0 reached (λ k low under. r.before k low (let p = past.1 in omega (arith, under, p))) in
-          let left : nat_lt reached count ≡ true = (let p = past.1 in lt-ltb reached count (omega (arith, p, high))) in
-          inr (reached, first-later (all_among (λ i. option_to_list (error i)) 0 reached) (rest_of unchecked reached count) (each ∙ none) ∙ rw left refl))
+          let part : reached < count = (let p = past.1 in omega (arith, p, high)) in
+          let left : nat_lt reached count ≡ true = lt-ltb reached count part in
+          inr (record {
+            reached = reached;
+            there = part;
+            none = λ k under. (let p = past.1 in r.before k (omega arith) (omega (arith, under, p)));
+            stops = within-stops cost most 0 count part;
+            is = first-later (all_among (λ i. option_to_list (error i)) 0 reached) (rest_of unchecked reached count) (each ∙ none) ∙ rw left refl;
+          }))
       | inr under ↦ inl (first-here (all_among (λ i. option_to_list (error i)) 0 reached) (rest_of unchecked reached count) f
           (each ∙ first_among-at error 0 reached at f under.1 (λ j low below. r.before j low (omega (arith, below))) (rw zero-at r.is)))
     ]
 
-module _ (limits : Limits) (c : Contained) (l : Loaded) where
+module _ (limits : Limits) (bytes : List ℕ) (c : Contained) (l : Loaded) (contained : container_of bytes ≡ Ok c) where
   -- the programs are those of the relocation headers
-  first-programs : (f : Finding) → loader.findings_in l ≡ [] → first_program c l ≡ Some f → IsFirst (program_errors limits c l) f
-  first-programs f none is =
+  first-programs : (f : Finding) → loaded_of c.header.instantiated_section_count c.loader ≡ Ok l → loader.findings_in l ≡ [] → first_program c l ≡ Some f → IsFirst limits bytes (program_errors limits c l) f
+  first-programs f loaded none is =
       let whole = tables_whole l none in
       let same : first_among (program_error c l) 0 (headers_of l) ≡ Some f = ap (first_among (program_error c l) 0) whole ∙ sym each ∙ is in
       elim (first-checked (program_cost l) (program_error c l) (programs_unverified c) limits.program_bytes (headers_of l) f same) [
         | inl first ↦ inl first
-        | inr limit ↦ inr (record { container = c; header = limit.0; is = limit.1 })
+        | inr limit ↦ inr (record {
+          container = c;
+          contained = contained;
+          loader = l;
+          loaded = loaded;
+          header = limit.reached;
+          there = (let there = limit.there in omega (arith, there, whole));
+          readable = λ k under. none-mapped (program_finding c k) (program_refused l k) (same-at k ∙ limit.none k under);
+          before = limit.stops.before;
+          past = (let next : limit.reached + 1 ≡ suc limit.reached = omega arith in rw next limit.stops.past);
+          is = limit.is;
+        })
       ]
     where
       same-at : (k : ℕ) → option_map (program_finding c k) (program_refused l k) ≡ program_error c l k
@@ -122,61 +159,61 @@ module _ (limits : Limits) (c : Contained) (l : Loaded) where
       let found : loader.findings_of c.header.instantiated_section_count c.loader ≡ loader.findings_in l = rw opens refl in
       ap first_fault (sym found) ∙ loader_laws.first_is_reported c.header.instantiated_section_count c.loader
 
-  first-opened : (r : Result Loaded LoaderFault) (f : Finding) → loader.partial_of c.header.instantiated_section_count c.loader ≡ Ok l → loaded_of c.header.instantiated_section_count c.loader ≡ r → first_of_loader c r ≡ Some f → IsFirst (loader_errors limits c l) f
+  first-opened : (r : Result Loaded LoaderFault) (f : Finding) → loader.partial_of c.header.instantiated_section_count c.loader ≡ Ok l → loaded_of c.header.instantiated_section_count c.loader ≡ r → first_of_loader c r ≡ Some f → IsFirst limits bytes (loader_errors limits c l) f
   first-opened (Err fault) f opens read is = inl (first-here (map (loader_finding c) (loader.findings_in l)) (program_errors limits c l ++ (image_errors limits c ++ run_errors limits c l)) f
       (first-map (loader_finding c) (loader.findings_in l) ∙ ap (option_map (loader_finding c)) (first-found opens ∙ ap result_err read) ∙ is))
   first-opened (Ok m) f opens read is =
       let none : first_fault (loader.findings_in l) ≡ None = first-found opens ∙ ap result_err read in
       let sound = loader_laws.unrefused_loader c.header.instantiated_section_count c.loader l opens (ap result_err read) in
       let same : m ≡ l = cc (read, sound) in
-      let first = first-programs f (none-first (loader.findings_in l) none) (ap (first_program c) (sym same) ∙ is) in
-      is-later (map (loader_finding c) (loader.findings_in l)) (program_errors limits c l ++ (image_errors limits c ++ run_errors limits c l)) f (first-map (loader_finding c) (loader.findings_in l) ∙ ap (option_map (loader_finding c)) none)
-      (is-here (program_errors limits c l) (image_errors limits c ++ run_errors limits c l) f first)
+      let first = first-programs f sound (none-first (loader.findings_in l) none) (ap (first_program c) (sym same) ∙ is) in
+      is-later limits bytes (map (loader_finding c) (loader.findings_in l)) (program_errors limits c l ++ (image_errors limits c ++ run_errors limits c l)) f (first-map (loader_finding c) (loader.findings_in l) ∙ ap (option_map (loader_finding c)) none)
+      (is-here limits bytes (program_errors limits c l) (image_errors limits c ++ run_errors limits c l) f first)
 
 -- the errors behind those of a container
-first-tables : (limits : Limits) (c : Contained) (r : Result Loaded LoaderFault) (f : Finding) → loader.partial_of c.header.instantiated_section_count c.loader ≡ r → first_of_loader c (loaded_of c.header.instantiated_section_count c.loader) ≡ Some f → IsFirst (tables_errors limits c r) f
+first-tables : (limits : Limits) (bytes : List ℕ) (c : Contained) (r : Result Loaded LoaderFault) (f : Finding) → container_of bytes ≡ Ok c → loader.partial_of c.header.instantiated_section_count c.loader ≡ r → first_of_loader c (loaded_of c.header.instantiated_section_count c.loader) ≡ Some f → IsFirst limits bytes (tables_errors limits c r) f
 unfolding loader.findings_of
-first-tables limits c (Ok l) f opens is = first-opened limits c l (loaded_of c.header.instantiated_section_count c.loader) f opens refl is
-first-tables limits c (Err g) f opens is =
+first-tables limits bytes c (Ok l) f contained opens is = first-opened limits bytes c l contained (loaded_of c.header.instantiated_section_count c.loader) f opens refl is
+first-tables limits bytes c (Err g) f contained opens is =
     let found : loader.findings_of c.header.instantiated_section_count c.loader ≡ g ∷ [] = rw opens refl in
     by (loaded_of c.header.instantiated_section_count c.loader) (ap first_fault (sym found) ∙ loader_laws.first_is_reported c.header.instantiated_section_count c.loader) is
   where
-    by : (r : Result Loaded LoaderFault) → Some g ≡ result_err r → first_of_loader c r ≡ Some f → IsFirst (loader_finding c g ∷ image_errors limits c) f
+    by : (r : Result Loaded LoaderFault) → Some g ≡ result_err r → first_of_loader c r ≡ Some f → IsFirst limits bytes (loader_finding c g ∷ image_errors limits c) f
     by (Ok l) same is = absurd (cc same)
     by (Err h) same is = inl (ap (option_map (loader_finding c)) same ∙ is)
 
 -- those of a container
-first-container : (limits : Limits) (bytes : List ℕ) (c : Contained) (r : Result Contained ViewFault) (f : Finding) → views.partial_of bytes ≡ Ok c → container_of bytes ≡ r → first_of_container r ≡ Some f → IsFirst (errors_in limits c) f
+first-container : (limits : Limits) (bytes : List ℕ) (c : Contained) (r : Result Contained ViewFault) (f : Finding) → views.partial_of bytes ≡ Ok c → container_of bytes ≡ r → first_of_container r ≡ Some f → IsFirst limits bytes (errors_in limits c) f
 unfolding views.findings_of
 first-container limits bytes c r f opens read is =
     let found : views.findings_of bytes ≡ views.findings_in c = rw opens refl in
     by r read (ap first_fault (sym found) ∙ view_laws.first_is_reported bytes ∙ ap result_err read) is
   where
-    by : (r : Result Contained ViewFault) → container_of bytes ≡ r → first_fault (views.findings_in c) ≡ result_err r → first_of_container r ≡ Some f → IsFirst (errors_in limits c) f
+    by : (r : Result Contained ViewFault) → container_of bytes ≡ r → first_fault (views.findings_in c) ≡ result_err r → first_of_container r ≡ Some f → IsFirst limits bytes (errors_in limits c) f
     by (Err fault) read first is = inl (first-here (map view_finding (views.findings_in c)) (behind_errors limits c) f (first-map view_finding (views.findings_in c) ∙ ap (option_map view_finding) first ∙ is))
     by (Ok d) read none is =
         let sound = view_laws.unrefused_container bytes c opens (ap result_err read) in
         let same : d ≡ c = cc (read, sound) in
         let clean = none-first (views.findings_in c) none in
         let behind : behind_errors limits c ≡ tables_errors limits c (loader.partial_of c.header.instantiated_section_count c.loader) = rw (found_there c clean, allowed_is c clean) refl in
-        let first = first-tables limits c (loader.partial_of c.header.instantiated_section_count c.loader) f refl (ap (λ (k : Contained). first_of_loader k (loaded_of k.header.instantiated_section_count k.loader)) (sym same) ∙ is) in
-        is-later (map view_finding (views.findings_in c)) (behind_errors limits c) f (first-map view_finding (views.findings_in c) ∙ ap (option_map view_finding) none)
-        (subst (λ errors. IsFirst errors f) (sym behind) first)
+        let first = first-tables limits bytes c (loader.partial_of c.header.instantiated_section_count c.loader) f sound refl (ap (λ (k : Contained). first_of_loader k (loaded_of k.header.instantiated_section_count k.loader)) (sym same) ∙ is) in
+        is-later limits bytes (map view_finding (views.findings_in c)) (behind_errors limits c) f (first-map view_finding (views.findings_in c) ∙ ap (option_map view_finding) none)
+        (subst (λ errors. IsFirst limits bytes errors f) (sym behind) first)
 
-pub first_within_is_reported : (limits : Limits) (bytes : List ℕ) (f : Finding) → first_reported bytes ≡ Some f → (first_fault (errors_within limits bytes) ≡ Some f) ⊎ IsLimit (first_fault (errors_within limits bytes))
+pub first_within_is_reported : (limits : Limits) (bytes : List ℕ) (f : Finding) → first_reported bytes ≡ Some f → (first_fault (errors_within limits bytes) ≡ Some f) ⊎ IsLimit limits bytes (first_fault (errors_within limits bytes))
 unfolding errors_within first_reported views.findings_of
 first_within_is_reported limits bytes f is = by (views.partial_of bytes) refl
   where
-    unopened : (g : ViewFault) (r : Result Contained ViewFault) → Some g ≡ result_err r → first_of_container r ≡ Some f → IsFirst (view_finding g ∷ []) f
+    unopened : (g : ViewFault) (r : Result Contained ViewFault) → Some g ≡ result_err r → first_of_container r ≡ Some f → IsFirst limits bytes (view_finding g ∷ []) f
     unopened g (Ok c) same is = absurd (cc same)
     unopened g (Err h) same is = inl (ap (option_map view_finding) same ∙ is)
 
-    by : (r : Result Contained ViewFault) → views.partial_of bytes ≡ r → IsFirst (opened_errors limits r) f
+    by : (r : Result Contained ViewFault) → views.partial_of bytes ≡ r → IsFirst limits bytes (opened_errors limits r) f
     by (Ok c) opens = first-container limits bytes c (container_of bytes) f opens refl is
     by (Err g) opens =
         let found : views.findings_of bytes ≡ g ∷ [] = rw opens refl in
         unopened g (container_of bytes) (ap first_fault (sym found) ∙ view_laws.first_is_reported bytes) is
 
-pub first_is_reported : (bytes : List ℕ) (f : Finding) → first_reported bytes ≡ Some f → (first_fault (errors_of bytes) ≡ Some f) ⊎ IsLimit (first_fault (errors_of bytes))
+pub first_is_reported : (bytes : List ℕ) (f : Finding) → first_reported bytes ≡ Some f → (first_fault (errors_of bytes) ≡ Some f) ⊎ IsLimit container_limits bytes (first_fault (errors_of bytes))
 unfolding errors_of
 first_is_reported bytes f is = first_within_is_reported container_limits bytes f is

@@ -1,3 +1,4 @@
+mod Apart
 mod ExtentLemmas
 mod FirstLemmas
 pub mod Laws

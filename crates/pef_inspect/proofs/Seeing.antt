@@ -53,9 +53,6 @@ pub record Walked (before words : List (ℕ × ℕ)) (seen : BTreeSet (ℕ × �
   pub first : first_again before words ≡ option_or again (first_again passed left)
   pub same : (q : ℕ × ℕ) → is_among (before ++ words) q ≡ is_among (passed ++ left) q
 
-pub walked_first : (before words : List (ℕ × ℕ)) (seen : BTreeSet (ℕ × ℕ)) → IsSeen seen before → Walked before words seen None words
-walked_first before words seen is = record { passed = before; keys = is; first = refl; same = λ q. refl }
-
 -- a word that is there is the first that comes again, if none did before it
 pub walked_again : (before words : List (ℕ × ℕ)) (seen after : BTreeSet (ℕ × ℕ)) (again : Option (ℕ × ℕ)) (word : ℕ × ℕ) (left : List (ℕ × ℕ)) →
     Walked before words seen again (word ∷ left) → Updates word_cmp seen after word true → is_some again ≡ false → contains word_cmp seen word ≡ true → Walked before words after (Some word) left

@@ -1,10 +1,14 @@
--- A container without errors is sound.
-use Rattle.std.proofs.Common.{◌≡◌, ◌∙◌, ℕ, ◌<◌, ◌≤◌, Bool, true, false, cond, List, [], ◌∷◌, map, length, Option, None, Some, refl, sym, arith}
-use Rattle.std.specs.Prelude.{Result, Ok, Err, nat_lt}
+-- A container without errors is sound, and a sound container has none.
+use Rattle.std.proofs.Common.{◌≡◌, ◌∙◌, ℕ, ◌<◌, ◌≤◌, Bool, true, false, cond, List, [], ◌∷◌, map, length, Option, None, Some, inl, inr, refl, sym, ap, subst, arith}
+use Rattle.std.specs.Prelude.{Result, Ok, Err, nat_lt, ◌++◌, ◌⊎◌}
+use Rattle.std.specs.Result.{result_err}
+use Rattle.std.specs.List.{AllByRecursion}
 use Rattle.std.specs.Option.{is_none, option_map, option_or, option_to_list}
 use Rattle.std.proofs.lemmas.Bool.{ltb-false, le-leb}
 use Rattle.pef_words.specs.Findings.{all_among, all_met, first_fault}
 use Rattle.pef_words.proofs.Laws.Findings.{none-among, none-append, none-map}
+use Rattle.pef_words.proofs.Laws.Lists.{all-append}
+use Rattle.std.proofs.lemmas.List.{append-nil}
 use Rattle.pef_views.specs.Container.{Contained, any_loader, container_of, loader_of}
 use Rattle.pef_views.specs.Partial as views
 use Rattle.pef_views.specs.Section.{raw_of}
@@ -19,10 +23,12 @@ use Rattle.pef_loader.specs.declared.fault.LoaderFault.TheVariants.{BadTableOffs
 use Rattle.pef_loader.proofs.Laws as loader_laws
 use Rattle.pef_inspect.specs.declared.finding.Finding.{Finding}
 use Rattle.pef_inspect.specs.Errors.{behind_errors, errors_in, errors_of, errors_within, headers_of, image_cost, image_error, image_errors, images_unverified, loader_errors, opened_errors, program_cost, program_error, program_errors, programs_reached, programs_unverified, run_cost, run_error, run_errors, tables_errors}
-use Rattle.pef_inspect.specs.Findings.{loader_finding, view_finding}
+use Rattle.pef_inspect.specs.Findings.{is_error, loader_finding, program_finding, image_finding, view_finding}
 use Rattle.pef_inspect.specs.Limits.{checked_within, container_limits, rest_of, within}
+use Rattle.pef_inspect.specs.Oddities.{runs_reached}
 use Rattle.pef_inspect.specs.declared.limits.Limits.{Limits}
-use Rattle.pef_inspect.specs.Sound.{IsSound}
+use Rattle.pef_inspect.specs.Sound.{FitPrograms, IsSound, NoFalseAlarm, OnlyImages}
+use Rattle.pef_inspect.proofs.Within.{checked-none, rest-none, within-all, within-below}
 
 none-met : {F : Type 0} (test : Bool) (fault : F) → all_met ((test, fault) ∷ []) ≡ [] → test ≡ false
 none-met true fault none = absurd (cc none)
@@ -32,7 +38,7 @@ none-listed : {F : Type 0} (o : Option F) → option_to_list o ≡ [] → o ≡ 
 none-listed None none = refl
 none-listed (Some x) none = absurd (cc none)
 
-none-mapped : {A B : Type 0} (f : A → B) (o : Option A) → option_map f o ≡ None → o ≡ None
+pub none-mapped : {A B : Type 0} (f : A → B) (o : Option A) → option_map f o ≡ None → o ≡ None
 none-mapped f None none = refl
 none-mapped f (Some x) none = absurd (cc none)
 
@@ -61,6 +67,10 @@ all-checked cost error unchecked most count none =
 
 first-none : {F : Type 0} (xs : List F) → xs ≡ [] → first_fault xs ≡ None
 first-none xs none = rw none refl
+
+pub none-first : {F : Type 0} (xs : List F) → first_fault xs ≡ None → xs ≡ []
+none-first [] none = refl
+none-first (x ∷ xs) none = absurd (cc none)
 
 -- the container is one
 found_none : (bytes : List ℕ) (c : Contained) → views.partial_of bytes ≡ Ok c → views.findings_in c ≡ [] → views.findings_of bytes ≡ []
@@ -146,3 +156,119 @@ no_errors_within_sound limits bytes none = by (views.partial_of bytes) refl none
 pub no_errors_sound : (bytes : List ℕ) → errors_of bytes ≡ [] → IsSound bytes
 unfolding errors_of
 no_errors_sound bytes none = no_errors_within_sound container_limits bytes none
+
+-- what is found in a sound container
+module _ (bytes : List ℕ) (s : IsSound bytes) where
+  sound-opens : views.partial_of bytes ≡ Ok s.container
+  sound-opens = view_laws.whole_container bytes s.container s.contained
+
+  sound-views : views.findings_in s.container ≡ []
+  unfolding views.findings_of
+  sound-views =
+      let opens = sound-opens in
+      let found : views.findings_of bytes ≡ views.findings_in s.container = rw opens refl in
+      none-first (views.findings_in s.container) (ap first_fault (sym found) ∙ view_laws.first_is_reported bytes ∙ ap result_err s.contained)
+
+  sound-partial : loader.partial_of s.container.header.instantiated_section_count s.container.loader ≡ Ok s.loader
+  sound-partial =
+      let is = loader_laws.loaded_of-ok s.container.header.instantiated_section_count s.container.loader s.loader s.loaded in
+      rw (is.1, is.2) (loader_laws.whole_loader s.loader is.0)
+
+  sound-tables-none : loader.findings_in s.loader ≡ []
+  unfolding loader.findings_of
+  sound-tables-none =
+      let opens = sound-partial in
+      let found : loader.findings_of s.container.header.instantiated_section_count s.container.loader ≡ loader.findings_in s.loader = rw opens refl in
+      none-first (loader.findings_in s.loader) (ap first_fault (sym found) ∙ loader_laws.first_is_reported s.container.header.instantiated_section_count s.container.loader ∙ ap result_err s.loaded)
+
+-- the note on parts that weren't checked is no error
+rest-notes : (unchecked : ℕ → Finding) → ((k : ℕ) → is_error (unchecked k) ≡ false) → (reached count : ℕ) → AllByRecursion (λ f. is_error f ≡ false) (rest_of unchecked reached count)
+rest-notes unchecked note reached count = by (nat_lt reached count)
+  where
+    by : (b : Bool) → AllByRecursion (λ f. is_error f ≡ false) (cond b (unchecked reached ∷ []) [])
+    by true = (note reached, tt)
+    by false = tt
+
+-- a part of a sound container has no error
+none-both : {A B : Type 0} (f : A → B) (o : Option A) → o ≡ None → option_map f o ≡ None
+none-both f o none = rw none refl
+
+module _ (limits : Limits) (bytes : List ℕ) (s : IsSound bytes) where
+  -- the notes where the verification ended
+  abbrev left_programs : List Finding
+  left_programs = rest_of (programs_unverified s.container) (programs_reached limits s.loader) (headers_of s.loader)
+
+  abbrev left_images : List Finding
+  left_images = rest_of (images_unverified s.container) (within (image_cost s.container) limits.packed_bytes 0 s.container.header.instantiated_section_count) s.container.header.instantiated_section_count
+
+  abbrev left_runs : List Finding
+  left_runs = rest_of (programs_unverified s.container) (runs_reached limits s.container s.loader) (programs_reached limits s.loader)
+
+  sound-whole : headers_of s.loader ≡ s.loader.header.reloc_count
+  sound-whole = tables_whole s.loader (sound-tables-none bytes s)
+
+  sound-programs : program_errors limits s.container s.loader ≡ left_programs
+  sound-programs = checked-none (program_cost s.loader) (program_error s.container s.loader) (programs_unverified s.container) limits.program_bytes (headers_of s.loader)
+      (λ k under. none-both (program_finding s.container k) _ (let whole = sound-whole in s.programs k (omega (arith, under, whole))))
+
+  sound-images : image_errors limits s.container ≡ left_images
+  sound-images = checked-none (image_cost s.container) (image_error s.container) (images_unverified s.container) limits.packed_bytes s.container.header.instantiated_section_count
+      (λ i under. none-both (image_finding s.container i) _ (s.images i under))
+
+  sound-runs : run_errors limits s.container s.loader ≡ left_runs
+  sound-runs = checked-none (run_cost s.container s.loader) (run_error s.container s.loader) (programs_unverified s.container) limits.steps (programs_reached limits s.loader)
+      (λ k under. none-both (program_finding s.container k) _ (let whole = sound-whole in let few = within-below (program_cost s.loader) limits.program_bytes 0 (headers_of s.loader) in s.runs k (omega (arith, under, whole, few))))
+
+  sound-in-loader : loader_errors limits s.container s.loader ≡ left_programs ++ (left_images ++ left_runs)
+  sound-in-loader = rw (sound-tables-none bytes s, sound-programs, sound-images, sound-runs) refl
+
+  sound-behind : behind_errors limits s.container ≡ loader_errors limits s.container s.loader
+  sound-behind =
+      let clean = sound-views bytes s in
+      rw (found_there s.container clean, allowed_is s.container clean, sound-partial bytes s) refl
+
+  -- what is found in a sound container are these notes
+  sound-found : errors_within limits bytes ≡ left_programs ++ (left_images ++ left_runs)
+  unfolding errors_within
+  sound-found =
+      let opens = sound-opens bytes s in
+      let clean = sound-views bytes s in
+      let first : errors_within limits bytes ≡ errors_in limits s.container = rw opens refl in
+      let behind : errors_in limits s.container ≡ behind_errors limits s.container = rw clean refl in
+      first ∙ behind ∙ sound-behind ∙ sound-in-loader
+
+  sound-notes : AllByRecursion (λ f. is_error f ≡ false) (left_programs ++ (left_images ++ left_runs))
+  sound-notes = all-append (λ f. is_error f ≡ false) left_programs (left_images ++ left_runs) (rest-notes (programs_unverified s.container) (λ k. refl) (programs_reached limits s.loader) (headers_of s.loader))
+      (all-append (λ f. is_error f ≡ false) left_images left_runs (rest-notes (images_unverified s.container) (λ k. refl) _ s.container.header.instantiated_section_count)
+      (rest-notes (programs_unverified s.container) (λ k. refl) (runs_reached limits s.container s.loader) (programs_reached limits s.loader)))
+
+  module _ (fit : FitPrograms limits s.container s.loader) where
+    all-programs : programs_reached limits s.loader ≡ headers_of s.loader
+    all-programs = (let whole = sound-whole in let fits = fit.bytes in within-all (program_cost s.loader) limits.program_bytes 0 (headers_of s.loader) (rw whole fits))
+
+    all-runs : runs_reached limits s.container s.loader ≡ programs_reached limits s.loader
+    all-runs = (let fits = fit.steps in within-all (run_cost s.container s.loader) limits.steps 0 (programs_reached limits s.loader) (rw (all-programs, sound-whole) fits))
+
+    only-images : errors_within limits bytes ≡ left_images
+    only-images =
+        let programs : left_programs ≡ [] = (let all = all-programs in rest-none (programs_unverified s.container) (programs_reached limits s.loader) (headers_of s.loader) (omega (arith, all))) in
+        let runs : left_runs ≡ [] = (let all = all-runs in rest-none (programs_unverified s.container) (runs_reached limits s.container s.loader) (programs_reached limits s.loader) (omega (arith, all))) in
+        sound-found ∙ rw (programs, runs) (append-nil left_images)
+
+-- no false alarm
+rest-of-few : (unchecked : ℕ → Finding) (reached count : ℕ) → (rest_of unchecked reached count ≡ []) ⊎ ((i : ℕ) × (rest_of unchecked reached count ≡ unchecked i ∷ []))
+rest-of-few unchecked reached count = by (nat_lt reached count)
+  where
+    by : (b : Bool) → (cond b (unchecked reached ∷ []) [] ≡ []) ⊎ ((i : ℕ) × (cond b (unchecked reached ∷ []) [] ≡ unchecked i ∷ []))
+    by true = inr (reached, refl)
+    by false = inl refl
+
+pub no_false_alarm : NoFalseAlarm
+no_false_alarm = record {
+  none = λ limits bytes s. subst (λ found. AllByRecursion (λ f. is_error f ≡ false) found) (sym (sound-found limits bytes s)) (sound-notes limits bytes s);
+  programs = λ limits bytes s fit. subst (OnlyImages s.container) (sym (only-images limits bytes s fit)) (rest-of-few (images_unverified s.container) _ s.container.header.instantiated_section_count);
+  all = λ limits bytes s fit images.
+      only-images limits bytes s fit
+      ∙ (let all = within-all (image_cost s.container) limits.packed_bytes 0 s.container.header.instantiated_section_count images in
+      rest-none (images_unverified s.container) _ s.container.header.instantiated_section_count (omega (arith, all)));
+}

@@ -1,5 +1,5 @@
 -- Findings that are taken one after the other.
-use Rattle.std.proofs.Common.{◌≡◌, ◌∙◌, ℕ, zero, suc, ◌+◌, Bool, true, false, List, [], ◌++◌, map, refl, sym, ap, append_assoc}
+use Rattle.std.proofs.Common.{◌≡◌, ◌∙◌, ℕ, zero, suc, ◌+◌, Bool, true, List, ◌++◌, map, refl, sym, ap, append_assoc}
 use Rattle.std.proofs.lemmas.List.{map-append}
 use Rattle.pef_words.specs.Findings.{all_among}
 use Rattle.pef_loader.specs.Partial.{if_whole}
@@ -16,10 +16,6 @@ map-among f g from (suc n) = map-append f (g from) (all_among g (from + 1) n) �
 -- the rows of a table that is whole
 pub rows-whole : {F G : Type 0} (f : F → G) (whole : Bool) (g : ℕ → List F) (n : ℕ) → whole ≡ true → all_among (λ i. map f (g i)) 0 n ≡ map f (if_whole whole (all_among g 0 n))
 rows-whole f whole g n is = rw is (sym (map-among f g 0 n))
-
--- those of one that isn't
-pub rows-cut : {F G : Type 0} (f : F → G) (whole : Bool) (g : ℕ → List F) (n : ℕ) → whole ≡ false → map f (if_whole whole (all_among g 0 n)) ≡ []
-rows-cut f whole g n is = rw is refl
 
 -- the errors of a container: header, sections, loader section, and those behind them
 pub container-parts : {F G : Type 0} (f : F → G) (xs ys : List F) (g : ℕ → List F) (n : ℕ) (rest : List G) → map f xs ++ (all_among (λ i. map f (g i)) 0 n ++ (map f ys ++ rest)) ≡ map f (xs ++ (all_among g 0 n ++ ys)) ++ rest

@@ -1,5 +1,5 @@
 -- Findings: errors and notes with their places.
-use Rattle.std.specs.Prelude.{ℕ, Bool, true, false, List, Some}
+use Rattle.std.specs.Prelude.{ℕ, ◌==◌, ◌||◌, Bool, true, false, List, Some}
 use Rattle.std.specs.Option.{unwrap_or}
 use Rattle.pef_format.specs.declared.place.Part.TheVariants as part
 use Rattle.pef_format.specs.declared.place.Place.{Place}
@@ -49,6 +49,10 @@ finding_name f = cause_name f.cause
 
 abbrev pub is_error : Finding → Bool
 is_error f = is_fault f.cause
+
+-- a note that programs or packed data weren't verified
+abbrev pub is_unverified : Finding → Bool
+is_unverified f = finding_number f == 110 || finding_number f == 111
 
 -- the place of a byte of a container
 abbrev pub whole_place : ℕ → Place

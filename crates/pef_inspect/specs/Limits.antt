@@ -35,6 +35,11 @@ abbrev pub within : (ℕ → ℕ) → ℕ → ℕ → ℕ → ℕ
 within cost left from zero = 0
 within cost left from (suc n) = if nat_lt left (cost from) then 0 else suc (within cost (left - cost from) (from + 1) n)
 
+-- what the n parts from one on cost together
+abbrev pub total : (ℕ → ℕ) → ℕ → ℕ → ℕ
+total cost from zero = 0
+total cost from (suc n) = cost from + total cost (from + 1) n
+
 -- what is left then: the limit less what the parts before the first that costs more cost
 abbrev pub left_within : (ℕ → ℕ) → ℕ → ℕ → ℕ → ℕ
 left_within cost left from zero = left

@@ -1,6 +1,6 @@
 //! Laws of the errors of a container. The functions do nothing.
 ghost use Rattle.pef_inspect.specs.First.{FirstIsReported, FirstIsReportedWithin};
-ghost use Rattle.pef_inspect.specs.Sound.{FindsAll, FindsAllWithin};
+ghost use Rattle.pef_inspect.specs.Sound.{FindsAll, FindsAllWithin, NoFalseAlarm, TellsApart};
 
 /// A container in which no error is found, and nothing is left unverified, is sound: nothing of it is refused when it is read,
 /// expanded or relocated.
@@ -26,4 +26,17 @@ pub fn no_errors_within_are_sound()
 #[tactic(auto, using(crate::proofs::FirstLemmas::first_within_is_reported))]
 pub fn first_error_within_is_reported()
     ensures { FirstIsReportedWithin }
+{}
+
+/// No error is found in a sound container, whatever the limits are. If they allow its programs and its packed data, nothing is
+/// left unverified either.
+#[tactic(auto, using(crate::proofs::Soundness::no_false_alarm))]
+pub fn sound_containers_have_no_errors()
+    ensures { NoFalseAlarm }
+{}
+
+/// What is found among the errors is an error, or the note that something wasn't verified. No note is an error.
+#[tactic(auto, using(crate::proofs::Apart::tells_apart))]
+pub fn errors_and_notes_are_apart()
+    ensures { TellsApart }
 {}

@@ -54,14 +54,10 @@ prepare_note (prepare_fault.Bind f) = bind_note f
 prepare_note (prepare_fault.Fragment f) = fragment_note f
 prepare_note _ = note.Nothing
 
--- that of a file that couldn't be written, and of one that couldn't be read
-abbrev pub unwritten_note : FileReason → Note
-unwritten_note reason.Other = note.Nothing
-unwritten_note why = note.File why
-
+-- that of a file that couldn't be read
 abbrev pub unread_note : FileReason → Note
 unread_note reason.Folder = note.Folder
-unread_note why = unwritten_note why
+unread_note why = note.File why
 
 -- what is known of an error
 unfoldable pub note_of : Fault → Note
@@ -69,7 +65,7 @@ note_of (fault.Script f text) = script_fault_note f text.now
 note_of (fault.Listing f) = list_note f
 note_of (fault.Prepare f) = prepare_note f
 note_of (fault.Unreadable path why) = unread_note why
-note_of (fault.Unwritable path why) = unwritten_note why
+note_of (fault.Unwritable path why) = note.File why
 note_of _ = note.Nothing
 
 -- the versions that a fragment needs of a library, and those of the library
