@@ -488,6 +488,27 @@ static void read_connection(struct pef_context *context, uint32_t connection)
     }
 }
 
+/* Asks for what is missing, and asks again with too few places. */
+static void ask(struct pef_context *context, const char *name)
+{
+    struct pef_names told = PEF_NO_NAMES;
+    struct pef_missing rows[PEF_MAX_FRAGMENTS], one = {0};
+    size_t count = 0, few = 0;
+    memset(rows, 0, sizeof rows);
+    if (!is_ok("pef_missing", pef_missing(context, (const uint8_t *)name, strlen(name), 0, rows, PEF_MAX_FRAGMENTS, &count, &told)))
+        return;
+    if (pef_missing(context, (const uint8_t *)name, strlen(name), 0, &one, 1, &few, &told) != PEF_OK || few != (count > 0))
+        fails("pef_missing, with one place", (uint32_t)few);
+    for (size_t i = 0; i < count; i++) {
+        struct pef_bytes fragment = PEF_NO_BYTES;
+        if (pef_fragment_name(context, rows[i].fragment, &fragment) != PEF_OK)
+            fails("pef_missing, its fragment", (uint32_t)i);
+        for (size_t k = 0; k < i && i < 32; k++)
+            if (rows[k].name.length == rows[i].name.length && memcmp(rows[k].name.at, rows[i].name.at, rows[i].name.length) == 0)
+                fails("pef_missing, a name twice", (uint32_t)i);
+    }
+}
+
 /* One call on a context: what it is, and two numbers for it. */
 static void call(struct pef_context *context, uint8_t what, uint8_t one, uint8_t other)
 {
@@ -510,6 +531,7 @@ static void call(struct pef_context *context, uint8_t what, uint8_t one, uint8_t
         break;
     case 4:
     case 5:
+        ask(context, name);
         if (is_ok("pef_prepare", pef_prepare(context, (const uint8_t *)name, strlen(name), &connection, &told)))
             read_connection(context, connection);
         break;

@@ -959,6 +959,39 @@ struct pef_names {
 #define PEF_NO_NAMES {PEF_NO_BYTES, PEF_NO_BYTES, PEF_NO_BYTES}
 
 /*
+ * A library that a fragment names, and that no fragment of the context serves: its name, the number of the fragment that names it,
+ * and the versions of the library that this fragment was linked with. If `is_weak` is true, the fragment can be prepared without it.
+ *
+ * If `is_found` is true, a fragment has the library's name, but its versions don't fit: `found_version` and
+ * `found_old_def_version`. Otherwise no fragment has the name, and both are 0.
+ */
+struct pef_missing {
+    struct pef_bytes name;
+    size_t fragment;
+    uint32_t current_version;
+    uint32_t old_imp_version;
+    uint32_t found_version;
+    uint32_t found_old_def_version;
+    bool is_weak;
+    bool is_found;
+};
+
+/*
+ * Gives the libraries that are missing for the fragment of a name and for all that it needs, in the order in which pef_prepare()
+ * looks for them, each name once: those from number `from` on in the first of `places`, and how many they were in `*count`, which
+ * is as many as there are from there on, or as there are places. The other places are left unchanged. Weak ones are among them.
+ *
+ * Ask before pef_prepare(), add what you have, and ask again, since what was added may name other libraries. If all that is missing
+ * then is weak, the preparation isn't refused for a library. Weak libraries have to be added now: later pef_add() returns
+ * PEF_ADDED_TOO_LATE.
+ *
+ * Returns PEF_OK; or PEF_ROOT_MISSING, if no fragment has the name; or the first refusal (1 to 20) of a fragment that can't be read;
+ * or PEF_OUT_OF_MEMORY. If it isn't PEF_OK, `*names` has the names that belong to it, and `places` and `*count` are unchanged. What was
+ * read is kept for later calls; otherwise the context is unchanged.
+ */
+uint32_t pef_missing(struct pef_context *context, const uint8_t *name, size_t name_length, size_t from, struct pef_missing *places, size_t place_count, size_t *count, struct pef_names *names);
+
+/*
  * Prepares the fragment of a name and all that it needs: places them, fills them and relocates them, unless they are
  * present already.
  *

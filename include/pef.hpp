@@ -37,6 +37,7 @@ using place = struct ::pef_place;
 using placed_section = struct ::pef_fragment_section;
 using entries = struct ::pef_entries;
 using target = struct ::pef_target;
+using missing_library = struct ::pef_missing;
 using options = struct ::pef_options;
 using forks = struct ::pef_forks;
 using resource = struct ::pef_resource;
@@ -279,6 +280,21 @@ public:
         }
     }
     void reserve(uint32_t address, uint32_t size) { check(pef_reserve(&state_->it, address, size)); }
+    /* The libraries that are missing for a fragment and for all that it needs. Throws 60, 1 to 20 with the fragment's name, or 99. */
+    std::vector<missing_library> missing(bytes name)
+    {
+        std::vector<missing_library> rows;
+        for (size_t room = 64, count = room; count == room;) {
+            struct ::pef_names names = PEF_NO_NAMES;
+            size_t from = rows.size();
+            rows.resize(from + room);
+            uint32_t answer = pef_missing(&state_->it, name.data(), name.size(), from, rows.data() + from, room, &count, &names);
+            if (answer != PEF_OK)
+                throw error(answer, error::nowhere(), names);
+            rows.resize(from + count);
+        }
+        return rows;
+    }
     /* Throws what pef_prepare_with_place() reports, with its names and its place. */
     connection prepare(bytes name);
     bool is_present(bytes name) const

@@ -24,6 +24,7 @@ static void expect_not_open(struct pef_context *context)
     struct pef_fragment_section section = {0};
     struct pef_entries entries = {0};
     struct pef_target target = {.kind = 7};
+    struct pef_missing missing = {.fragment = 7};
     uint32_t connection = 7, address = 7;
     size_t order[1] = {7}, count = 7;
     uint8_t room[1] = {7};
@@ -41,6 +42,7 @@ static void expect_not_open(struct pef_context *context)
     expect(pef_fragment_entries(context, 0, 0, &entries) == PEF_NOT_OPEN, "pef_fragment_entries on a closed context");
     expect(pef_fragment_symbol(context, 0, 0, room, 1, &address) == PEF_NOT_OPEN, "pef_fragment_symbol on a closed context");
     expect(pef_reserve(context, 0, 1) == PEF_NOT_OPEN, "pef_reserve on a closed context");
+    expect(pef_missing(context, room, 1, 0, &missing, 1, &count, &names) == PEF_NOT_OPEN && missing.fragment == 7, "pef_missing on a closed context");
     expect(pef_new_fragments(context, 0, order, 1, &count) == PEF_NOT_OPEN, "pef_new_fragments on a closed context");
     expect(pef_released_by(context, 0, order, 1, &count) == PEF_NOT_OPEN, "pef_released_by on a closed context");
     expect(pef_import_target(context, 0, 0, 0, &target) == PEF_NOT_OPEN, "pef_import_target on a closed context");

@@ -46,6 +46,9 @@ static const struct number places[] = {
     SIZE(pef_listing, 16), AT(pef_listing, handle, 0), AT(pef_listing, is_open, 8),
     SIZE(pef_report, 16), AT(pef_report, handle, 0), AT(pef_report, is_open, 8),
     SIZE(pef_names, 48), AT(pef_names, fragment, 0), AT(pef_names, library, 16), AT(pef_names, symbol, 32),
+    SIZE(pef_missing, 48), AT(pef_missing, name, 0), AT(pef_missing, fragment, 16), AT(pef_missing, current_version, 24),
+    AT(pef_missing, old_imp_version, 28), AT(pef_missing, found_version, 32), AT(pef_missing, found_old_def_version, 36),
+    AT(pef_missing, is_weak, 40), AT(pef_missing, is_found, 41),
     SIZE(pef_fragment_section, 24), AT(pef_fragment_section, address, 0), AT(pef_fragment_section, size, 8),
     AT(pef_fragment_section, kind, 16), AT(pef_fragment_section, share, 17),
     SIZE(pef_target, 32), AT(pef_target, kind, 0), AT(pef_target, fragment, 8), AT(pef_target, section, 16),
@@ -464,6 +467,38 @@ static void test_target(void)
     COMPARE(numbers);
 }
 
+/* A library that is there in a version that doesn't fit, and that a library of the fragment names. */
+static void test_missing(void)
+{
+    struct pef_context context = {0};
+    struct pef_names names = PEF_NO_NAMES;
+    struct pef_missing it = {0};
+    size_t count = 7;
+    uint32_t opened = pef_open(&context, 0x10000000);
+    uint32_t user = add_script(&context, "User", "library L 0 0 -\n");
+    uint32_t library = add_script(&context, "L", "library M 5 4 weak\n");
+    uint32_t other = add_script(&context, "M", "versions 3 2 1\n");
+    uint32_t answer = pef_missing(&context, (const uint8_t *)"User", 4, 0, &it, 1, &count, &names);
+    pef_free(&context);
+    const struct number numbers[] = {
+        {"pef_open", opened, PEF_OK},
+        {"pef_add, of the user", user, PEF_OK},
+        {"pef_add, of the library", library, PEF_OK},
+        {"pef_add, of its library", other, PEF_OK},
+        {"pef_missing", answer, PEF_OK},
+        {"count", count, 1},
+        {"pef_missing.name", is_named(it.name, "M"), true},
+        {"pef_missing.fragment", it.fragment, 1},
+        {"pef_missing.current_version", it.current_version, 5},
+        {"pef_missing.old_imp_version", it.old_imp_version, 4},
+        {"pef_missing.found_version", it.found_version, 3},
+        {"pef_missing.found_old_def_version", it.found_old_def_version, 2},
+        {"pef_missing.is_weak", it.is_weak, true},
+        {"pef_missing.is_found", it.is_found, true},
+    };
+    COMPARE(numbers);
+}
+
 /* A symbol that a library lacks is reported with all three names. */
 static void test_names(void)
 {
@@ -505,6 +540,7 @@ int main(void)
     test_listing();
     test_entries();
     test_target();
+    test_missing();
     test_names();
     printf("%zu numbers, %zu of them differ\n", compared, different);
     return different == 0 ? 0 : 1;

@@ -1,6 +1,6 @@
 /*
  * Prepares fragments whose scripts are here, and compares what a context says of them with what is written by hand: sections, memory,
- * entry points, imports and exports; what is new, present and released; addresses out of use; options; and refusals with their names.
+ * entry points, imports and exports; what is missing, new, present and released; addresses out of use; options; and refusals with their names.
  * What differs is printed, a line each, and the status is then 1.
  */
 #include "expect.h"
@@ -233,6 +233,52 @@ static void test_meanings(void)
     EXPECT(pef_export_address(&context, 0, 1, 0, &address) == PEF_NOT_OPEN);
 }
 
+/* Names a weak library, one that needs another weak one and the first, and one of another version. */
+static const char lacking[] =
+    "library W 1 0 weak\n"
+    "library V 1 0 -\n"
+    "library S 7 5 -\n";
+
+static bool is_missing(struct pef_missing found, const char *name, struct pef_missing wanted)
+{
+    return is_named(found.name, name) && found.fragment == wanted.fragment && found.current_version == wanted.current_version
+        && found.old_imp_version == wanted.old_imp_version && found.found_version == wanted.found_version
+        && found.found_old_def_version == wanted.found_old_def_version && found.is_weak == wanted.is_weak && found.is_found == wanted.is_found;
+}
+
+/* What is missing is asked for before a preparation, from any number on, and once more when something was added. */
+static void test_missing(void)
+{
+    static const struct pef_missing unread = {PEF_NO_BYTES, 7, 7, 7, 7, 7, true, true};
+    struct pef_context context = PEF_NO_CONTEXT;
+    struct pef_names names = PEF_NO_NAMES;
+    struct pef_missing rows[3] = {unread, unread, unread};
+    size_t count = 7;
+    EXPECT(pef_open(&context, limit) == PEF_OK);
+    EXPECT(pef_missing(&context, TEXT("A"), 0, rows, 3, &count, &names) == PEF_ROOT_MISSING);
+    EXPECT(count == 7 && is_missing(rows[0], "", unread));
+    add(&context, "A", lacking);
+    EXPECT(pef_missing(&context, TEXT("A"), 0, rows, 2, &count, &names) == PEF_OK && count == 2);
+    EXPECT(is_missing(rows[0], "W", (struct pef_missing){PEF_NO_BYTES, 0, 1, 0, 0, 0, true, false}));
+    EXPECT(is_missing(rows[1], "V", (struct pef_missing){PEF_NO_BYTES, 0, 1, 0, 0, 0, false, false}));
+    EXPECT(is_missing(rows[2], "", unread));
+    EXPECT(pef_missing(&context, TEXT("A"), 2, rows, 3, &count, &names) == PEF_OK && count == 1);
+    EXPECT(is_missing(rows[0], "S", (struct pef_missing){PEF_NO_BYTES, 0, 7, 5, 0, 0, false, false}));
+    EXPECT(pef_missing(&context, TEXT("A"), 3, NULL, 0, &count, &names) == PEF_OK && count == 0);
+    add(&context, "V", "versions 1 0 0\nlibrary X 1 0 weak\nlibrary W 2 1 -\n");
+    add(&context, "S", "versions 3 2 0\n");
+    EXPECT(pef_missing(&context, TEXT("A"), 0, rows, 3, &count, &names) == PEF_OK && count == 3);
+    EXPECT(is_missing(rows[0], "W", (struct pef_missing){PEF_NO_BYTES, 1, 2, 1, 0, 0, false, false}));
+    EXPECT(is_missing(rows[1], "X", (struct pef_missing){PEF_NO_BYTES, 1, 1, 0, 0, 0, true, false}));
+    EXPECT(is_missing(rows[2], "S", (struct pef_missing){PEF_NO_BYTES, 0, 7, 5, 3, 2, false, true}));
+    EXPECT(pef_missing(&context, TEXT("S"), 0, rows, 3, &count, &names) == PEF_OK && count == 0);
+    EXPECT(pef_add(&context, TEXT("W"), TEXT("")) == PEF_OK);
+    EXPECT(pef_missing(&context, TEXT("A"), 0, rows, 3, &count, &names) == PEF_TOO_SHORT && count == 0);
+    EXPECT(is_named(names.fragment, "W"));
+    pef_free(&context);
+    EXPECT(pef_missing(&context, TEXT("A"), 0, rows, 3, &count, &names) == PEF_NOT_OPEN && count == 0);
+}
+
 /* A library isn't added while a connection is open that was prepared without it. */
 static void test_added_too_late(void)
 {
@@ -369,6 +415,7 @@ int main(void)
     test_present();
     test_reserved();
     test_meanings();
+    test_missing();
     test_added_too_late();
     test_refused();
     test_symbol_missing();

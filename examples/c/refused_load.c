@@ -1,8 +1,8 @@
 /*
- * Refuses each growth in turn: refused_load NAME=FILE .. opens a context, adds the fragments and prepares the first, once for
- * each growth that these calls ask for. The call that lacks it has to return PEF_OUT_OF_MEMORY and to change nothing; or,
- * where it can do without the growth, to return what it returns with memory. The same call works when it is made again.
- * When the context is freed no block is left.
+ * Refuses each growth in turn: refused_load NAME=FILE .. opens a context, adds the fragments, asks what is missing and prepares
+ * the first, once for each growth that these calls ask for. The call that lacks it has to return PEF_OUT_OF_MEMORY and to change
+ * nothing; or, where it can do without the growth, to return what it returns with memory. The same call works when it is made
+ * again. When the context is freed no block is left.
  */
 #include "files.h"
 #include "heap.h"
@@ -40,6 +40,23 @@ static bool adds_all(struct pef_context *context, size_t *lacking)
     return answer == PEF_OK || wrong("adding", answer);
 }
 
+/* Asks what is missing for the first fragment. If memory is lacking, it is asked again. */
+static bool asks(struct pef_context *context, size_t *lacking)
+{
+    struct pef_names names = PEF_NO_NAMES;
+    struct pef_missing row = {.fragment = 7};
+    struct pef_bytes name = fragments[0].name;
+    size_t count = 7;
+    uint32_t answer = pef_missing(context, name.at, name.length, 0, &row, 1, &count, &names);
+    if (answer == PEF_OUT_OF_MEMORY) {
+        (*lacking)++;
+        if (count != 7 || row.fragment != 7 || names.fragment.length != 0)
+            return wrong("pef_missing writes without memory", answer);
+        answer = pef_missing(context, name.at, name.length, 0, &row, 1, &count, &names);
+    }
+    return (answer == PEF_OK && count <= 1) || wrong("asking", answer);
+}
+
 /* Prepares the first fragment. If memory is lacking, it is prepared again. */
 static bool prepares(struct pef_context *context, size_t *lacking)
 {
@@ -65,7 +82,7 @@ static bool is_right(size_t refused, size_t *lacking)
 {
     struct pef_context context = {0};
     refuse_growth(refused);
-    bool right = adds_all(&context, lacking) && prepares(&context, lacking);
+    bool right = adds_all(&context, lacking) && asks(&context, lacking) && prepares(&context, lacking);
     if (right && refused != 0 && !is_same(&told, &wanted))
         right = wrong("something else is told", 0);
     pef_free(&context);

@@ -260,6 +260,13 @@ static void call_reserve(void)
     answer = pef_reserve(&context, 0x10000, 0x100);
 }
 
+static void call_missing(void)
+{
+    static struct pef_missing missing[16];
+    static struct pef_names names;
+    answer = pef_missing(&context, (const uint8_t *)"0", 1, 0, missing, 16, &count, &names);
+}
+
 static void call_prepare(void)
 {
     static struct pef_names names;
@@ -307,6 +314,7 @@ static void call_open(void)
 /* Prepares the fragment 0 of the context. */
 static void measure_context(const char *what)
 {
+    measure("pef_missing", what, call_missing);
     measure("pef_prepare_with_place", what, call_prepare);
     measure("a reader of a context", what, call_readers);
     measure("pef_close", what, call_close);

@@ -96,6 +96,7 @@ static void test_context()
     context.add("Tools", tools);
     context.keep("App", std::move(app_bytes));
     context.reserve(0x10000, 16);
+    expect("nothing is missing", context.missing("App").empty());
     pef::connection app = context.prepare("App");
     expect("what is present", context.is_present("Tools") && !context.is_present("None"));
     std::vector<pef::fragment> all = app.fragments();
@@ -127,6 +128,8 @@ static void test_errors()
     pef::buffer app = pef::link(app_script);
     pef::context context;
     context.add("App", app);
+    expect("what is missing", context.missing("App").size() == 1 && pef::bytes(context.missing("App")[0].name) == "Tools");
+    expect("no fragment", thrown([&] { context.missing("None"); }).number == PEF_ROOT_MISSING);
     pef::error error = thrown([&] { context.prepare("App"); });
     expect("a library that is missing", error.number == PEF_LIBRARY_MISSING && error.fragment == "App" && error.library == "Tools" && error.where.part == PEF_LIBRARY_PART);
     expect("what it says", error.what() == std::string("61 LibraryMissing fragment App library Tools"));

@@ -200,17 +200,50 @@ static void make_traps(size_t fragment)
     }
 }
 
-/* Prepares a fragment. What is lacking is added from the folder, as long as it is found there. */
+/*
+ * Adds libraries that are missing from the folder, those that are there. Returns PEF_OK; or why one that has to be there isn't added. A
+ * weak one may stay away.
+ */
+static uint32_t add_libraries(const struct pef_missing missing[], size_t count, size_t *added)
+{
+    *added = 0;
+    for (size_t i = 0; i < count; i++) {
+        uint32_t answer = missing[i].is_found ? PEF_NOT_THERE : add_from_folder(missing[i].name);
+        if (answer == PEF_OK)
+            ++*added;
+        else if (answer != PEF_NOT_THERE && !missing[i].is_weak)
+            return answer;
+    }
+    return PEF_OK;
+}
+
+/* Adds what is missing for a fragment, weak or not, and what is missing for that, as long as something is found in the folder. */
+static uint32_t add_missing(struct pef_bytes name)
+{
+    struct pef_missing missing[ROWS];
+    struct pef_names names = PEF_NO_NAMES;
+    size_t from = 0, count = ROWS, added = 0;
+    while (added > 0 || count == ROWS) {
+        uint32_t answer = pef_missing(&context, name.at, name.length, from, missing, ROWS, &count, &names);
+        if (answer != PEF_OK)
+            return answer == PEF_ROOT_MISSING ? answer : PEF_OK; /* the preparation finds the others, too */
+        answer = add_libraries(missing, count, &added);
+        if (answer != PEF_OK)
+            return answer;
+        from = added > 0 ? 0 : from + count;
+    }
+    return PEF_OK;
+}
+
+/* Prepares a fragment, with all that is found in the folder of what it needs. */
 static uint32_t prepare(struct pef_bytes name, uint32_t *connection, struct pef_names *names)
 {
-    for (;;) {
-        uint32_t answer = pef_prepare(&context, name.at, name.length, connection, names);
-        if (answer != PEF_ROOT_MISSING && answer != PEF_LIBRARY_MISSING)
-            return answer;
-        uint32_t added = add_from_folder(answer == PEF_ROOT_MISSING ? name : names->library);
-        if (added != PEF_OK)
-            return added == PEF_NOT_THERE ? answer : added;
+    uint32_t answer = add_missing(name);
+    if (answer == PEF_ROOT_MISSING) {
+        answer = add_from_folder(name);
+        answer = answer == PEF_OK ? add_missing(name) : answer == PEF_NOT_THERE ? PEF_ROOT_MISSING : answer;
     }
+    return answer == PEF_OK ? pef_prepare(&context, name.at, name.length, connection, names) : answer;
 }
 
 uint32_t prepare_fragment(struct pef_bytes name, uint32_t *connection)

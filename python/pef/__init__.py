@@ -49,6 +49,7 @@ __all__ = [
     "Import",
     "ImportTarget",
     "Library",
+    "MissingLibrary",
     "Part",
     "PefError",
     "PlacedSection",
@@ -312,6 +313,14 @@ class _Names(ctypes.Structure):
     _fields_ = [("fragment", _Bytes), ("library", _Bytes), ("symbol", _Bytes)]
 
 
+class _Missing(ctypes.Structure):
+    _fields_ = [
+        ("name", _Bytes),
+        *_fields(size_t="fragment"),
+        *_fields(uint32="current_version old_imp_version found_version found_old_def_version", bool="is_weak is_found"),
+    ]
+
+
 class _FragmentSection(ctypes.Structure):
     _fields_ = _fields(uint32="address", size_t="size", uint8="kind share")
 
@@ -387,6 +396,7 @@ _CALLS: Dict[str, List[Any]] = {
     "pef_add": _IN_HANDLE + _IN * 2,
     "pef_prepare": _IN_HANDLE + _IN + [ctypes.POINTER(ctypes.c_uint32), ctypes.POINTER(_Names)],
     "pef_prepare_with_place": _IN_HANDLE + _IN + [ctypes.POINTER(ctypes.c_uint32), ctypes.POINTER(_Names), ctypes.POINTER(_Place)],
+    "pef_missing": _IN_HANDLE + _IN + [ctypes.c_size_t, ctypes.POINTER(_Missing), ctypes.c_size_t] + _SIZE + [ctypes.POINTER(_Names)],
     "pef_reserve": _IN_HANDLE + [ctypes.c_uint32] * 2,
     "pef_close": _IN_HANDLE + [ctypes.c_uint32],
     "pef_new_fragments": _IN_HANDLE + [ctypes.c_uint32] + _PLACES + _SIZE,
@@ -948,6 +958,24 @@ class ImportTarget:
     offset: Optional[int] = None
 
 
+@dataclasses.dataclass(frozen=True)
+class MissingLibrary:
+    """A library that a fragment names, and that no fragment of the context serves.
+
+    `fragment` is the name of the fragment that names it, and the versions are those of the library that this one was linked with. A
+    weak library may stay missing. If the context has a fragment with the library's name, its versions don't fit, and are
+    `found_version` and `found_old_def_version`; otherwise both are None.
+    """
+
+    name: str
+    fragment: str
+    current_version: int
+    old_imp_version: int
+    weak: bool
+    found_version: Optional[int] = None
+    found_old_def_version: Optional[int] = None
+
+
 class Fragment:
     """A fragment of a connection's closure. What is read of it after the connection is closed raises PefError."""
 
@@ -1167,6 +1195,35 @@ class Context:
         if not (0 <= address < 2**32 and 0 <= size < 2**32):
             raise ValueError("an address and a size have 32 bits")
         self._call("pef_reserve", address, size)
+
+    def missing(self, name: Text) -> List[MissingLibrary]:
+        """The libraries that are missing for a fragment and for all that it needs, in the order in which prepare() looks for them.
+
+        Each name is there once, and weak libraries are among them. Add those that you have, and ask again, since these may name
+        others; then prepare(). Raises PefError: 60 if no fragment has the name, 1 to 20 for a fragment that can't be read, or 99.
+        """
+        raw, room, count = _raw(name), 64, ctypes.c_size_t()
+        found: List[MissingLibrary] = []
+        with self._lock:  # the names are parts of what was added
+            while True:
+                rows, names = (_Missing * room)(), _Names(_no_bytes(), _no_bytes(), _no_bytes())
+                for it in rows:
+                    it.name = _no_bytes()
+                answer = library().pef_missing(
+                    ctypes.byref(self._context), raw, len(raw), len(found), rows, room, ctypes.byref(count), ctypes.byref(names)
+                )
+                _check(answer, fragment=names.fragment.text(), library=names.library.text(), symbol=names.symbol.text())
+                found += [self._missing(it) for it in rows[: count.value]]
+                if count.value < room:
+                    return found
+                room = min(2 * room, 1 << 16)
+
+    def _missing(self, row: _Missing) -> MissingLibrary:
+        fragment = _no_bytes()
+        self._call("pef_fragment_name", row.fragment, ctypes.byref(fragment))
+        it = MissingLibrary(row.name.text(), fragment.text(), row.current_version, row.old_imp_version, row.is_weak)
+        found = {"found_version": row.found_version, "found_old_def_version": row.found_old_def_version}
+        return dataclasses.replace(it, **found) if row.is_found else it
 
     def prepare(self, name: Text) -> Connection:
         """Opens a connection: places, fills and relocates what isn't present of a fragment and all that it needs.

@@ -5,14 +5,14 @@ use Rattle.std.specs.Option.{option_and_then, option_map_or}
 use Rattle.std.specs.Result.{result_ok}
 use Rattle.std.proofs.lemmas.Bool.{cases_lt}
 use Rattle.std.proofs.lemmas.Bool.Decides.{eqb_tells}
-use Rattle.std.proofs.lemmas.List.{get_or-append_right, get_or-set_other, get_or-set_same, get_or_append_left, get_or_default, get_or_past, length-append, length-replicate, length-set, length_push}
+use Rattle.std.proofs.lemmas.List.{get_or-append_right, get_or-set_other, get_or-set_same, get_or_append_left, get_or_past, length-append, length-replicate, length-set, length_push}
 use Rattle.std.proofs.lemmas.List.Elements.{Contains-get_or}
 use Rattle.pef_loader.specs.Loader.{Loaded, library_of}
 use Rattle.cfm_closure.specs.Additions.{MayBeAdded, NamesLibrary, with_pair}
 use Rattle.cfm_closure.specs.Stores.{Pair, place_of}
 use Rattle.cfm_closure.specs.declared.fragment.FragmentView.{FragmentView}
 use Rattle.cfm_closure.specs.Fragments.{Fragment}
-use Rattle.cfm_closure.specs.Kept.Caches.{AreCached, AreKeptRows, AreOfKept, IsKeptRow, IsOfKept, IsOrderOfClosure, KeepsFirst, NoneNames}
+use Rattle.cfm_closure.specs.Kept.Caches.{AreCached, AreKeptRows, AreOfKept, IsKeptRow, IsOfKept, KeepsFirst, NoneNames}
 use Rattle.cfm_closure.specs.Kept.Targets.{AreAllKnown, Row}
 use Rattle.cfm_closure.specs.Kept.Views.{AreRead, fragment_at}
 use Rattle.cfm_closure.specs.Orders.{IsComplete}
@@ -38,16 +38,6 @@ rows-none pairs rows none p row here = absurd (let e : None ≡ Some row = sym (
 kept-none : (pairs : List Pair) (rows : List (Option Row)) → rows ≡ [] → AreOfKept pairs rows
 kept-none pairs rows none p some = absurd (let e = ap is_some (none-in rows p none) in cc)
 
--- nothing is kept of a store at first
-pub cache_empty : (pairs : List Pair) (views : List (Option FragmentView)) (rows : List (Option Row)) → views ≡ [] → rows ≡ [] → AreCached pairs views rows
-cache_empty pairs views rows none no_rows = record {
-  few = let e = ap length none in omega arith;
-  read = λ p f here. absurd (let under = fragment_at-below views p f here in let e = ap length none in omega arith);
-  few_rows = let e = ap length no_rows in omega arith;
-  right = rows-none pairs rows no_rows;
-  closures = kept-none pairs rows no_rows;
-}
-
 -- kept targets are all known
 pub rows_known : (pairs : List Pair) (rows : List (Option Row)) → AreKeptRows pairs rows → AreAllKnown rows
 rows_known pairs rows are p row here = (are p row here).known
@@ -58,16 +48,6 @@ some_is None some = absurd (cc)
 some_is (Some x) some = (x, refl)
 
 module _ (pairs : List Pair) (views : List (Option FragmentView)) (rows : List (Option Row)) (is : AreCached pairs views rows) where
-  -- no targets are kept
-  pub cache_forgotten : (rows' : List (Option Row)) → rows' ≡ [] → AreCached pairs views rows'
-  cache_forgotten rows' none = record {
-    few = is.few;
-    read = is.read;
-    few_rows = let e = ap length none in omega arith;
-    right = rows-none pairs rows' none;
-    closures = kept-none pairs rows' none;
-  }
-
   -- the fragments that a walk read are some of the store
   pub cache_of : (views' : List (Option FragmentView)) (rows' : List (Option Row)) → length views' ≡ length pairs → AreRead pairs views' → rows' ≡ rows → AreCached pairs views' rows'
   cache_of views' rows' size read same = record {
@@ -77,31 +57,6 @@ module _ (pairs : List Pair) (views : List (Option FragmentView)) (rows : List (
     right = subst (AreKeptRows pairs) (sym same) is.right;
     closures = subst (AreOfKept pairs) (sym same) is.closures;
   }
-
-  -- the rows of a closure come to those that are kept
-  pub cache_more : (order : List ℕ) (rows' : List (Option Row)) → IsOrderOfClosure pairs order → KeepsFirst pairs order (length order) rows rows' → AreCached pairs views rows'
-  cache_more order rows' of keeps = record {
-    few = is.few;
-    read = is.read;
-    few_rows = let e = keeps.size in omega arith;
-    right = keeps.right;
-    closures = λ p some. elim (keeps.only p some) [
-      | inl was ↦ (
-          let o = is.closures p was in
-          record { root = o.root; inside = o.inside; closure = o.closure; is = o.is; member = o.member; all = λ q there. keeps.still q (o.all q there) })
-      | inr there ↦ record {
-        root = of.root;
-        inside = of.inside;
-        closure = of.closure;
-        is = of.is;
-        member = subst (λ order. Contains order p) (sym of.same) there;
-        all = λ q member. kept q (subst (λ order. Contains order q) of.same member);
-      }
-    ];
-  }
-    where
-      kept : (q : ℕ) → Contains order q → IsSome (get_or rows' q None)
-      kept q there = subst (λ q. IsSome (get_or rows' q None)) (get_or_default order there.0 0 q there.1 ∙ there.2) (keeps.all there.0 there.1)
 
   module _ (n : Pair) where
     read-with : AreRead (with_pair pairs n) views

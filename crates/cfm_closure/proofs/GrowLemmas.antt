@@ -1,7 +1,7 @@
 -- A table of places that gets more places.
 use Rattle.std.proofs.Common.{◌≡◌, ℕ, zero, suc, ◌+◌, ◌-◌, ◌<◌, ◌≤◌, ◌^◌, cond, count_by, List, [], ◌∷◌, ◌++◌, length, replicate, take, None, refl, sym, ap, ◌∙◌, get_or, arith}
 use Rattle.std.proofs.lemmas.List.Sums.{sum_by-append}
-use Rattle.std.proofs.lemmas.List.{append-nil, length-append, length-replicate}
+use Rattle.std.proofs.lemmas.List.{length-append, length-replicate}
 use Rattle.cfm_closure.specs.Kept.Numbers.{IsSound, is_number, value_of, values_at}
 
 -- places without values have none
@@ -52,9 +52,3 @@ numbers-grown numbers len old is low = ap (λ ns. ns ++ replicate (len - old) 0)
     taken [] (suc n) low = refl
     taken (x ∷ ns) zero low = absurd (omega arith)
     taken (x ∷ ns) (suc n) low = ap (λ ns. x ∷ ns) (taken ns n (omega arith))
-
--- nothing is added if there are enough
-pub grown-none : {T : Type 0} (table : List T) (len : ℕ) (v : T) → len ≤ length table → table ≡ table ++ replicate (len - length table) v
-grown-none table len v enough =
-    let e : len - length table ≡ 0 = omega arith in
-    rw e (sym (append-nil table))

@@ -1,17 +1,15 @@
 -- Rows of targets, and the targets noted in them.
-use Rattle.std.proofs.Common.{◌≡◌, ◌≢◌, ℕ, ◌+◌, ◌<◌, List, [], length, drop, Option, None, Some, Ok, Err, refl, sym, ap, ◌∙◌, subst, get_or, set, inl, inr, arith, Contains}
-use Rattle.std.specs.Prelude.{IsSome, Result, replicate}
+use Rattle.std.proofs.Common.{◌≡◌, ◌≢◌, ℕ, ◌+◌, ◌<◌, List, [], length, drop, Option, None, Some, Ok, refl, sym, ap, ◌∙◌, subst, get_or, set, inl, inr, arith, Contains}
+use Rattle.std.specs.Prelude.{IsSome, Result}
 use Rattle.std.specs.List.{AllByRecursion}
 use Rattle.std.specs.Option.{option_or}
 use Rattle.std.proofs.lemmas.Bool.Decides.{eqb_tells}
 use Rattle.std.proofs.lemmas.List.{at_drop_more, get_or-set_same, get_or-set_other, get_or_default}
-use Rattle.pef_words.specs.Refusals.{unless}
 use Rattle.pef_words.proofs.Laws.Lists.{all-at}
 use Rattle.cfm_closure.specs.Stores.{Pair}
 use Rattle.cfm_closure.specs.Faults.{BindRefusal}
 use Rattle.cfm_closure.specs.declared.targets.Target.{Target}
 use Rattle.cfm_closure.specs.Closures.{first_refused, imports_refusal}
-use Rattle.cfm_closure.proofs.RowLemmas.{none-at}
 use Rattle.cfm_closure.specs.Kept.Targets.{AreKnown, AreRight, IsKnown, IsOnWay, IsResolved, Keeps, KeepsKnown, Ordered, Row, Rows, known_at, led_to}
 
 -- the rows with the target of an import noted
@@ -50,11 +48,7 @@ module _ (rows : Rows) (p j : ℕ) (t : Option Target) (place : p < length rows)
     | inr other ↦ subst IsSome (sym (known-other q k (λ e. absurd (other.1 e)))) known
   ]
 
--- if no target is known, all that are known are right
-pub right-none : (pairs : List Pair) (p n : ℕ) (row : Row) → row ≡ replicate n None → AreRight pairs p row
-right-none pairs p n row is j t known = absurd (let e : None ≡ Some t = sym (ap (λ (row : Row). get_or row j None) is ∙ none-at {T = Option Target} n j) ∙ known in cc)
-
--- .. and with a right one noted they still are
+-- with a right one noted, all that are known are still right
 pub right-noted : (pairs : List Pair) (p j : ℕ) (row : Row) (t : Option Target) → AreRight pairs p row → j < length row → led_to pairs (p, j) ≡ Some (Ok t) → AreRight pairs p (set row j (Some t))
 right-noted pairs p j row t right inside is k u known = elim (eqb_tells k j) [
   | inl same ↦ (
@@ -88,14 +82,6 @@ pub on_way-still : (old new : Ordered) (end : Option (Result (Option Target) Bin
     → IsOnWay new.pairs new.order end (get_or way i (0, 0))
 on_way-still old new end way i keeps all under =
     subst (λ (o : Ordered). IsOnWay o.pairs o.order end (get_or way i (0, 0))) (sym keeps.same) (all-at (IsOnWay old.pairs old.order end) way i (0, 0) all under)
-
-pub unless-err : {A F : Type 0} (o : Option F) (x : A) (r : F) → unless o (Ok x) ≡ Err r → o ≡ Some r
-unless-err None x r is = absurd (cc)
-unless-err (Some f) x r is = cc
-
--- the next fragment decides if one of its imports is refused, and is passed over if none is
-pub first_refused-here : (pairs : List Pair) (order : List ℕ) (i : ℕ) (r : BindRefusal) → i < length order → imports_refusal pairs (get_or order i 0) ≡ Some r → first_refused pairs (drop i order) ≡ Some r
-first_refused-here pairs order i r under is = at_drop_more (first_refused pairs) order i 0 under ∙ ap (λ o. option_or o (first_refused pairs (drop (i + 1) order))) is
 
 pub first_refused-next : (pairs : List Pair) (order : List ℕ) (i : ℕ) → i < length order → imports_refusal pairs (get_or order i 0) ≡ None → first_refused pairs (drop (i + 1) order) ≡ first_refused pairs (drop i order)
 first_refused-next pairs order i under is = sym (at_drop_more (first_refused pairs) order i 0 under ∙ ap (λ o. option_or o (first_refused pairs (drop (i + 1) order))) is)

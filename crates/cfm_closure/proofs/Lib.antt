@@ -14,12 +14,15 @@ mod ImportLemmas
 mod InitLemmas
 mod InitOrderLemmas
 mod KnownLemmas
+mod LackLemmas
 pub mod Laws
 mod LeadLemmas
+mod ListedLemmas
 mod LoopLemmas
 mod MetLemmas
 mod NameLemmas
 mod NoteLemmas
+mod NotedLemmas
 mod NumberLemmas
 mod OrderFacts
 mod PathLemmas
@@ -33,6 +36,7 @@ mod SameClosedLemmas
 mod SameInitLemmas
 mod SameLemmas
 mod SameTargetLemmas
+mod SearchLemmas
 mod SharedLemmas
 mod SymbolLemmas
 mod TableLemmas

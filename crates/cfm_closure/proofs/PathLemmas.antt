@@ -34,7 +34,7 @@ pub then_assoc : {A B C : Type 0} (r : Result A BindRefusal) (f : A → Result B
 then_assoc (Ok x) f g = refl
 then_assoc (Err e) f g = refl
 
-then_ok : {A : Type 0} (r : Result A BindRefusal) → (r >>= (λ x. Ok x)) ≡ r
+pub then_ok : {A : Type 0} (r : Result A BindRefusal) → (r >>= (λ x. Ok x)) ≡ r
 then_ok (Ok x) = refl
 then_ok (Err e) = refl
 

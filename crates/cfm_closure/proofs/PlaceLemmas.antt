@@ -15,7 +15,7 @@ if_met false x = None
 
 -- the first pair with a name is at or after the number from which they are counted, and among the
 -- pairs
-place_from-inside : (at : ℕ) (pairs : List Pair) (name : List ℕ) (p : ℕ) → place_from at pairs name ≡ Some p → (at ≤ p) × (p < at + length pairs)
+pub place_from-inside : (at : ℕ) (pairs : List Pair) (name : List ℕ) (p : ℕ) → place_from at pairs name ≡ Some p → (at ≤ p) × (p < at + length pairs)
 place_from-inside at [] name p is = absurd (cc)
 place_from-inside at (x ∷ pairs) name p is = by (bytes_eq name x.name) is (place_from-inside (at + 1) pairs name p)
   where

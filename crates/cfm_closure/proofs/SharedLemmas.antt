@@ -1,9 +1,8 @@
 -- Targets that closures share.
-use Rattle.std.proofs.Common.{◌≡◌, ℕ, ◌+◌, ◌<◌, ◌≤◌, List, [], length, Option, None, Some, refl, sym, ap, subst, ◌∙◌, get_or, set, arith}
+use Rattle.std.proofs.Common.{◌≡◌, ℕ, ◌+◌, ◌<◌, ◌≤◌, List, [], length, Option, None, Some, refl, sym, ap, subst, ◌∙◌, get_or, arith}
 use Rattle.std.specs.Prelude.{IsSome, Ok}
 use Rattle.std.specs.Option.{option_map_or}
 use Rattle.std.specs.Result.{result_err}
-use Rattle.std.proofs.lemmas.List.{set-get_or}
 use Rattle.pef_loader.specs.Loader.{Loaded}
 use Rattle.pef_words.proofs.Laws.Refusals.{first_among-none}
 use Rattle.cfm_closure.specs.Stores.{Pair}
@@ -11,7 +10,6 @@ use Rattle.cfm_closure.specs.Closures.{import_refusal, imports_refusal}
 use Rattle.cfm_closure.specs.Fragments.{import_count}
 use Rattle.cfm_closure.specs.Views.{fragment_seen}
 use Rattle.cfm_closure.specs.declared.fragment.ClosedFragment.{ClosedFragment}
-use Rattle.cfm_closure.specs.Kept.Caches.{IsKeptRow}
 use Rattle.cfm_closure.specs.Kept.Paths.{IsClosed}
 use Rattle.cfm_closure.specs.Kept.Targets.{AllKnown, IsResolved, Row, Rows}
 use Rattle.cfm_closure.proofs.HopFacts.{loader_at-is}
@@ -21,25 +19,12 @@ some_of : {A : Type 0} (o : Option A) → IsSome o → (x : A) × (o ≡ Some x)
 some_of None is = absurd (cc)
 some_of (Some x) is = (x, refl)
 
--- a value that is put where it is changes nothing
-pub set_same : {A : Type 0} (xs : List (Option A)) (p : ℕ) (x : A) → get_or xs p None ≡ Some x → set xs p (Some x) ≡ xs
-set_same xs p x is = ap (set xs p) (sym is) ∙ set-get_or xs p None
-
 module _ (pairs : List Pair) (p : ℕ) (f : ClosedFragment) (closed : IsClosed pairs p f) where
   -- a fragment has a row for its imports
   imports_of : length f.targets ≡ import_count pairs p
   imports_of = closed.imports ∙ sym (ap (λ o. option_map_or (λ (l : Loaded). l.header.import_count) o 0) (loader_at-is pairs p (fragment_seen f.view) closed.read))
 
-  -- all targets of a row are known if the fragment is resolved
-  pub known_of : (rows : Rows) → f.targets ≡ get_or rows p [] → IsResolved pairs rows p → AllKnown f.targets
-  known_of rows row resolved j under =
-      let e = imports_of in
-      subst (λ (row : Row). IsSome (get_or row j None)) (sym row) (resolved j (omega arith))
-
   module _ (known : AllKnown f.targets) where
-    pub kept_row : IsKeptRow pairs p f.targets
-    kept_row = record { count = imports_of; known = known; right = closed.right }
-
     -- then the fragment is resolved
     pub resolved_of : (rows : Rows) → f.targets ≡ get_or rows p [] → IsResolved pairs rows p
     resolved_of rows row j under =

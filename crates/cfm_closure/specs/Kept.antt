@@ -9,11 +9,13 @@ pub mod Hops
 pub mod Imports
 pub mod Lending
 pub mod Names
+pub mod Notes
 pub mod Numbers
 pub mod Paths
 pub mod Places
 pub mod Resolvers
 pub mod Rows
+pub mod Searches
 pub mod Symbols
 pub mod Taken
 pub mod TargetRows

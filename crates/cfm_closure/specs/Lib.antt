@@ -6,6 +6,7 @@ pub mod Initialization
 pub mod Kept
 pub mod Libraries
 pub mod Limits
+pub mod Missing
 pub mod Orders
 pub mod Promises
 pub mod Reexports

@@ -1,12 +1,16 @@
 -- Properties of closures apart from their definitions.
-use Rattle.std.specs.Prelude.{◌≡◌, ◌⊎◌, ⊤, ℕ, ◌<◌, List, ◌∷◌, ◌++◌, length, Option, None, Some, Result, Ok, Err, Contains}
+use Rattle.std.specs.Prelude.{◌≡◌, ◌≢◌, ◌⊎◌, ⊤, ℕ, ◌<◌, true, List, [], ◌∷◌, ◌++◌, length, Option, None, Some, Result, Ok, Err, Contains}
+use Rattle.std.specs.List.{AllByRecursion}
 use Rattle.std.specs.Option.{option_map_or}
 use Rattle.pef_format.specs.declared.place.Place.{Place}
-use Rattle.pef_loader.specs.Loader.{IsLoader, Loaded}
+use Rattle.pef_loader.specs.Library.{Library}
+use Rattle.pef_loader.specs.Loader.{IsLoader, Loaded, library_of}
 use Rattle.cfm_closure.specs.Stores.{Pair, pair_of, place_of}
 use Rattle.cfm_closure.specs.Faults.{BindRefusal, implementation_too_new, implementation_too_old, init_loop, library_missing, no_container, no_loader, reexport_loop, symbol_missing}
 use Rattle.cfm_closure.specs.Fragments.{Fragment, fragment_of, import_count, import_place, loader_at}
+use Rattle.cfm_closure.specs.Missing.{Missing, missing_entry, serving}
 use Rattle.cfm_closure.specs.Walk.{order_of}
+use Rattle.cfm_closure.specs.declared.missing.Served.TheVariants.{ByNone}
 use Rattle.cfm_closure.specs.declared.targets.Target.{Target}
 use Rattle.cfm_closure.specs.declared.targets.Target.TheVariants.{Absolute, At}
 use Rattle.cfm_closure.specs.Reexports.{MeetsAgain}
@@ -79,3 +83,22 @@ pub record IsEndless (pairs : List Pair) (root : ℕ) (fragment symbol : List �
 abbrev pub target_within : List Pair → List ℕ → ℕ → ℕ → Result (Option Target) BindRefusal
 target_within pairs order p j =
     option_map_or (λ answer. answer) (follow (exports_among pairs order) pairs p j) (Err (reexport_loop (pair_of pairs p).name (symbol_of pairs p j) (import_place pairs p j)))
+
+-- a missing library is an entry of a fragment that is read, and no fragment serves it
+pub record IsLacking (pairs : List Pair) (m : Missing) : Type 0 where
+  pub fragment : Fragment
+  pub read : fragment_of pairs m.fragment ≡ Ok fragment
+  pub index : ℕ
+  pub library : Library
+  pub entry : library_of fragment.loader index ≡ Some library
+  pub none : serving pairs library ≡ Ok (ByNone m.found)
+  pub is : m ≡ missing_entry m.fragment library m.found
+
+-- each of the missing libraries has a name of its own
+abbrev pub AreApart : List Missing → Type 0
+AreApart [] = ⊤
+AreApart (m ∷ ms) = AllByRecursion (λ other. m.name ≢ other.name) ms × AreApart ms
+
+-- each of the missing libraries is weak
+abbrev pub AreWeak : List Missing → Type 0
+AreWeak ms = AllByRecursion (λ m. m.weak ≡ true) ms

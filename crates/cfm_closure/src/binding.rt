@@ -14,7 +14,7 @@ use pef_format::layout::{LIBRARY_NAME_OFFSET_AT, LIBRARY_OLD_IMP_VERSION_AT};
 use pef_loader::LibraryView;
 
 /// Returns the versions of the library that a fragment was linked with.
-fn definition_of(library: LibraryView<'_>) -> Definition
+pub(crate) fn definition_of(library: LibraryView<'_>) -> Definition
     ensures { result ≡ definition_of (library_seen library.entry) }
 {
     Definition {
@@ -24,7 +24,7 @@ fn definition_of(library: LibraryView<'_>) -> Definition
 }
 
 /// Returns the versions of a fragment that was found.
-fn implementation_of(found: FragmentView<'_>) -> Implementation
+pub(crate) fn implementation_of(found: FragmentView<'_>) -> Implementation
     ensures { result ≡ implementation_of (fragment_seen found.entry) }
 {
     let header = found.container.header();

@@ -1,14 +1,18 @@
-ghost use Rattle.std.specs.Prelude.{◌≡◌, ◌<◌, ◌≤◌, ◌++◌, [], ◌∷◌, length, slice_get, option_map, nat_le, IfSome, OnOk, OnErr};
+ghost use Rattle.std.specs.Prelude.{◌≡◌, ◌<◌, ◌≤◌, ◌++◌, [], ◌∷◌, length, map, slice_get, option_map, nat_le, IfSome, OnOk, OnErr};
 ghost use Rattle.cfm_closure.specs.Closures.{closed_of};
 ghost use Rattle.cfm_closure.specs.Faults.{Answers};
 ghost use Rattle.cfm_closure.specs.Limits.{most_pairs};
+ghost use Rattle.cfm_closure.specs.Missing.{missing_of};
 ghost use Rattle.cfm_closure.specs.Seen.{pair_seen};
 ghost use Rattle.cfm_closure.specs.Stores.{place_of};
+ghost use Rattle.cfm_closure.specs.Views.{missing_seen};
 
 use crate::cache::Cache;
 use crate::closed::Closure;
 use crate::closing::closure_with;
 use crate::fault::BindFault;
+use crate::missing::MissingLibrary;
+use crate::search::missing_with;
 use crate::store::Store;
 use crate::store_fault::StoreFault;
 use std::alloc::Global;
@@ -121,5 +125,28 @@ impl<'a> CachedStore<'a> {
         ensures same { self.new ≡ self.old }
     {
         closure_with(alloc, &self.store, &mut self.cache, root)
+    }
+
+    /// Returns the libraries that the closure of the fragment in a place lacks: each library that a fragment of the walk
+    /// names and no fragment of the store serves, since the store has none with this name, or its versions don't fit. The
+    /// walk passes them by, so it continues after a library without which [`closure`](Self::closure) is refused. Weak ones
+    /// are among them.
+    ///
+    /// Each name is there once, in the order of the walk, with the first entry that isn't weak, if there is one.
+    ///
+    /// # Errors
+    ///
+    /// The first refusal of a fragment on the walk that can't be read, or `OutOfMemory` if an allocation fails. The pairs
+    /// are unchanged in any case.
+    pub fn missing(
+        &mut self,
+        alloc: Global,
+        root: usize,
+    ) -> Result<Vec<MissingLibrary<'a>>, BindFault<'a>>
+        requires { root < length self.old }
+        ensures answer { Answers (λ ms. map missing_seen ms.items) result (missing_of self.old root) }
+        ensures same { self.new ≡ self.old }
+    {
+        missing_with(alloc, &self.store, &mut self.cache, root)
     }
 }

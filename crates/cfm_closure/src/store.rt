@@ -6,7 +6,7 @@ ghost use Rattle.cfm_closure.specs.Limits.{most_pairs};
 
 use crate::store_fault::StoreFault;
 use indexmap::IndexMap;
-use std::alloc::Global;
+use std::alloc::{AllocFailed, Global};
 use std::fmt;
 use std::marker::Model;
 
@@ -127,12 +127,12 @@ impl<'a> Store<'a> {
     }
 }
 
-/// Notes the place of a pair, unless its name has one.
-fn note_place<'a>(
+/// Notes the place of a name, unless it has one.
+pub(crate) fn note_place<'a>(
     places: &mut IndexMap<&'a [u8], usize>,
     name: &'a [u8],
     place: usize,
-) -> Result<(), StoreFault>
+) -> Result<(), AllocFailed<(&'a [u8], usize)>>
     ensures ok { OnOk result (NotesPlace places.old.entries name.now place places.new.entries) }
     ensures err { OnErr result (places.new.entries ≡ places.old.entries) }
 {

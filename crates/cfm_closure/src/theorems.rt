@@ -1,5 +1,6 @@
 //! Laws of the definitions, for the proofs of other crates. The functions do nothing.
 ghost use Rattle.std.specs.Prelude.{◌≡◌, ◌<◌, ◌↔◌, ℕ, List, None, Some, Ok, Err, Contains, length, true};
+ghost use Rattle.std.specs.List.{AllByRecursion};
 ghost use Rattle.pef_format.specs.declared.place.Place.{Place};
 ghost use Rattle.pef_loader.specs.declared.fault.LoaderFault.{LoaderFault};
 ghost use Rattle.pef_views.specs.declared.fault.ViewFault.{ViewFault};
@@ -14,7 +15,8 @@ ghost use Rattle.pef_loader.specs.Loader.{Loaded, library_of};
 ghost use Rattle.cfm_closure.specs.Orders.{EndsWith, IsComplete, IsInitOrder};
 ghost use Rattle.cfm_closure.specs.Walk.{order_of};
 ghost use Rattle.cfm_closure.specs.Closures.{Closed, closed_of};
-ghost use Rattle.cfm_closure.specs.Promises.{AllRead, HasTarget, IsEndless, IsOfBinding, IsOfUnread, target_within};
+ghost use Rattle.cfm_closure.specs.Missing.{Missing, missing_of};
+ghost use Rattle.cfm_closure.specs.Promises.{AllRead, AreApart, AreWeak, HasTarget, IsEndless, IsLacking, IsOfBinding, IsOfUnread, target_within};
 ghost use Rattle.cfm_closure.specs.Reexports.{MeetsAgain};
 ghost use Rattle.cfm_closure.specs.Targets.{exports_among, follow, target_of};
 
@@ -81,4 +83,13 @@ pub fn added_pairs()
     ensures target { (pairs : List Pair) (n : Pair) (root : ℕ) (c : Closed) → root < length pairs → closed_of pairs root ≡ Ok c → MayBeAdded pairs c.order n.name → (p j : ℕ) → Contains c.order p → target_of (with_pair pairs n) p j ≡ target_of pairs p j }
     ensures missing { (pairs : List Pair) (root : ℕ) (c : Closed) (p l : ℕ) (loader : Loaded) (library : Library) → closed_of pairs root ≡ Ok c → Contains c.order p → loader_at pairs p ≡ Some loader → library_of loader l ≡ Some library → place_of pairs library.name ≡ None
         → ((options_of library.options).weak ≡ true) × (bound_to pairs p l ≡ Ok None) }
+{}
+
+/// What is missing are library entries of fragments that are read, which no fragment of the store serves: there is none with
+/// the name, or its versions don't fit. Each name is there once. If only weak libraries are missing, the walk of the closure
+/// isn't refused: all other entries of its fragments are served.
+pub fn missing_libraries()
+    ensures lacking { (pairs : List Pair) (root : ℕ) (missing : List Missing) → missing_of pairs root ≡ Ok missing → AllByRecursion (IsLacking pairs) missing }
+    ensures once { (pairs : List Pair) (root : ℕ) (missing : List Missing) → missing_of pairs root ≡ Ok missing → AreApart missing }
+    ensures weak { (pairs : List Pair) (root : ℕ) (missing : List Missing) → missing_of pairs root ≡ Ok missing → AreWeak missing → (order : List ℕ) × (order_of pairs root ≡ Ok order) }
 {}

@@ -86,18 +86,12 @@ step-end left rest o is all = sym (left-all left) ∙ ap (left_of left) (sym is)
 pub bytes-next : (c : Contained) (g i n : ℕ) → i < n → bytes_of g (extents_from c i (n - i)) ≡ taken g (extent_at c i).size + bytes_of g (extents_from c (i + 1) (n - (i + 1)))
 bytes-next c g i n under = let e : n - i ≡ suc (n - (i + 1)) = omega arith in rw e refl
 
-pub bytes-end : (c : Contained) (g i n : ℕ) → n ≤ i → bytes_of g (extents_from c i (n - i)) ≡ 0
-bytes-end c g i n past = let e : n - i ≡ 0 = omega arith in rw e refl
-
 -- the steps of the programs from one on
 pub steps-next : (header : ℕ → Option (ℕ × List ℕ)) (i n section : ℕ) (program : List ℕ) → i < n → header i ≡ Some (section, program) → program_fault program ≡ None → steps_by header i (n - i) ≡ steps_of program + steps_by header (i + 1) (n - (i + 1))
 steps-next header i n section program under is readable = let e : n - i ≡ suc (n - (i + 1)) = omega arith in rw (e, is, readable) refl
 
 pub steps-last : (header : ℕ → Option (ℕ × List ℕ)) (i n section : ℕ) (program : List ℕ) (f : RelocFault) → i < n → header i ≡ Some (section, program) → program_fault program ≡ Some f → steps_by header i (n - i) ≡ 0
 steps-last header i n section program f under is unreadable = let e : n - i ≡ suc (n - (i + 1)) = omega arith in rw (e, is, unreadable) refl
-
-pub steps-end : (header : ℕ → Option (ℕ × List ℕ)) (i n : ℕ) → n ≤ i → steps_by header i (n - i) ≡ 0
-steps-end header i n past = let e : n - i ≡ 0 = omega arith in rw e refl
 
 -- what the search for the first fragment that passes a bound says
 pub past-some : (bound : Option ℕ) (most : ℕ) (weight : ℕ → ℕ) (ps : List ℕ) (r : Option ℕ) → bound ≡ Some most → r ≡ first_past weight most ps → IfSome r (λ p. PassesAt bound weight ps p)

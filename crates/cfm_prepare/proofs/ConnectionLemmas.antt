@@ -1,6 +1,6 @@
 -- Open connections, which are kept in slots in the order of their numbers.
 use Rattle.std.proofs.Common.{ltb, ap₂, Bool, true, false, cond, filter, ◌≢◌, ◌≡◌, ◌+◌, ◌<◌, ◌≤◌, ℕ, zero, suc, List, [], ◌∷◌, ◌++◌, Option, None, Some, length, refl, sym, ap, ◌∙◌, inl, inr, arith}
-use Rattle.std.specs.Option.{IfNone, is_some}
+use Rattle.std.specs.Option.{is_some}
 use Rattle.std.proofs.Math.ListN.{set}
 use Rattle.std.proofs.lemmas.Bool.Decides.{eqb_tells, leb_tells}
 use Rattle.std.proofs.lemmas.List.Sorted.{IsNonDecreasingBy-from_default}
@@ -154,10 +154,6 @@ absent-without (o ∷ os) number none = elim (eqb_tells o.number number) [
   | inl same ↦ (let wrong : Some o ≡ None = rw same.0 at none in absurd (cc))
   | inr other ↦ (let later : open_of os number ≡ None = rw other.0 at none in rw other.0 (ap (λ ys. o ∷ ys) (absent-without os number later)))
 ]
-
-pub none-unchanged : (r : Option Open) (os now : List Open) (number : ℕ) → r ≡ open_of os number → now ≡ open_without os number → IfNone r (now ≡ os)
-none-unchanged None os now number none now_is = now_is ∙ absent-without os number (sym none)
-none-unchanged (Some o) os now number is now_is = tt
 
 -- all open connections whose closures name a library are in the slots from one on
 pub record NamesFrom (slots : List Slot) (i : ℕ) (name : List ℕ) : Type 0 where

@@ -6,6 +6,7 @@ mod ConnectionLemmas
 mod EnoughLemmas
 mod FoundLemmas
 mod FragmentLemmas
+mod GoneLemmas
 mod GroupLemmas
 mod HeaderLemmas
 mod ImageLemmas

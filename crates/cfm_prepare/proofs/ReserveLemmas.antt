@@ -1,18 +1,11 @@
 -- Reserved ranges of a context's memory.
-use Rattle.std.proofs.Common.{◌≡◌, ℕ, List, [], ◌∷◌, refl, sym, ap, subst, ◌∙◌, inl, inr}
+use Rattle.std.proofs.Common.{◌≡◌, ℕ, List, [], ◌∷◌, refl, sym, ap, ◌∙◌}
 use Rattle.cfm_memory.specs.Extents.{given_back}
 use Rattle.cfm_memory.specs.Instances.{Layout, with_instances, without}
-use Rattle.cfm_memory.specs.Reservation.{Reserves}
 use Rattle.cfm_memory.specs.declared.place.Place.{Place}
 use Rattle.cfm_prepare.specs.Contexts.{ContextState, unneeded_of}
 use Rattle.cfm_prepare.specs.Fragments.{Present, all_given_back}
-use Rattle.cfm_prepare.specs.Kept.Ready.{AreReady}
 use Rattle.cfm_prepare.specs.Steps.{Closes, Prepares}
-
--- fragments stay ready after a reservation
-pub ready-reserved : (m after : Layout) (address size : ℕ) (fs : List Present) → Reserves m address size after → AreReady m fs → AreReady after fs
-ready-reserved m after address size fs (inl none) ready = subst (λ (k : Layout). AreReady k fs) (sym none.1) ready
-ready-reserved m after address size fs (inr some) ready = subst (λ (k : Layout). AreReady k fs) (sym some.2) (record { held = ready.held; own = ready.own; apart = ready.apart })
 
 -- instances that are removed leave the reserved ranges
 given-reserved : (m : Layout) (places : List Place) → (given_back m places).reserved ≡ m.reserved

@@ -21,12 +21,12 @@ use Rattle.cfm_prepare.specs.Contexts.{ContextState, Open, made_state, is_needed
 use Rattle.cfm_prepare.specs.Runs.{AreClosed, IsStill, Runs, Step, closed, prepared, reserved, stored}
 use Rattle.cfm_prepare.specs.Steps.{Adds, AnyNames, Closes, Prepares, TakesOut}
 
-never : (b : Bool) → false ≡ cond b false false
+pub never : (b : Bool) → false ≡ cond b false false
 never true = refl
 never false = refl
 
 -- a new one is of the order, and wasn't there
-new-at : (b c : Bool) (q p : ℕ) (news ps : List ℕ) → (q ≡ p → b ≡ c) → has news p ≡ cond c false (has ps p) → has (cond b news (q ∷ news)) p ≡ cond c false (has (q ∷ ps) p)
+pub new-at : (b c : Bool) (q p : ℕ) (news ps : List ℕ) → (q ≡ p → b ≡ c) → has news p ≡ cond c false (has ps p) → has (cond b news (q ∷ news)) p ≡ cond c false (has (q ∷ ps) p)
 new-at true true q p news ps same later = later
 new-at true false q p news ps same later = elim (eqb_tells q p) [
   | inl is ↦ (let wrong : true ≡ false = same is.1 in absurd (cc))
@@ -38,7 +38,7 @@ new-at false true q p news ps same later = elim (eqb_tells q p) [
 ]
 new-at false false q p news ps same later = ap (λ b. cond (q == p) true b) later
 
-has-new : (fs : List Present) (ps : List ℕ) (p : ℕ) → has (new_among fs ps) p ≡ cond (is_present fs p) false (has ps p)
+pub has-new : (fs : List Present) (ps : List ℕ) (p : ℕ) → has (new_among fs ps) p ≡ cond (is_present fs p) false (has ps p)
 has-new fs [] p = never (is_present fs p)
 has-new fs (q ∷ ps) p = new-at (is_present fs q) (is_present fs p) q p (new_among fs ps) ps (λ is. ap (is_present fs) is) (has-new fs ps p)
 
@@ -216,11 +216,14 @@ after-all s t (stored name bytes ∷ steps) sound run = after-all run.0 t steps 
 pub fresh-sound : (pairs : List Pair) (choices : Choices) → IsSound pairs (made_state pairs choices)
 fresh-sound pairs choices = record { store = refl; closures = tt; same = λ p. refl }
 
+pub run-sound : (pairs : List Pair) (choices : Choices) (steps : List Step) (t : ContextState) → Runs (made_state pairs choices) steps t → IsSound t.pairs t
+run-sound pairs choices steps t run = after-all (made_state pairs choices) t steps (fresh-sound pairs choices) run
+
 pub run-present : (pairs : List Pair) (choices : Choices) (steps : List Step) (t : ContextState) (p : ℕ) → Runs (made_state pairs choices) steps t → is_present t.present p ≡ is_needed t.connections p
-run-present pairs choices steps t p run = (after-all (made_state pairs choices) t steps (fresh-sound pairs choices) run).same p
+run-present pairs choices steps t p run = (run-sound pairs choices steps t run).same p
 
 pub run-closed : (pairs : List Pair) (choices : Choices) (steps : List Step) (t : ContextState) → Runs (made_state pairs choices) steps t → AreClosed t.pairs t.connections
-run-closed pairs choices steps t run = (after-all (made_state pairs choices) t steps (fresh-sound pairs choices) run).closures
+run-closed pairs choices steps t run = (run-sound pairs choices steps t run).closures
 
 -- a fragment that an open connection's closure has is in the store
 needed-inside : (pairs : List Pair) (os : List Open) (p : ℕ) → AreClosed pairs os → is_needed os p ≡ true → p < length pairs

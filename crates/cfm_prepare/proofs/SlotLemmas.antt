@@ -188,10 +188,6 @@ slot-grown [] (suc p) = refl
 slot-grown (s ∷ slots) zero = refl
 slot-grown (s ∷ slots) (suc p) = slot-grown slots p
 
--- slots with the same in them have the same fragments
-pub same-slots : (slots slots' : List (Option Placed)) (order : List ℕ) → ((p : ℕ) → slot_at slots' p ≡ slot_at slots p) → AreSlots slots order → AreSlots slots' order
-same-slots slots slots' order same are = record { once = are.once; listed = λ p. are.listed p ∙ ap is_some (sym (same p)) }
-
 -- an empty slot stays so
 pub slot-emptied : (slots : List (Option Placed)) (p q : ℕ) → slot_at slots p ≡ None → p < length slots → slot_at (set slots p None) q ≡ slot_at slots q
 slot-emptied slots p q none under = elim (eqb_tells q p) [

@@ -6,6 +6,7 @@ pub mod FragmentFaults
 pub mod Fragments
 pub mod Images
 pub mod Kept
+pub mod Lacking
 pub mod Lists
 pub mod Made
 pub mod Now

@@ -1,9 +1,11 @@
-ghost use Rattle.std.specs.Prelude.{◌≡◌, ◌<◌, ◌≤◌, ◌+◌, ℕ, List, IfErr, IfOk, IfSome, MatchOption, None, OnErr, OnOk, Some, length, option_map, slice_get};
+ghost use Rattle.std.specs.Prelude.{◌≡◌, ◌<◌, ◌≤◌, ◌+◌, ℕ, List, IfErr, IfOk, IfSome, MatchOption, None, OnErr, OnOk, Some, length, map, option_map, slice_get};
 ghost use Rattle.std.specs.Option.{option_and_then, option_copied};
 ghost use Rattle.cfm_closure.specs.Stores.{place_of};
+ghost use Rattle.cfm_closure.specs.Views.{missing_seen};
 ghost use Rattle.cfm_memory.specs.Placement.{IsClear};
 ghost use Rattle.cfm_memory.specs.Reservation.{MayNotReserve};
 ghost use Rattle.cfm_prepare.specs.Fragments.{places_of};
+ghost use Rattle.cfm_prepare.specs.Lacking.{Lacks, MayNotTell};
 ghost use Rattle.cfm_prepare.specs.Made.{choices_of};
 ghost use Rattle.cfm_prepare.specs.Sections.{section_present, section_seen, sections_at, sections_left};
 ghost use Rattle.cfm_prepare.specs.Contexts.{fresh_state, made_state, open_of};
@@ -20,7 +22,7 @@ use crate::open_connection::OpenConnection;
 use crate::options::Options;
 use crate::sections::Sections;
 use crate::users::{enter, leave, make_room, release, unshared_among};
-use cfm_closure::{CachedStore, Closure, Store, StoreFault};
+use cfm_closure::{CachedStore, Closure, MissingLibrary, Store, StoreFault};
 use cfm_memory::MemoryFault;
 use pef_views::SectionHeader;
 use std::alloc::{AllocError, Global};
@@ -132,6 +134,28 @@ impl<'a> Context<'a> {
     {
         self.fragments.reserve(address, size)?;
         Ok(())
+    }
+
+    /// Returns the libraries that the fragment with a name and those that it needs name, and that no fragment serves: there
+    /// is none with the library's name, or its versions don't fit. Weak libraries are among them.
+    ///
+    /// Each name is there once, in the order in which a preparation looks for libraries. Asked before
+    /// [`prepare`](Self::prepare), it says which fragments to [`add`](Self::add). These may name others, so ask again.
+    ///
+    /// # Errors
+    ///
+    /// `RootMissing` if the store has no fragment with this name. Otherwise the first refusal of a fragment that can't be
+    /// read. `OutOfMemory` if an allocation fails. The context is unchanged in any case.
+    pub fn missing(&mut self, name: &[u8]) -> Result<Vec<MissingLibrary<'a>>, PrepareFault<'a>>
+        ensures lacks { IfOk result (λ libraries. Lacks self.old name.now (map missing_seen libraries.items)) }
+        ensures refused { IfErr result (λ fault. MayNotTell self.old name.now fault) }
+        ensures unchanged { self.new ≡ self.old }
+    {
+        let Some(root) = self.store.find(name) else {
+            return Err(PrepareFault::RootMissing);
+        };
+        let libraries = self.store.missing(self.alloc, root)?;
+        Ok(libraries)
     }
 
     /// Opens a connection to the fragment with a name: the fragments of its closure that aren't present are

@@ -33,7 +33,9 @@ pub mod theorems;
 mod users;
 
 pub use add_fault::AddFault;
-pub use cfm_closure::{BindFault, Closure, Store, StoreFault, Target};
+pub use cfm_closure::{
+    BindFault, Closure, Definition, Implementation, MissingLibrary, Store, StoreFault, Target,
+};
 pub use cfm_memory::{Granule, GranuleFault, MemoryFault};
 pub use context::{Connection, Context};
 pub use entries::Entries;

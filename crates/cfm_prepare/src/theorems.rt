@@ -1,11 +1,12 @@
 //! Laws of the definitions, for the proofs of other crates. The functions do nothing.
-ghost use Rattle.std.specs.Prelude.{◌≡◌, ◌++◌, ℕ, List, [], ◌∷◌, Contains, true};
+ghost use Rattle.std.specs.Prelude.{◌≡◌, ◌↔◌, ◌++◌, ℕ, List, [], ◌∷◌, Contains, Some, false, option_map, true};
 ghost use Rattle.cfm_closure.specs.Stores.{Pair};
 ghost use Rattle.cfm_prepare.specs.Fragments.{is_present, places_of};
-ghost use Rattle.cfm_prepare.specs.Contexts.{ContextState, added, made_state, is_needed, unused_state};
+ghost use Rattle.cfm_prepare.specs.Contexts.{ContextState, added, made_state, is_needed, open_of, unused_state};
 ghost use Rattle.cfm_prepare.specs.Now.{IsPreparedNow};
 ghost use Rattle.cfm_prepare.specs.Options.{Choices};
 ghost use Rattle.cfm_prepare.specs.Placing.{LacksRoom};
+ghost use Rattle.cfm_prepare.specs.Readers.{released_by};
 ghost use Rattle.cfm_prepare.specs.Refusals.{HasBadImage, HasBadProgram};
 ghost use Rattle.cfm_prepare.specs.Runs.{AreClosed, Keeps, Runs, Step, Takes};
 ghost use Rattle.cfm_prepare.specs.Steps.{Closes, HasClosure, IsWithin, Prepares, new_of};
@@ -54,4 +55,13 @@ pub fn possible_preparations()
 pub fn reserved_ranges()
     ensures prepared { (s t : ContextState) (name : List ℕ) (number : ℕ) → Prepares s name number t → t.memory.reserved ≡ s.memory.reserved }
     ensures closed { (s t : ContextState) (number : ℕ) → Closes s number t → t.memory.reserved ≡ s.memory.reserved }
+{}
+
+/// After any list of steps, closing a connection takes away exactly what `released_by` gives before it, and a preparation
+/// places exactly what `new_fragments` gives after it.
+pub fn new_and_released_fragments()
+    ensures released { (pairs : List Pair) (choices : Choices) (steps : List Step) (s t : ContextState) (number : ℕ) (released : List ℕ) (p : ℕ) → Runs (made_state pairs choices) steps s → Closes s number t → released_by s number ≡ Some released
+        → Contains released p ↔ ((is_present s.present p ≡ true) × (is_present t.present p ≡ false)) }
+    ensures placed { (pairs : List Pair) (choices : Choices) (steps : List Step) (s t : ContextState) (name : List ℕ) (number : ℕ) (placed : List ℕ) (p : ℕ) → Runs (made_state pairs choices) steps s → Prepares s name number t
+        → option_map (λ o. o.placed) (open_of t.connections number) ≡ Some placed → Contains placed p ↔ ((is_present s.present p ≡ false) × (is_present t.present p ≡ true)) }
 {}

@@ -89,7 +89,7 @@ fn added_in_turn(rt: HostRuntime) {
 }
 
 /// Adds the next fragments, so that there are `count`.
-fn add_up_to<'a>(
+pub(crate) fn add_up_to<'a>(
     rt: &impl Abort,
     store: &mut CachedStore<'a>,
     fragments: &[Fragment],

@@ -29,7 +29,7 @@ pub(crate) fn reported(
 }
 
 /// Returns a refusal as a text: its number, its name, and the names in it.
-fn reported_fault(rt: &impl Abort, alloc: Global, fault: BindFault<'_>) -> String {
+pub(crate) fn reported_fault(rt: &impl Abort, alloc: Global, fault: BindFault<'_>) -> String {
     let mut text = format!(in alloc; "{} {fault}", fault.number()).expect(rt, "memory");
     tell_names(&mut text, fault).expect(rt, "memory");
     text

@@ -9,4 +9,6 @@ mod cached;
 #[cfg(test)]
 mod closures;
 #[cfg(test)]
+mod missing;
+#[cfg(test)]
 mod pairs;

@@ -116,6 +116,49 @@ fn rich_prepared_again(rt: HostRuntime) -> Result<(), Fail> {
     prepare_again(&rt, rt.alloc(), RICH_FRAGMENTS, wanted)
 }
 
+/// A fragment that names a library, a weak one and another one, of which the first alone is there.
+const LACKING: &[Fragment] = &[
+    (
+        "A",
+        "library L 1 0 -\nlibrary M 1 0 weak\nlibrary N 1 0 -\n",
+        &[],
+    ),
+    ("L", LIBRARY, &[]),
+];
+
+/// If an allocation fails in `missing`, the next call returns what this one would have returned.
+#[test]
+fn asked_again(rt: HostRuntime) -> Result<(), Fail> {
+    let containers = containers(rt.alloc(), LACKING).ok_or("no containers")?;
+    let mut context = context_of(&rt, rt.alloc(), LACKING, &containers, LIMIT);
+    say_begins(&rt)?;
+    let refused = ask_until_answered(&rt, &mut context);
+    say_answered(&rt, refused)?;
+    assert!(rt; lacking(&mut context, b"L") == Ok(0));
+    assert!(rt; lacking(&mut context, b"M") == Err(60));
+    assert!(rt; prepared(&mut context, b"A") == Err(61));
+    Ok(())
+}
+
+/// Asks how many libraries are missing, and once more if an allocation fails. Returns whether one failed.
+fn ask_until_answered(rt: &impl Abort, context: &mut Context<'_>) -> bool {
+    let mut answer = lacking(context, b"A");
+    let refused = answer == Err(99);
+    if refused {
+        answer = lacking(context, b"A");
+    }
+    assert!(rt; answer == Ok(2));
+    refused
+}
+
+/// Returns how many libraries are missing, or the number of the refusal.
+fn lacking(context: &mut Context<'_>, name: &[u8]) -> Result<usize, u32> {
+    match context.missing(name) {
+        Ok(libraries) => Ok(libraries.len()),
+        Err(fault) => Err(fault.number()),
+    }
+}
+
 /// The first address of memory, and what is placed there in the tests below.
 const FIRST: Place = Place {
     address: 0x0001_0000,

@@ -1,6 +1,7 @@
 mod Filling
 mod KeptLemmas
 mod MacFilling
+mod MissingLemmas
 mod NumberLemmas
 mod PartLemmas
 mod Pointers

@@ -1,5 +1,5 @@
 -- Rows of an iterator, one after another, and the places that they fill.
-use Rattle.std.proofs.Common.{◌≡◌, ℕ, zero, suc, ◌+◌, ◌-◌, ◌<◌, ◌≤◌, List, [], ◌∷◌, length, drop, slice_set, arith, refl, sym, ap, ◌∙◌, add-one}
+use Rattle.std.proofs.Common.{◌≡◌, ℕ, zero, suc, ◌+◌, ◌-◌, ◌<◌, ◌≤◌, List, [], ◌∷◌, length, drop, slice_set, arith, sym, ap, ◌∙◌, add-one}
 use Rattle.std.specs.Prelude.{Some, map, option_map}
 use Rattle.std.specs.List.{slice_get}
 use Rattle.pef_c.specs.MacRows.{shown_at}
@@ -34,10 +34,6 @@ ended (r ∷ rows) (suc n) is =
 pub skipped : {A : Type 0} (rows : List A) (n : ℕ) (x : A) (others : List A) → rows ≡ x ∷ others → 0 < n → drop n rows ≡ drop (n - 1) others
 skipped rows zero x others is some = absurd (omega (arith, some))
 skipped rows (suc n) x others is some = rw is (search (arith))
-
-pub none_skipped : {A : Type 0} (rows others : List A) (n : ℕ) → rows ≡ [] → others ≡ [] → drop n rows ≡ others
-none_skipped rows others zero is none = rw (is, none) refl
-none_skipped rows others (suc n) is none = rw (is, none) refl
 
 -- the invariant of a loop that fills places, after one row more
 pub record Filled {A B P : Type 0} (given : B → A) (shown : P → A) (rows : List B) (from n : ℕ) (places : List P) (old : List A) (others : List B) : Type 0 where

@@ -14,6 +14,7 @@ pub mod Fixups
 pub mod Handles
 pub mod Contexts
 pub mod Reading
+pub mod Missing
 pub mod Places
 pub mod Kept
 pub mod Told

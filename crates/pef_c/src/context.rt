@@ -209,7 +209,7 @@ fn memory_number(fault: MemoryFault) -> u32
 
 /// Returns the number of the refusal of a fragment that isn't prepared, which isn't 0.
 #[tactic(auto, using(crate::proofs::NumberLemmas::prepare_refused))]
-fn prepare_number(fault: PrepareFault<'static>) -> u32
+pub(crate) fn prepare_number(fault: PrepareFault<'static>) -> u32
     ensures number { result ≡ fault_number fault.entry }
     ensures refused { (result == 0) ≡ false }
 {

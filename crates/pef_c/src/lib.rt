@@ -20,6 +20,7 @@ mod mac_errors;
 mod mac_file;
 mod mac_structs;
 mod members;
+mod missing;
 mod names;
 mod options;
 mod partial;
@@ -58,6 +59,7 @@ pub use mac_file::{
 };
 pub use mac_structs::{PefFinder, PefForks, PefMember, PefPart, PefResource, PefResourceMap};
 pub use members::{pef_find_containers, pef_members};
+pub use missing::pef_missing;
 pub use names::{pef_help, pef_name};
 pub use options::{PefOptions, pef_open_with, pef_version};
 pub use partial::{
@@ -72,7 +74,7 @@ pub use resources::{pef_find_resource, pef_resource_map, pef_resources};
 pub use rows::{pef_export_named, pef_exports, pef_imports, pef_libraries, pef_relocations};
 pub use structs::{
     PefEntries, PefExport, PefFinding, PefFixup, PefFragmentSection, PefHeader, PefImport,
-    PefLibrary, PefLoader, PefNames, PefPlace, PefRelocation, PefSection, PefTarget,
+    PefLibrary, PefLoader, PefMissing, PefNames, PefPlace, PefRelocation, PefSection, PefTarget,
 };
 pub use text_handle::PefText;
 pub use theorems::{

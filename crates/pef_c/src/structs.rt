@@ -124,6 +124,23 @@ pub struct PefNames {
     pub symbol: &'static [u8],
 }
 
+/// A library that a context lacks.
+#[repr(C)]
+#[derive(Clone, Copy, Debug)]
+pub struct PefMissing {
+    pub name: &'static [u8],
+    /// The fragment that names the library.
+    pub fragment: usize,
+    pub current_version: u32,
+    pub old_imp_version: u32,
+    /// The versions of the fragment with the library's name, 0 if there is none.
+    pub found_version: u32,
+    pub found_old_def_version: u32,
+    pub is_weak: bool,
+    /// Whether there is a fragment with the library's name, whose versions don't fit.
+    pub is_found: bool,
+}
+
 /// A section of a fragment that is present.
 #[repr(C)]
 #[derive(Clone, Copy, Debug, PartialEq, Eq)]

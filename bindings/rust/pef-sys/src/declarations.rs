@@ -715,6 +715,24 @@ pub struct pef_names {
 /// No names: struct pef_names names = PEF_NO_NAMES;
 pub const PEF_NO_NAMES: pef_names = pef_names { fragment: PEF_NO_BYTES, library: PEF_NO_BYTES, symbol: PEF_NO_BYTES };
 
+/// A library that a fragment names, and that no fragment of the context serves: its name, the number of the fragment that names it,
+/// and the versions of the library that this fragment was linked with. If `is_weak` is true, the fragment can be prepared without it.
+///
+/// If `is_found` is true, a fragment has the library's name, but its versions don't fit: `found_version` and
+/// `found_old_def_version`. Otherwise no fragment has the name, and both are 0.
+#[repr(C)]
+#[derive(Clone, Copy, Debug)]
+pub struct pef_missing {
+    pub name: pef_bytes,
+    pub fragment: usize,
+    pub current_version: u32,
+    pub old_imp_version: u32,
+    pub found_version: u32,
+    pub found_old_def_version: u32,
+    pub is_weak: bool,
+    pub is_found: bool,
+}
+
 /// A section in memory. `kind` is one of PEF_KIND_CODE and the others, `share` of PEF_SHARE_PROCESS and the others.
 #[repr(C)]
 #[derive(Clone, Copy, Debug)]
@@ -1052,6 +1070,20 @@ extern "C" {
     /// bits; or PEF_OUT_OF_MEMORY. The context is changed only if PEF_OK is returned.
     #[cfg(feature = "native")]
     pub fn pef_reserve(context: *mut pef_context, address: u32, size: u32) -> u32;
+
+    /// Gives the libraries that are missing for the fragment of a name and for all that it needs, in the order in which `pef_prepare()`
+    /// looks for them, each name once: those from number `from` on in the first of `places`, and how many they were in `*count`, which
+    /// is as many as there are from there on, or as there are places. The other places are left unchanged. Weak ones are among them.
+    ///
+    /// Ask before `pef_prepare()`, add what you have, and ask again, since what was added may name other libraries. If all that is missing
+    /// then is weak, the preparation isn't refused for a library. Weak libraries have to be added now: later `pef_add()` returns
+    /// PEF_ADDED_TOO_LATE.
+    ///
+    /// Returns PEF_OK; or PEF_ROOT_MISSING, if no fragment has the name; or the first refusal (1 to 20) of a fragment that can't be read;
+    /// or PEF_OUT_OF_MEMORY. If it isn't PEF_OK, `*names` has the names that belong to it, and `places` and `*count` are unchanged. What was
+    /// read is kept for later calls; otherwise the context is unchanged.
+    #[cfg(feature = "native")]
+    pub fn pef_missing(context: *mut pef_context, name: *const u8, name_length: usize, from: usize, places: *mut pef_missing, place_count: usize, count: *mut usize, names: *mut pef_names) -> u32;
 
     /// Prepares the fragment of a name and all that it needs: places them, fills them and relocates them, unless they are
     /// present already.

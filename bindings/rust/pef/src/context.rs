@@ -177,6 +177,39 @@ impl<'a> Context<'a> {
         self.shared.write().reserve(address, size).map_err(Error::new)
     }
 
+    /// The libraries that are missing for the fragment of a name and for all that it needs, in the order in which
+    /// [`prepare`](Self::prepare) looks for them, each name once. Weak libraries are among them.
+    ///
+    /// Add those that you have, and ask again, since these may name others; then prepare the fragment.
+    ///
+    /// ```
+    /// let app = pef::link("library Tools 2 1 weak\n")?;
+    /// let context = pef::Context::new()?;
+    /// context.add("App", &app)?;
+    /// let missing = context.missing("App")?;
+    /// assert_eq!((missing.len(), missing[0].name, missing[0].weak), (1, &b"Tools"[..], true));
+    /// # Ok::<(), Box<dyn std::error::Error>>(())
+    /// ```
+    ///
+    /// # Errors
+    ///
+    /// 60 if no fragment has the name; 1 to 20 for a fragment that can't be read, with its name; or 99.
+    pub fn missing<N: AsRef<[u8]> + ?Sized>(&self, name: &N) -> Result<Vec<MissingLibrary<'a>>, Error> {
+        let nowhere = sys::pef_place { part: sys::PEF_NOWHERE, row: 0, field: 0, offset: sys::PEF_NO_OFFSET };
+        let (mut found, mut most) = (Vec::new(), 64);
+        let mut context = self.shared.write();
+        loop {
+            let rows = context.missing(name.as_ref(), found.len(), most);
+            let rows = rows.map_err(|(number, names)| Error::of_preparation(number, &names, nowhere))?;
+            let is_last = rows.len() < most;
+            found.extend(rows.iter().map(|(name, row)| MissingLibrary::of(name, row)));
+            if is_last {
+                return Ok(found);
+            }
+            most = (2 * most).min(1 << 16);
+        }
+    }
+
     /// Prepares the fragment of a name and all that it needs: places them, fills them and relocates them, unless they are present already.
     ///
     /// # Errors
@@ -206,6 +239,51 @@ impl fmt::Debug for Context<'_> {
     fn fmt(&self, out: &mut fmt::Formatter<'_>) -> fmt::Result {
         let names: Vec<_> = (0..).map_while(|number| self.fragment_name(number)).map(Text).collect();
         out.debug_struct("Context").field("fragments", &names).finish()
+    }
+}
+
+/// A library that a fragment names, and that no fragment of the context serves.
+#[derive(Clone, Copy, PartialEq, Eq)]
+#[non_exhaustive]
+pub struct MissingLibrary<'a> {
+    /// Its name.
+    pub name: &'a [u8],
+    /// The number of the fragment that names it, for [`Context::fragment_name`].
+    pub fragment: usize,
+    /// The version against which that fragment was linked.
+    pub current_version: u32,
+    /// The oldest version of it that fits.
+    pub old_imp_version: u32,
+    /// Whether it may stay missing.
+    pub weak: bool,
+    /// The current version of the fragment with its name, and the oldest definition that this one serves, if there is such a fragment.
+    /// They don't fit.
+    pub found: Option<(u32, u32)>,
+}
+
+impl<'a> MissingLibrary<'a> {
+    fn of(name: &'a [u8], row: &sys::pef_missing) -> Self {
+        Self {
+            name,
+            fragment: row.fragment,
+            current_version: row.current_version,
+            old_imp_version: row.old_imp_version,
+            weak: row.is_weak,
+            found: row.is_found.then_some((row.found_version, row.found_old_def_version)),
+        }
+    }
+}
+
+impl fmt::Debug for MissingLibrary<'_> {
+    fn fmt(&self, out: &mut fmt::Formatter<'_>) -> fmt::Result {
+        out.debug_struct("MissingLibrary")
+            .field("name", &Text(self.name))
+            .field("fragment", &self.fragment)
+            .field("current_version", &self.current_version)
+            .field("old_imp_version", &self.old_imp_version)
+            .field("weak", &self.weak)
+            .field("found", &self.found)
+            .finish()
     }
 }
 

@@ -65,7 +65,9 @@ mod tables;
 pub use code::Code;
 pub use container::{Container, Fixups, Sections};
 #[cfg(all(feature = "native", feature = "std"))]
-pub use context::{Connection, Context, ContextOptions, Entries, Fragment, Fragments, PlacedSection, PlacedSections, Target};
+pub use context::{
+    Connection, Context, ContextOptions, Entries, Fragment, Fragments, MissingLibrary, PlacedSection, PlacedSections, Target,
+};
 pub use damaged::Damaged;
 pub use error::{Error, Part, Place};
 pub use inspect::{findings, Finding, Report};

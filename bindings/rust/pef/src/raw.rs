@@ -474,6 +474,28 @@ mod native {
                 done(unsafe { sys::pef_reserve(&mut self.0, address, size) })
             }
 
+            /// Missing libraries from a number on, at most so many, with their names. An error comes with its names.
+            pub(crate) fn missing(
+                &mut self,
+                name: &[u8],
+                from: usize,
+                most: usize,
+            ) -> Result<Vec<(&'a [u8], sys::pef_missing)>, (Number, Names<'a>)> {
+                let mut names = sys::PEF_NO_NAMES;
+                let context = &mut self.0;
+                // SAFETY: the context is borrowed alone. The call fills as many places as it counts.
+                let rows = unsafe {
+                    new_rows(most, |places, room, count| {
+                        sys::pef_missing(context, name.as_ptr(), name.len(), from, places, room, count, &mut names)
+                    })
+                };
+                // SAFETY: names are parts of what was added, and those that aren't reported are empty.
+                let names =
+                    unsafe { Names { fragment: added(names.fragment), library: added(names.library), symbol: added(names.symbol) } };
+                // SAFETY: the names of the rows, too.
+                rows.map(|rows| rows.into_iter().map(|row| (unsafe { added(row.name) }, row)).collect()).map_err(|answer| (answer, names))
+            }
+
             /// Prepares a fragment. An error comes with its names and its place.
             pub(crate) fn prepare(&mut self, name: &[u8]) -> Result<u32, (Number, Names<'a>, sys::pef_place)> {
                 touch_stack();

@@ -5,7 +5,7 @@ mod common;
 use std::sync::atomic::{AtomicBool, Ordering};
 
 use common::linked;
-use pef::{Code, Connection, Context, ContextOptions, Entries, Error, Fragments, SectionKind, Share, Target};
+use pef::{Code, Connection, Context, ContextOptions, Entries, Error, Fragments, MissingLibrary, SectionKind, Share, Target};
 
 /// The fragments that weak libraries need: `Late` isn't there.
 const WEAK: &str = "library Late 1 0 weak\nimport v data strong\nsection w data process 4 4\nfix w 0 import v\n";
@@ -45,6 +45,28 @@ fn a_library_and_what_uses_it() {
     assert_eq!((fragments[0].symbol("answer"), fragments[0].symbol("question")), (Some(0x10000), None));
     assert_eq!(names(connection.init_order()), ["Tools", "user"]);
     assert_eq!((context.fragment_name(0), context.fragment_name(2)), (Some(&b"user"[..]), None));
+}
+
+#[test]
+fn missing_libraries() {
+    let [app, library, other] =
+        ["library W 1 0 weak\nlibrary L 1 0 -\nlibrary S 7 5 -\n", "versions 1 0 0\nlibrary W 2 1 -\n", "versions 3 2 0\n"]
+            .map(|script| pef::link(script).unwrap());
+    let context = Context::new().unwrap();
+    refuses(60, context.missing("App"));
+    context.add("App", &app).unwrap();
+    let rows = |missing: Vec<MissingLibrary<'_>>| {
+        missing.iter().map(|it| (it.name[0], it.fragment, it.current_version, it.old_imp_version, it.weak, it.found)).collect::<Vec<_>>()
+    };
+    let asked = [(b'W', 0, 1, 0, true, None), (b'L', 0, 1, 0, false, None), (b'S', 0, 7, 5, false, None)];
+    assert_eq!(rows(context.missing("App").unwrap()), asked);
+    context.add("L", &library).unwrap();
+    context.add("S", &other).unwrap();
+    let asked = [(b'W', 1, 2, 1, false, None), (b'S', 0, 7, 5, false, Some((3, 2)))];
+    assert_eq!(rows(context.missing("App").unwrap()), asked);
+    assert_eq!(context.missing("S").unwrap(), []);
+    context.add("W", b"no container").unwrap();
+    assert_eq!(named(&refuses(1, context.missing("App"))), ["W"]);
 }
 
 #[test]

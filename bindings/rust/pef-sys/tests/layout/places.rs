@@ -23,6 +23,7 @@ places! {
     pef_context { handle is_open }
     pef_options { size limit granule connections steps bytes }
     pef_names { fragment library symbol }
+    pef_missing { name fragment current_version old_imp_version found_version found_old_def_version is_weak is_found }
     pef_fragment_section { address size kind share }
     pef_entries { init main term has_init has_main has_term }
     pef_target { kind fragment section offset address }

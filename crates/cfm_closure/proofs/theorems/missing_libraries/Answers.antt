@@ -1,0 +1,10 @@
+use Rattle.cfm_closure.proofs.LackLemmas.{missing-weak}
+use Rattle.cfm_closure.proofs.ListedLemmas.{missing-apart, missing-lacking}
+use Rattle.cfm_closure.proofs.theorems.missing_libraries.Goals as goal
+
+pub returns : goal.returns
+returns c = record {
+  lacking = missing-lacking;
+  once = missing-apart;
+  weak = missing-weak;
+}

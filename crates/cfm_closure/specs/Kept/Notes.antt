@@ -1,0 +1,14 @@
+-- What is noted, and the places of its names.
+use Rattle.std.specs.Prelude.{ℕ, List, [], map}
+use Rattle.std.specs.Borrow.{Bor}
+use Rattle.cfm_closure.specs.Kept.Places.{ArePlaces}
+use Rattle.cfm_closure.specs.Missing.{Missing}
+use Rattle.cfm_closure.specs.Stores.{Pair}
+
+-- the name of a missing library, as a pair
+abbrev pub name_pair : Missing → Pair
+name_pair m = record { name = m.name; bytes = [] }
+
+-- a table has the place of each name that is noted
+abbrev pub AreNamed : List Missing → List (Bor (List ℕ) × ℕ) → Type 0
+AreNamed ms entries = ArePlaces (map name_pair ms) entries
