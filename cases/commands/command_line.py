@@ -1,4 +1,5 @@
 """Invalid command lines and requests for help, which print `usage` and change no file; and the version."""
+from data.help import HELP
 from data.scripts import EXAMPLE
 from suite import Begins, Case
 
@@ -13,6 +14,9 @@ Arguments:
 
 Options:
   -h, --help  Print help
+
+Example:
+  pef link app.pefscript app.pef
 """
 
 UNNAMED = b"""\
@@ -23,6 +27,8 @@ Usage: pef load <NAME=FILE>...
 For more information, try '--help'.
 """
 
+
+ALL_HELP = b"Links, lists and loads PEF containers\n"
 
 # How each command is used.
 OPERANDS = {
@@ -49,10 +55,9 @@ def unexpected(command, word):
 
 def unknown(word, *has):
     """Returns the error that a word is no command."""
-    return Begins(b"error: unrecognized subcommand '%s'\n" % word, (*has, b"\nUsage: pef <COMMAND>\n"))
+    return Begins(b"error: unrecognized subcommand '%s'\n" % word, (*has, b"\nUsage: pef <COMMAND>\n\n" + ALL_HELP))
 
 
-ALL_HELP = b"Links, lists and loads PEF containers\n"
 FILES_OR_LIST = Begins(b"error: give either FILEs or `--files0`", (b"\nUsage: pef inspect [OPTIONS] [FILE]...\n",))
 
 # Words, and what the standard error has.
@@ -89,8 +94,12 @@ USAGE = (
     (["--help"], Begins(ALL_HELP, (b"\n  show ",))),
     (["-h"], Begins(ALL_HELP, (b"\n      --version ",))),
     (["help"], Begins(ALL_HELP, (b"\n  check ",))),
-    (["help", "distances"], Begins(b"Prints certificates", (b"\nUsage: pef distances <SCRIPT>\n",))),
+    (["help", "distances"], Begins(b"Prints certificates", (b"\nUsage: pef distances <SCRIPT>\n", b"\n\nExample:\n  pef distances app.pefscript > app.cert\n"))),
     (["help", "link"], LINK_HELP),
+    (["help", "71"], b"71 FileUnreadable\n" + HELP[71]),
+    (["help", "112"], Begins(b"112 Overlap\n")),
+    # no errors, and no numbers
+    *((["help", it], Begins(b"error: unrecognized subcommand '%s'\n" % it.encode())) for it in ("100", "071", "71x", "4294967367")),
     (["link", "--help"], LINK_HELP),
     (["list", "--help"], Begins(b"Lists what a container declares\n", (b"\nUsage: pef list <FILE>\n",))),
     (["load", "--help"], Begins(b"Prints the memory that containers become\n", (b"\nUsage: pef load <NAME=FILE>...\n",))),

@@ -13,6 +13,8 @@ FORK = mac_files.FRAGMENT_FORK
 # the data file, and `Drv` is the resource at 200.
 FORK_REPORT = b""" size 273 format resources data d/a
 00000000 fork resource size 273
+00000014 resource cfrg 0 size 176 attributes 0
+000000C8 resource ndrv 128 size 3 attributes 0
 00000034 fragment 0 Calc architecture m68k usage 0 library where 1 data container 00000000 size 264 versions - - current 0 olddef 0 \
 level 0 stack 0 directory 0 place 00000000 length 0 space 0 instance 0 extensions 0
 00000064 fragment 1 Calc architecture pwpc usage 0 library where 1 data container 00000008 size 250 versions - - current 0 olddef 0 \
@@ -83,8 +85,10 @@ CASES += [
 CASES.append(inspected(
     "two objects", ["--json", "d/a"], {"d/%a": FORK}, status=1,
     printed=Begins(
-        b'{"file":"d/a","size":264,"format":"other","forks":[],"fragments":[],"containers":[],"errors":[],"notes":[]}\n'
+        b'{"file":"d/a","size":264,"format":"other","forks":[],"mac":null,"resources":[],"fragments":[],"containers":[],"errors":[],"notes":[]}\n'
         b'{"file":"d/%25a","data":"d/a","size":273,"format":"resources","forks":[{"kind":"resource","offset":0,"length":273}],'
+        b'"mac":null,"resources":[{"type":"cfrg","id":0,"name":null,"offset":20,"length":176,"attributes":0},'
+        b'{"type":"ndrv","id":128,"name":null,"offset":200,"length":3,"attributes":0}],'
         b'"fragments":[{"name":"Calc","offset":0,"size":264,'
     ),
 ))

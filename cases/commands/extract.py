@@ -12,6 +12,14 @@ FOUND = (
     ((), "Drv", b"drv"),
     # `#` is part of a name if no number follows it
     (((711, b"\x02"), (703, b"#01")), "#01", b"dr"),
+    # the name as it is printed, and in UTF-8
+    (((703, b"\x8e%a"),), "%8E%25a", b"drv"),
+    (((703, b"\x8e%a"),), "\u00e9%a", b"drv"),
+    (((703, b"A\xdb\xf0"),), "A\u20ac\uf8ff", b"drv"),
+    (((703, b"A\xdb\xf0"),), "A%DB%F0", b"drv"),
+    # the bytes of a name come first
+    (((703, b"%41"),), "%41", b"drv"),
+    (((703, b"%41"),), "%2541", b"drv"),
 )
 
 CASES = [
@@ -52,7 +60,12 @@ CASES += [
 # No fragment or container has these names.
 CASES += [
     Case(f"nothing is {name}", ["extract", "a", name, "out"], {"a": fragment_file(VECTORS)}, **refused(b"80 NoContainer"))
-    for name in ("#1", "#", "#-1", "#4294967296", "calc")
+    for name in ("#1", "#", "#-1", "#4294967296", "calc", "Cal%63", "Cal", "Calc\u00e9")
+]
+# A name is printed in one way, and its characters are composed ones.
+CASES += [
+    Case(f"nothing is {name}", ["extract", "a", name, "out"], {"a": fragment_file(VECTORS, (703, b"A\x8eB"))}, **refused(b"80 NoContainer"))
+    for name in ("A%8eB", "A%8E", "A%8EB%", "A\u00e9", "Ae\u0301B", "%41%8EB", "A\u00e9%42")
 ]
 
 # Files, by their errors. The resource fork is at 512, its data at 528, and its map at 715.

@@ -14,7 +14,7 @@ def unread(path, why):
 def unread_object(path, why):
     """The same as JSON."""
     return (
-        b'{"file":"%s","size":null,"format":null,"forks":[],"fragments":[],"containers":[],"errors":[{"number":71,"name":"FileUnreadable",'
+        b'{"file":"%s","size":null,"format":null,"forks":[],"mac":null,"resources":[],"fragments":[],"containers":[],"errors":[{"number":71,"name":"FileUnreadable",'
         b'"part":null,"row":null,"field":null,"offset":null,"reason":"%s"}],"notes":[]}\n' % (path, why)
     )
 
@@ -29,7 +29,7 @@ CASES = [
     Case("a file without bytes", ["inspect", "a"], {"a": b""}, stdout=b"file a size 0 " + OTHER),
     Case(
         "a file without containers as JSON", ["inspect", "--json", "a"], {"a": b"text"},
-        stdout=b'{"file":"a","size":4,"format":"other","forks":[],"fragments":[],"containers":[],"errors":[],"notes":[]}\n',
+        stdout=b'{"file":"a","size":4,"format":"other","forks":[],"mac":null,"resources":[],"fragments":[],"containers":[],"errors":[],"notes":[]}\n',
     ),
     Case(
         "a cut header of AppleDouble", ["inspect", "a"], {"a": CUT, **BESIDE}, status=1,
@@ -37,7 +37,7 @@ CASES = [
     ),
     Case(
         "a version of AppleDouble as JSON", ["inspect", "--json", "a"], {"a": VERSION_3, **BESIDE}, status=1,
-        stdout=b'{"file":"a","size":26,"format":"damaged","forks":[],"fragments":[],"containers":[],"errors":[{"number":83,'
+        stdout=b'{"file":"a","size":26,"format":"damaged","forks":[],"mac":null,"resources":[],"fragments":[],"containers":[],"errors":[{"number":83,'
         b'"name":"BadAppleVersion","part":"fork","row":null,"field":null,"offset":4}],"notes":[]}\n',
     ),
     Case(
@@ -97,6 +97,9 @@ CASES.append(Case(
     stdout=b"""file a size 785 format macbinary
 00000080 fork data size 264
 00000200 fork resource size 273
+mac name File type %00%00%00%00 creator %00%00%00%00 created 1904-01-01T00:00:00 modified 1904-01-01T00:00:00
+00000214 resource cfrg 0 size 176 attributes 0
+000002C8 resource ndrv 128 size 3 attributes 0
 00000234 fragment 0 Calc architecture m68k usage 0 library where 1 data container 00000080 size 264 versions - - current 0 olddef 0 \
 level 0 stack 0 directory 0 place 00000000 length 0 space 0 instance 0 extensions 0
 00000264 fragment 1 Calc architecture pwpc usage 0 library where 1 data container 00000088 size 250 versions - - current 0 olddef 0 \
@@ -109,6 +112,14 @@ error 80 NoContainer fragment at 000002C8
 total containers 0 errors 3 notes 0
 """,
 ))
+
+# Each container takes 8,406 from a budget of 67,108,864 and the length of the file. What isn't inspected makes the status 1.
+CASES += [
+    Case(f"{count} containers", ["inspect", "a"], {"a": VECTORS * count}, status=status, stdout=Begins(
+        b"file a size %d format container\n" % (250 * count), (b"%stotal containers %d errors 0 notes %d\n" % (note, count, notes),),
+    ))
+    for count, status, note, notes in ((8228, 0, b"", 8227), (8300, 1, b"note 115 ContainersUnverified containers 70\n", 8231))
+]
 
 # The container is 16 bytes into the file. The code's raw bytes end past the end, over those of the other sections, and the program's
 # section doesn't exist.
@@ -148,7 +159,7 @@ total containers 1 errors 2 notes 0
 ]
 
 # The same in JSON: the file up to its containers, a container up to its sections, a section without a name, and the end of the file.
-JSON_FILE = '{"file":"a","size":%d,"format":"%s","forks":[],"fragments":[],"containers":['
+JSON_FILE = '{"file":"a","size":%d,"format":"%s","forks":[],"mac":null,"resources":[],"fragments":[],"containers":['
 JSON_HEADER = (
     '{"offset":%d,"header":{"architecture":"pwpc","format_version":1,"current":1,"current_text":"-","olddef":0,"olddef_text":"-","oldimp":0,'
     '"oldimp_text":"-","date":0,"date_text":"1904-01-01T00:00:00","sections":3,"instantiated":2,"reserved":0},"sections":['

@@ -13,6 +13,7 @@ CASES = [
         stdout=b"""file a size 300 format macbinary
 00000080 fork data size 4
 00000100 fork resource size 44
+mac name a type %00%00%00%00 creator %00%00%00%00 created 1904-01-01T00:00:00 modified 1904-01-01T00:00:00
 error 88 BadTypeList resource at 00000128
 total containers 0 errors 1 notes 0
 """,

@@ -821,10 +821,33 @@ MEMBER_FILE = mac_binary(b"not yet." + WHOLE, resource_fork(b"cfrg", 0, struct.p
 MEMBER_LINES = """
 00000080 fork data size 500
 00000280 fork resource size 150
+mac name Calc type APPL creator ???? created 1904-01-01T00:00:00 modified 1904-01-01T00:00:00
+00000294 resource cfrg 0 size 80 attributes 0
 000002B4 fragment 0 Calc architecture pwpc usage 1 application where 1 data container 00000088 size 492 versions 1.2b3 1.0 \
 current 18898947 olddef 16809984 level 0 stack 65536 directory 5 place 00000008 length 492 space 7 instance 9 extensions 0
 """.strip().splitlines()
 MEMBER_FORKS = [{"kind": "data", "offset": 0x80, "length": 500}, {"kind": "resource", "offset": 0x280, "length": 150}]
+MEMBER_MAC = {
+    "name": "Calc", "type": "APPL", "creator": "????", "flags": 0, "created": 0, "created_text": "1904-01-01T00:00:00", "modified": 0,
+    "modified_text": "1904-01-01T00:00:00",
+}
+# What files in AppleDouble say of themselves, by their entries: the name (3), the dates (8) and what the Finder knows (9). Dates count
+# from 2000, the earliest one is unknown, and one after 2040 doesn't fit.
+NOTHING_SAID = dict.fromkeys(MEMBER_MAC)
+FINDER = b"APPLCalc\x21\x40" + bytes(22)
+SAID = [
+    ([], {}),
+    ([(3, b"Caf\x8e")], {"name": "Caf\u00e9", "name_hex": "4361668E"}),
+    ([(9, FINDER)], {"type": "APPL", "creator": "Calc", "flags": 0x2140}),
+    ([(9, FINDER[:15])], {}),
+    ([(8, struct.pack(">4i", 1, -2, 3, 4))], {
+        "created": 3029529601, "created_text": "2000-01-01T00:00:01", "modified": 3029529598, "modified_text": "1999-12-31T23:59:58",
+    }),
+    ([(8, struct.pack(">4i", -0x80000000, -0x7FFFFFFF, 3, 4))], {"modified": 882045953, "modified_text": "1931-12-13T20:45:53"}),
+    ([(8, struct.pack(">4i", 1265437695, 1265437696, 3, 4))], {"created": 4294967295, "created_text": "2040-02-06T06:28:15"}),
+    ([(8, struct.pack(">3i", 1, 2, 3))], {}),
+]
+MEMBER_RESOURCES = [{"type": "cfrg", "id": 0, "name": None, "offset": 0x294, "length": 80, "attributes": 0}]
 MEMBER_FRAGMENTS = [{
     "name": "Calc", "offset": 0x88, "size": 492, "row": 0, "at": 0x2B4, "architecture": "pwpc", "usage": 1, "where": 1,
     "current": 0x01206003, "current_text": "1.2b3", "olddef": 0x01008000, "olddef_text": "1.0", "level": 0, "stack": 65536,
@@ -865,6 +888,18 @@ def shared_by_sections(count: int, length: int) -> bytes:
     """The header of a container, and headers of sections without bytes, which all have one name."""
     head = b"Joy!peffpwpc" + struct.pack(">IIIIIHHI", 1, 0, 0, 0, 0, count, 0, 0)
     return head + struct.pack(">iIIIIIBBBB", 0, 0, 0, 0, 0, 0, 5, 4, 4, 0) * count + b"n" * length + b"\0"
+
+
+def headers_and_zeros(count: int, length: int) -> bytes:
+    """So many headers of containers without sections, and zeros, which each of them has to itself."""
+    return (b"Joy!peffpwpc" + struct.pack(">IIIIIHHI", 1, 0, 0, 0, 0, 0, 0, 0)) * count + bytes(length)
+
+
+def members_of_sections(members: int, sections: int) -> bytes:
+    """A file in MacBinary with so many members of the table of fragments, all at one container with so many sections."""
+    data = shared_by_sections(sections, 0)
+    table = struct.pack(">10xH18xH", 1, members) + fragments((b"Many", 1, 0, 0))[32:] * members
+    return mac_binary(data, resource_fork(b"cfrg", 0, table))
 
 
 def reordered(contents: bytes, order: List[int], count: int, instantiated: int) -> bytes:

@@ -40,11 +40,6 @@ containers-skip (b ∷ bytes) (suc k) offset under none =
     let e : offset + 1 + k ≡ offset + suc k = omega arith in
     rw (other-head b bytes (none 0 (omega arith)), later, e) refl
 
--- the first place and the others
-pub containers-here : (bytes : List ℕ) (offset : ℕ) → 0 < length bytes → containers_in bytes offset ≡ cond (begins_container bytes) (offset ∷ containers_in (drop 1 bytes) (offset + 1)) (containers_in (drop 1 bytes) (offset + 1))
-containers-here [] offset under = absurd (omega arith)
-containers-here (b ∷ bytes) offset under = refl
-
 -- what a search for the byte finds
 pub skips : (bytes : List ℕ) (r : Option ℕ) → IsFirstByte (is_byte 0x4A) bytes r → SkipsTo bytes r
 skips bytes None nowhere = λ offset. containers-none bytes offset (λ j under is. nowhere j (omega arith) under (eq-eqb _ 0x4A is))

@@ -113,6 +113,22 @@ container_in_pair bytes resources name = named_in_pair name bytes (mac_file_of b
 unfoldable pub container_named : List ℕ → List ℕ → Result (List ℕ) FragmentFault
 container_named bytes name = container_in_pair bytes bytes name
 
+-- the table of fragments of a file
+abbrev pub table_read : Result TableIs MemberFault → Result TableIs FragmentFault
+table_read (Ok table) = Ok table
+table_read (Err fault) = Err (Member fault)
+
+abbrev pub table_in_fork : Result ForkIs ResourceFault → Result TableIs FragmentFault
+table_in_fork (Ok resources) = and_then (resource_bytes (resource_with resources 0x6366_7267 (pos 0))) (λ table. table_read (table_of table))
+table_in_fork (Err fault) = Err (Resource fault)
+
+abbrev pub table_with : List ℕ → Result MacFileIs ForkFault → Result TableIs FragmentFault
+table_with bytes (Ok file) = and_then (fork_bytes (resource_fork_of bytes file)) (λ fork. table_in_fork (fork_of fork))
+table_with bytes (Err fault) = Err (Fork fault)
+
+unfoldable pub table_in_file : List ℕ → Result TableIs FragmentFault
+table_in_file bytes = table_with bytes (mac_file_of bytes)
+
 -- the container with a number, from 0, among all that begin in some bytes, and all bytes after it that it can have
 unfoldable pub container_numbered : List ℕ → ℕ → Option (List ℕ)
 container_numbered bytes number = option_map (rest_from bytes) (slice_get (containers_in bytes 0) number)

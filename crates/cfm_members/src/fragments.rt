@@ -4,6 +4,7 @@ ghost use Rattle.std.specs.Option.{option_copied};
 ghost use Rattle.pef_words.specs.Refusals.{result_map};
 ghost use Rattle.mac_forks.specs.MacFile.{mac_file_of};
 ghost use Rattle.mac_forks.specs.Views.{mac_file_seen, part_seen};
+ghost use Rattle.mac_resources.specs.Fork.{fork_of};
 ghost use Rattle.mac_resources.specs.Views.{fork_seen, resource_seen};
 ghost use Rattle.cfm_members.specs.Fragments.{
   container_in_pair,
@@ -19,6 +20,9 @@ ghost use Rattle.cfm_members.specs.Fragments.{
   named_in,
   named_in_forks,
   resource_bytes,
+  table_in_file,
+  table_in_fork,
+  table_read,
 };
 ghost use Rattle.std.specs.Prelude.{◌+◌};
 ghost use Rattle.cfm_members.specs.Fragments.{first_named};
@@ -115,6 +119,50 @@ pub fn container_in_forks<'a>(
     match member_named(table, name) {
         Ok(member) => member_container(&member, data_fork, resources),
         Err(fault) => Err(fault),
+    }
+}
+
+/// Returns the table of fragments of a file: its resource `cfrg` 0.
+///
+/// # Errors
+///
+/// The first error of the file's header, of the resource fork's entry, of the fork's header and map, and of the table's bytes and
+/// header. Without a resource fork or the resource it is [`FragmentFault::NoContainer`].
+#[tactic(auto, unfolding(crate::specs::Fragments::table_in_file))]
+pub fn fragment_table<'a>(bytes: &'a [u8]) -> Result<FragmentTable<'a>, FragmentFault>
+    ensures { result_map table_seen result ≡ table_in_file bytes.entry.now }
+{
+    let file = match MacFile::read(bytes) {
+        Ok(file) => file,
+        Err(fault) => return Err(FragmentFault::Fork(fault)),
+    };
+    match fork_bytes(Forks::of(bytes, &file).resource_fork) {
+        Ok(resources) => table_in_fork(resources),
+        Err(fault) => Err(fault),
+    }
+}
+
+/// Returns the table of fragments of a resource fork.
+fn table_in_fork<'a>(resources: &'a [u8]) -> Result<FragmentTable<'a>, FragmentFault>
+    ensures { result_map table_seen result ≡ table_in_fork (fork_of resources.entry.now) }
+{
+    let resources = match ResourceFork::read(resources) {
+        Ok(resources) => resources,
+        Err(fault) => return Err(FragmentFault::Resource(fault)),
+    };
+    match resource_bytes(resources.find(FRAGMENT_TABLE_TYPE, FRAGMENT_TABLE_ID)) {
+        Ok(table) => read_table(table),
+        Err(fault) => Err(fault),
+    }
+}
+
+/// Reads a table of fragments.
+fn read_table<'a>(table: &'a [u8]) -> Result<FragmentTable<'a>, FragmentFault>
+    ensures { result_map table_seen result ≡ table_read (table_of table.entry.now) }
+{
+    match FragmentTable::read(table) {
+        Ok(table) => Ok(table),
+        Err(fault) => Err(FragmentFault::Member(fault)),
     }
 }
 

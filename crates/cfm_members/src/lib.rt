@@ -23,7 +23,9 @@ pub use fault::MemberFault;
 pub use file_kind::FileKind;
 pub use forks::Forks;
 pub use fragment_fault::FragmentFault;
-pub use fragments::{container_in_forks, container_in_pair, named_container, numbered_container};
+pub use fragments::{
+    container_in_forks, container_in_pair, fragment_table, named_container, numbered_container,
+};
 pub use member::{Locator, Member, MemberHeader, Usage};
 pub use num_version::{NumVersion, Stage};
 pub use search::Containers;

@@ -1,3 +1,5 @@
 mod ContainerLemmas
 mod FragmentLemmas
 mod PartLemmas
+mod QuietLemmas
+mod ResourceLemmas

@@ -11,6 +11,7 @@ use Rattle.pef_inspect.specs.Limits.{most_packed, most_program_bytes, most_steps
 use Rattle.pef_inspect.specs.declared.limits.Limits.{Limits}
 use Rattle.pef_report.specs.Inspection as inspection
 use Rattle.pef_report.specs.Inspection.{Inspected, count_chosen, inspection_object, inspection_text}
+use Rattle.pef_report.specs.Objects.{separator}
 use Rattle.pef_report.specs.Tokens.{at_text}
 use Rattle.pef_report.specs.declared.frames.Counts.{Counts}
 pub use Rattle.mac_report.specs.Sums.{up_to}
@@ -25,10 +26,10 @@ pub data RowIs : Type 0 where
   lacking : ℕ → RowIs
   skipped : RowIs
 
--- what the inspection of a container takes from the budget, by the bytes from its first on: 64 kilobytes, its header, and
+-- what the inspection of a container takes from the budget, by the bytes from its first on: 8 kilobytes, its header, and
 -- the headers of the sections that it says that it has
 unfoldable pub headers_cost : List ℕ → ℕ
-headers_cost rest = 2 ^ 16 + 40 + 28 * unwrap_or (number_at 2 rest 32) 0
+headers_cost rest = 2 ^ 13 + 40 + 28 * unwrap_or (number_at 2 rest 32) 0
 
 -- .. and its loader section, as far as it is there
 abbrev pub loader_length : Result Contained ViewFault → ℕ
@@ -50,10 +51,6 @@ IsRowIf false limits rest at row = IsInspected limits rest at row
 
 abbrev pub IsRow : List ℕ → Turn → ℕ → RowIs → Type 0
 IsRow bytes t at row = IsRowIf (nat_lt t.budget (cost (rest_from bytes at))) t.limits (rest_from bytes at) at row
-
--- the comma between two objects
-abbrev pub separator : Bool → List ℕ
-separator is_first = if is_first then [] else codes ","
 
 -- what is printed of a container that was inspected
 abbrev pub inspected_object : Bool → Inspected → List ℕ
@@ -138,4 +135,5 @@ total t errors notes = record {
   containers = t.turn.containers;
   errors = up_to (t.errors + errors);
   notes = up_to (up_to (t.notes + notes) + (if nat_lt 0 t.turn.skipped then 1 else 0));
+  unverified = t.turn.skipped;
 }

@@ -15,22 +15,24 @@ use Rattle.cfm_members.specs.declared.file_kind.FileKind.TheVariants.{Container}
 use Rattle.cfm_members.specs.declared.fragment_fault.FragmentFault.TheVariants.{Fork, Resource, Member, NoContainer}
 use Rattle.mac_report.specs.DataFiles.{DataFileIs, members_fork}
 use Rattle.mac_report.specs.MacParts.{PlaceIs, SceneIs, WrappingIs, elsewhere, lying, missing, place_of, resources_in, scene_of, wrapping_of}
+use Rattle.mac_report.specs.declared.file_finding.FileFinding.{FileFinding}
+use Rattle.mac_report.specs.declared.file_finding.FileFinding.TheVariants.{Error}
 use Rattle.mac_report.specs.declared.scene.Found.{Found}
 
 -- the error of the header of a file or of its rows of entries, and of the entry of a fork
-abbrev pub header_faults : Option ForkFault → List Found
+abbrev pub header_faults : Option ForkFault → List FileFinding
 header_faults None = []
-header_faults (Some fault) = record { fault = Fork fault; base = 0 } ∷ []
+header_faults (Some fault) = Error (record { fault = Fork fault; base = 0 }) ∷ []
 
-abbrev pub entry_faults : Option (Result Lying ForkFault) → List Found
+abbrev pub entry_faults : Option (Result Lying ForkFault) → List FileFinding
 entry_faults None = []
 entry_faults (Some (Ok part)) = []
-entry_faults (Some (Err fault)) = record { fault = Fork fault; base = 0 } ∷ []
+entry_faults (Some (Err fault)) = Error (record { fault = Fork fault; base = 0 }) ∷ []
 
 -- an error of a resource fork that begins at an offset of the file
-abbrev pub resource_fault_list : ℕ → Option ResourceFault → List Found
+abbrev pub resource_fault_list : ℕ → Option ResourceFault → List FileFinding
 resource_fault_list base None = []
-resource_fault_list base (Some fault) = record { fault = Resource fault; base = base } ∷ []
+resource_fault_list base (Some fault) = Error (record { fault = Resource fault; base = base }) ∷ []
 
 -- the errors of a resource: of its row, of its name and of its bytes
 abbrev pub name_fault : Option (Result (List ℕ) ResourceFault) → Option ResourceFault
@@ -42,65 +44,65 @@ abbrev pub err : {A F : Type 0} → Result A F → Option F
 err (Ok x) = None
 err (Err fault) = Some fault
 
-abbrev pub resource_faults : ℕ → Result ResourceIs ResourceFault → List Found
+abbrev pub resource_faults : ℕ → Result ResourceIs ResourceFault → List FileFinding
 resource_faults base (Ok r) = resource_fault_list base (name_fault r.name) ++ resource_fault_list base (err r.contents)
 resource_faults base (Err fault) = resource_fault_list base (Some fault)
 
-abbrev pub resources_faults : ℕ → List (Result ResourceIs ResourceFault) → List Found
+abbrev pub resources_faults : ℕ → List (Result ResourceIs ResourceFault) → List FileFinding
 resources_faults base [] = []
 resources_faults base (row ∷ rows) = resource_faults base row ++ resources_faults base rows
 
 -- an error of a table of fragments that begins at an offset of the file
-abbrev pub member_fault_list : ℕ → Option MemberFault → List Found
+abbrev pub member_fault_list : ℕ → Option MemberFault → List FileFinding
 member_fault_list base None = []
-member_fault_list base (Some fault) = record { fault = Member fault; base = base } ∷ []
+member_fault_list base (Some fault) = Error (record { fault = Member fault; base = base }) ∷ []
 
 -- no container begins where one should be
-abbrev pub none_there : ℕ → FileKind → List Found
+abbrev pub none_there : ℕ → FileKind → List FileFinding
 none_there at Container = []
-none_there at kind = record { fault = NoContainer; base = at } ∷ []
+none_there at kind = Error (record { fault = NoContainer; base = at }) ∷ []
 
-abbrev pub place_faults : PlaceIs → List Found
+abbrev pub place_faults : PlaceIs → List FileFinding
 place_faults elsewhere = []
-place_faults (missing found) = found ∷ []
+place_faults (missing found) = Error found ∷ []
 place_faults (lying at bytes) = none_there at (kind_of bytes)
 
 -- the errors of a member: of its name, of its size and of its container
-abbrev pub member_faults : SceneIs → MemberIs → List Found
+abbrev pub member_faults : SceneIs → MemberIs → List FileFinding
 member_faults s m =
     member_fault_list s.table_base (err m.name) ++ (member_fault_list s.table_base m.fault ++ place_faults (place_of s m))
 
-abbrev pub row_faults : SceneIs → Result MemberIs MemberFault → List Found
+abbrev pub row_faults : SceneIs → Result MemberIs MemberFault → List FileFinding
 row_faults s (Ok m) = member_faults s m
 row_faults s (Err fault) = member_fault_list s.table_base (Some fault)
 
-abbrev pub members_faults : SceneIs → List (Result MemberIs MemberFault) → List Found
+abbrev pub members_faults : SceneIs → List (Result MemberIs MemberFault) → List FileFinding
 members_faults s [] = []
 members_faults s (row ∷ rows) = row_faults s row ++ members_faults s rows
 
 -- the error of a table of fragments, or those of its members
-abbrev pub table_faults : Option (Result SceneIs Found) → List Found
+abbrev pub table_faults : Option (Result SceneIs Found) → List FileFinding
 table_faults None = []
 table_faults (Some (Ok s)) = members_faults s (all_members s.table)
-table_faults (Some (Err found)) = found ∷ []
+table_faults (Some (Err found)) = Error found ∷ []
 
 -- the errors of a resource fork, and of its table of fragments
-abbrev pub fork_faults : Option Lying → ℕ → ForkIs → List Found
+abbrev pub fork_faults : Option Lying → ℕ → ForkIs → List FileFinding
 fork_faults data_fork base fork =
     resource_fault_list base (map_is_cut fork)
     ++ (resources_faults base (all_resources fork) ++ table_faults (scene_of data_fork base fork))
 
-abbrev pub read_faults : Option Lying → ℕ → Option (Result ForkIs ResourceFault) → List Found
+abbrev pub read_faults : Option Lying → ℕ → Option (Result ForkIs ResourceFault) → List FileFinding
 read_faults data_fork base None = []
 read_faults data_fork base (Some (Ok fork)) = fork_faults data_fork base fork
 read_faults data_fork base (Some (Err fault)) = resource_fault_list base (Some fault)
 
-abbrev pub parts_faults : Option Lying → Option Lying → List Found
+abbrev pub parts_faults : Option Lying → Option Lying → List FileFinding
 parts_faults data_fork None = []
 parts_faults data_fork (Some part) = read_faults data_fork part.offset (resources_in part)
 
 -- of the header, of the parts of MacBinary that pass the end, and of the rows of entries
-abbrev pub head_faults : WrappingIs → List Found
+abbrev pub head_faults : WrappingIs → List FileFinding
 head_faults w =
     header_faults w.fault
     ++ (header_faults w.cuts.data_fork
@@ -108,10 +110,10 @@ head_faults w =
     ++ (header_faults w.cuts.comment
     ++ header_faults w.cut)))
 
-abbrev pub wrapping_faults : Option DataFileIs → WrappingIs → List Found
+abbrev pub wrapping_faults : Option DataFileIs → WrappingIs → List FileFinding
 wrapping_faults other w =
     head_faults w ++ (entry_faults w.data_fork ++ (entry_faults w.resource_fork ++ parts_faults (members_fork other w.data_fork) (readable w.resource_fork)))
 
 -- all errors of a file but those of its containers. Its data fork may be in another file
-unfoldable pub faults_of : Option DataFileIs → List ℕ → List Found
+unfoldable pub faults_of : Option DataFileIs → List ℕ → List FileFinding
 faults_of other bytes = wrapping_faults other (wrapping_of bytes)

@@ -1,7 +1,7 @@
 -- What is odd about a file besides its containers, and breaks no rule: bytes after the forks of MacBinary, fragments that don't
 -- hold their container, or whose data fork isn't there, and files of other formats, which aren't unpacked. Which oddities are
 -- noted, and by which bytes a format is recognised, is this project's own.
-use Rattle.std.specs.Prelude.{ℕ, ◌+◌, ◌-◌, ◌==◌, ◌&&◌, ◌||◌, Bool, true, false, List, [], ◌∷◌, ◌++◌, Option, None, Some, Result, Ok, Err, codes, decimal, drop, length, nat_le, nat_lt, take, if◌then◌else◌}
+use Rattle.std.specs.Prelude.{ℕ, ◌+◌, ◌-◌, ◌==◌, ◌&&◌, ◌||◌, Bool, List, [], ◌∷◌, ◌++◌, Option, None, Some, Result, Ok, Err, codes, drop, length, nat_le, nat_lt, take, if◌then◌else◌}
 use Rattle.std.specs.Option.{unwrap_or}
 use Rattle.std.specs.Str.{bytes_eq}
 use Rattle.pef_words.specs.Bytes.{number_at}
@@ -12,21 +12,17 @@ use Rattle.cfm_members.specs.declared.fault.MemberFault.{MemberFault}
 use Rattle.cfm_members.specs.declared.member.Locator.{Locator}
 use Rattle.cfm_members.specs.declared.member.Locator.TheVariants as locator
 use Rattle.pef_views.specs.Partial.{partial_of}
-use Rattle.pef_report.specs.Tokens.{at_text}
 use Rattle.pef_report.specs.Verdict.{needed_of}
-use Rattle.mac_report.specs.Containers.{separator, up_to}
+use Rattle.mac_report.specs.Containers.{up_to}
 use Rattle.mac_report.specs.DataFiles.{DataFileIs, scene_in}
-use Rattle.mac_report.specs.Founds.{number_or_null, row_digits, row_space}
 use Rattle.mac_report.specs.MacParts.{PlaceIs, SceneIs, WrappingIs, elsewhere, lying, missing, place_of, wrapping_of}
-use Rattle.mac_report.specs.declared.file.Form.{Form}
-use Rattle.mac_report.specs.declared.file.Form.TheVariants.{Text, Json}
-use Rattle.mac_report.specs.declared.file_note.FileNote.{FileNote}
-use Rattle.mac_report.specs.declared.file_note.FileNote.TheVariants.{BytesAfterForks, FragmentShort, DataForkElsewhere, NotUnpacked}
-use Rattle.mac_report.specs.declared.file_note.OtherFormat.{OtherFormat}
-use Rattle.mac_report.specs.declared.file_note.OtherFormat.TheVariants.{StuffIt, CompactPro, BinHex, Zip, DiskCopy, Hfs, HfsPlus, PartitionMap, Iso9660}
+use Rattle.mac_report.specs.declared.file_finding.FileFinding.{FileFinding}
+use Rattle.mac_report.specs.declared.file_finding.FileFinding.TheVariants.{BytesAfterForks, FragmentShort, DataForkElsewhere, NotUnpacked}
+use Rattle.mac_report.specs.declared.file_finding.OtherFormat.{OtherFormat}
+use Rattle.mac_report.specs.declared.file_finding.OtherFormat.TheVariants.{StuffIt, CompactPro, BinHex, Zip, DiskCopy, Hfs, HfsPlus, PartitionMap, Iso9660}
 
 -- the bytes after the forks
-abbrev pub after_notes : ℕ → Option ℕ → List FileNote
+abbrev pub after_notes : ℕ → Option ℕ → List FileFinding
 after_notes len None = []
 after_notes len (Some end) = if nat_lt end len then BytesAfterForks end (len - end) ∷ [] else []
 
@@ -89,12 +85,12 @@ format_of bytes =
     if is_zip bytes then Some Zip else
     volume_of bytes
 
-abbrev pub format_notes : ℕ → Option OtherFormat → List FileNote
+abbrev pub format_notes : ℕ → Option OtherFormat → List FileFinding
 format_notes at None = []
 format_notes at (Some format) = NotUnpacked at format ∷ []
 
 -- the data fork, or all bytes of a file without forks
-abbrev pub unpacked_in : List ℕ → Option Lying → Option Lying → List FileNote
+abbrev pub unpacked_in : List ℕ → Option Lying → Option Lying → List FileFinding
 unpacked_in bytes (Some data_fork) resource_fork = format_notes data_fork.offset (format_of data_fork.bytes)
 unpacked_in bytes None (Some resource_fork) = []
 unpacked_in bytes None None = format_notes 0 (format_of bytes)
@@ -104,137 +100,39 @@ abbrev pub member_offset : SceneIs → MemberIs → ℕ
 member_offset s m = up_to (s.table_base + m.offset)
 
 -- a container that needs more bytes than its member has. With fewer than the 40 bytes of a header it is none
-abbrev pub short_notes : SceneIs → MemberIs → ℕ → ℕ → List FileNote
+abbrev pub short_notes : SceneIs → MemberIs → ℕ → ℕ → List FileFinding
 short_notes s m needs has = if nat_le 40 has && nat_lt has needs then FragmentShort (member_offset s m) m.member (needs - has) ∷ [] else []
 
 -- a container that is in a data fork which isn't there
-abbrev pub absent_notes : SceneIs → MemberIs → Locator → List FileNote
+abbrev pub absent_notes : SceneIs → MemberIs → Locator → List FileFinding
 absent_notes s m (locator.DataFork offset len) = DataForkElsewhere (member_offset s m) m.member ∷ []
 absent_notes s m (locator.Resource type_code id) = []
 absent_notes s m locator.Memory = []
 absent_notes s m (locator.Other code) = []
 
-abbrev pub placed_notes : SceneIs → MemberIs → PlaceIs → List FileNote
+-- of its sections the first 64 are looked at
+abbrev pub placed_notes : SceneIs → MemberIs → PlaceIs → List FileFinding
 placed_notes s m elsewhere = absent_notes s m (locator_of m.header)
 placed_notes s m (missing found) = []
-placed_notes s m (lying at bytes) = short_notes s m (needed_of (partial_of bytes)) (length bytes)
+placed_notes s m (lying at bytes) = short_notes s m (needed_of 64 (partial_of bytes)) (length bytes)
 
 -- the notes on a member
-abbrev pub row_notes : SceneIs → Result MemberIs MemberFault → List FileNote
+abbrev pub row_notes : SceneIs → Result MemberIs MemberFault → List FileFinding
 row_notes s (Ok m) = placed_notes s m (place_of s m)
 row_notes s (Err fault) = []
 
-abbrev pub members_notes : SceneIs → List (Result MemberIs MemberFault) → List FileNote
+abbrev pub members_notes : SceneIs → List (Result MemberIs MemberFault) → List FileFinding
 members_notes s [] = []
 members_notes s (row ∷ rows) = row_notes s row ++ members_notes s rows
 
-abbrev pub scene_notes : Option SceneIs → List FileNote
+abbrev pub scene_notes : Option SceneIs → List FileFinding
 scene_notes None = []
 scene_notes (Some s) = members_notes s (all_members s.table)
 
-abbrev pub wrapping_notes : Option DataFileIs → List ℕ → WrappingIs → List FileNote
+abbrev pub wrapping_notes : Option DataFileIs → List ℕ → WrappingIs → List FileFinding
 wrapping_notes other bytes w =
     after_notes (length bytes) w.end ++ (unpacked_in bytes (readable w.data_fork) (readable w.resource_fork) ++ scene_notes (scene_in other w))
 
 -- all notes on a file but those on its containers. Its data fork may be in another file
-unfoldable pub notes_of : Option DataFileIs → List ℕ → List FileNote
+unfoldable pub notes_of : Option DataFileIs → List ℕ → List FileFinding
 notes_of other bytes = wrapping_notes other bytes (wrapping_of bytes)
-
--- what is printed of a note: its number and name, the part of the file, the number of the member, and the place
-abbrev pub note_number : FileNote → ℕ
-note_number (BytesAfterForks at len) = 117
-note_number (FragmentShort at member len) = 118
-note_number (DataForkElsewhere at member) = 119
-note_number (NotUnpacked at format) = 120
-
-abbrev pub note_name : FileNote → List ℕ
-note_name (BytesAfterForks at len) = codes "BytesAfterForks"
-note_name (FragmentShort at member len) = codes "FragmentShort"
-note_name (DataForkElsewhere at member) = codes "DataForkElsewhere"
-note_name (NotUnpacked at format) = codes "NotUnpacked"
-
-abbrev pub note_part : FileNote → List ℕ
-note_part (BytesAfterForks at len) = codes "fork"
-note_part (FragmentShort at member len) = codes "fragment"
-note_part (DataForkElsewhere at member) = codes "fragment"
-note_part (NotUnpacked at format) = codes "fork"
-
-abbrev pub note_row : FileNote → Option ℕ
-note_row (BytesAfterForks at len) = None
-note_row (FragmentShort at member len) = Some member
-note_row (DataForkElsewhere at member) = Some member
-note_row (NotUnpacked at format) = None
-
-abbrev pub note_at : FileNote → ℕ
-note_at (BytesAfterForks at len) = at
-note_at (FragmentShort at member len) = at
-note_at (DataForkElsewhere at member) = at
-note_at (NotUnpacked at format) = at
-
--- a format in one word, and a program that opens it
-abbrev pub format_word : OtherFormat → List ℕ
-format_word StuffIt = codes "stuffit"
-format_word CompactPro = codes "compactpro"
-format_word BinHex = codes "binhex"
-format_word Zip = codes "zip"
-format_word DiskCopy = codes "diskcopy"
-format_word Hfs = codes "hfs"
-format_word HfsPlus = codes "hfsplus"
-format_word PartitionMap = codes "partitions"
-format_word Iso9660 = codes "iso9660"
-
-abbrev pub opener_word : OtherFormat → List ℕ
-opener_word StuffIt = codes "unar"
-opener_word CompactPro = codes "unar"
-opener_word BinHex = codes "unar"
-opener_word Zip = codes "unzip"
-opener_word DiskCopy = codes "hfsutils"
-opener_word Hfs = codes "hfsutils"
-opener_word HfsPlus = codes "7z"
-opener_word PartitionMap = codes "7z"
-opener_word Iso9660 = codes "7z"
-
--- the end of a note's line, and of its object
-abbrev pub note_tail : FileNote → List ℕ
-note_tail (BytesAfterForks at len) = codes " length " ++ decimal len
-note_tail (FragmentShort at member len) = codes " length " ++ decimal len
-note_tail (DataForkElsewhere at member) = []
-note_tail (NotUnpacked at format) = codes " format " ++ (format_word format ++ (codes " open " ++ opener_word format))
-
-unfoldable pub format_members : OtherFormat → List ℕ
-format_members format = codes ",\"format\":\"" ++ format_word format ++ codes "\",\"open\":\"" ++ opener_word format ++ codes "\""
-
-abbrev pub note_members : FileNote → List ℕ
-note_members (BytesAfterForks at len) = codes ",\"length\":" ++ decimal len
-note_members (FragmentShort at member len) = codes ",\"length\":" ++ decimal len
-note_members (DataForkElsewhere at member) = []
-note_members (NotUnpacked at format) = format_members format
-
-unfoldable pub note_start_line : FileNote → List ℕ
-note_start_line note =
-    codes "note " ++ decimal (note_number note) ++ codes " " ++ note_name note ++ codes " " ++ note_part note
-    ++ row_space (note_row note) ++ row_digits (note_row note) ++ codes " at " ++ at_text (note_at note)
-
-unfoldable pub note_start_object : FileNote → List ℕ
-note_start_object note =
-    codes "{\"number\":" ++ decimal (note_number note) ++ codes ",\"name\":\"" ++ note_name note ++ codes "\",\"part\":\"" ++ note_part note
-    ++ codes "\",\"row\":" ++ number_or_null (note_row note) ++ codes ",\"field\":null,\"offset\":" ++ decimal (note_at note)
-
-abbrev pub note_line : FileNote → List ℕ
-note_line note = note_start_line note ++ (note_tail note ++ codes "\n")
-
-abbrev pub note_object : FileNote → List ℕ
-note_object note = note_start_object note ++ (note_members note ++ codes "}")
-
-abbrev pub note_text : Form → Bool → FileNote → List ℕ
-note_text Text is_first note = note_line note
-note_text Json is_first note = separator is_first ++ note_object note
-
-abbrev pub notes_text : Form → Bool → List FileNote → List ℕ
-notes_text form is_first [] = []
-notes_text form is_first (note ∷ notes) = note_text form is_first note ++ notes_text form false notes
-
--- no note was printed yet
-abbrev pub none_of : List FileNote → Bool
-none_of [] = true
-none_of (note ∷ notes) = false

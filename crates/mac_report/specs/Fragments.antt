@@ -12,8 +12,9 @@ use Rattle.pef_ports.specs.Names.{name_text}
 use Rattle.pef_ports.specs.Text.{word_text}
 use Rattle.pef_report.specs.Tokens.{at_text, member_text, tag_text}
 use Rattle.pef_report.specs.Versions.{version_text}
-use Rattle.mac_report.specs.Containers.{separator, up_to}
-use Rattle.mac_report.specs.Founds.{number_or_null}
+use Rattle.pef_report.specs.Objects.{separator}
+use Rattle.pef_report.specs.Tokens.{number_or_null}
+use Rattle.mac_report.specs.Containers.{up_to}
 use Rattle.mac_report.specs.MacParts.{PlaceIs, SceneIs, elsewhere, lying, missing, place_of}
 use Rattle.mac_report.specs.declared.file.Form.{Form}
 use Rattle.mac_report.specs.declared.file.Form.TheVariants.{Text, Json}

@@ -1,5 +1,6 @@
 pub mod Containers
 pub mod DataFiles
+pub mod FileFindings
 pub mod FileNotes
 pub mod Faults
 pub mod Forks
@@ -7,6 +8,9 @@ pub mod Founds
 pub mod Fragments
 pub mod MacParts
 pub mod Parts
+pub mod Quiet
+pub mod Records
 pub mod Reports
+pub mod ResourceRows
 pub mod Sums
 pub mod Views

@@ -10,17 +10,19 @@ use Rattle.cfm_members.specs.declared.file_kind.FileKind.TheVariants.{Container,
 use Rattle.pef_ports.specs.declared.ports.FileReason.{FileReason}
 use Rattle.pef_ports.specs.declared.ports.FileReason.TheVariants as reason
 use Rattle.pef_report.specs.Frames.{counts_line, error_end, file_error_line, file_line, file_object, unread_line, unread_object}
+use Rattle.pef_report.specs.Objects.{separator}
 use Rattle.pef_report.specs.declared.frames.Counts.{Counts}
-use Rattle.mac_report.specs.Containers.{Walks, fresh_tally, separator, total}
+use Rattle.mac_report.specs.Containers.{Walks, fresh_tally, total}
 use Rattle.mac_report.specs.DataFiles.{DataFileIs, paired_line, paired_object, scene_in}
 use Rattle.mac_report.specs.Faults.{faults_of}
-use Rattle.mac_report.specs.FileNotes.{none_of, notes_of, notes_text}
+use Rattle.mac_report.specs.FileFindings.{findings_text, none_of}
+use Rattle.mac_report.specs.FileNotes.{notes_of}
 use Rattle.mac_report.specs.Forks.{forks_json, forks_lines}
-use Rattle.mac_report.specs.Founds.{founds_text}
 use Rattle.mac_report.specs.Fragments.{fragments_text}
 use Rattle.mac_report.specs.MacParts.{SceneIs, WrappingIs, wrapping_of}
-use Rattle.mac_report.specs.declared.file_note.FileNote.{FileNote}
-use Rattle.mac_report.specs.declared.scene.Found.{Found}
+use Rattle.mac_report.specs.Records.{record_line, record_member, record_of}
+use Rattle.mac_report.specs.ResourceRows.{resources_of}
+use Rattle.mac_report.specs.declared.file_finding.FileFinding.{FileFinding}
 use Rattle.mac_report.specs.declared.file.Form.{Form}
 use Rattle.mac_report.specs.declared.file.Form.TheVariants.{Text, Json}
 use Rattle.mac_report.specs.declared.tally.Tally.{Tally}
@@ -42,10 +44,11 @@ scene_text form (Some s) = fragments_text form true s (all_members s.table)
 
 -- what was found in a file besides its containers: errors and notes
 pub record FoundIs : Type 0 where
-  pub faults : List Found
-  pub notes : List FileNote
+  pub errors : List FileFinding
+  pub notes : List FileFinding
 
--- the lines before the containers: what the file is, its forks, its fragments, and all errors and notes but those of containers
+-- the lines before the containers: what the file is, its forks, what it says of itself, its resources, its fragments, and all
+-- errors and notes but those of containers
 abbrev pub fork_lines_of : WrappingIs → List ℕ
 fork_lines_of w = forks_lines (readable w.data_fork) (readable w.resource_fork)
 
@@ -58,7 +61,9 @@ abbrev pub text_head : List ℕ → List ℕ → Option DataFileIs → FoundIs �
 text_head path bytes other found =
     first_line path bytes other
     ++ (fork_lines_of (wrapping_of bytes)
-    ++ (scene_text Text (scene_in other (wrapping_of bytes)) ++ (founds_text Text true found.faults ++ notes_text Text true found.notes)))
+    ++ (record_line (record_of bytes)
+    ++ (resources_of Text (wrapping_of bytes)
+    ++ (scene_text Text (scene_in other (wrapping_of bytes)) ++ (findings_text Text true found.errors ++ findings_text Text true found.notes)))))
 
 -- the object up to the containers
 abbrev pub fork_objects_of : WrappingIs → List ℕ
@@ -72,7 +77,9 @@ abbrev pub json_head : List ℕ → List ℕ → Option DataFileIs → List ℕ
 json_head path bytes other =
     beginning path bytes other
     ++ (fork_objects_of (wrapping_of bytes)
-    ++ (codes "],\"fragments\":[" ++ (scene_text Json (scene_in other (wrapping_of bytes)) ++ codes "],\"containers\":[")))
+    ++ (record_member (record_of bytes)
+    ++ (codes ",\"resources\":[" ++ (resources_of Json (wrapping_of bytes)
+    ++ (codes "],\"fragments\":[" ++ (scene_text Json (scene_in other (wrapping_of bytes)) ++ codes "],\"containers\":["))))))
 
 -- what comes before the containers
 abbrev pub head_text : Form → List ℕ → List ℕ → Option DataFileIs → FoundIs → List ℕ
@@ -98,11 +105,11 @@ text_end n counts = skipped_text n ++ counts_line counts
 
 abbrev pub json_end : FoundIs → ℕ → List ℕ
 json_end found n =
-    codes "],\"errors\":[" ++ (founds_text Json true found.faults
-    ++ (codes "],\"notes\":[" ++ (notes_text Json true found.notes ++ (skipped_note (none_of found.notes) n ++ codes "]}\n"))))
+    codes "],\"errors\":[" ++ (findings_text Json true found.errors
+    ++ (codes "],\"notes\":[" ++ (findings_text Json true found.notes ++ (skipped_note (none_of found.notes) n ++ codes "]}\n"))))
 
 abbrev pub end_text : Form → FoundIs → Tally → List ℕ
-end_text Text found t = text_end t.turn.skipped (total t (length found.faults) (length found.notes))
+end_text Text found t = text_end t.turn.skipped (total t (length found.errors) (length found.notes))
 end_text Json found t = json_end found t.turn.skipped
 
 -- the word for why a file wasn't read
@@ -136,7 +143,7 @@ unread_error_end number name word = reason_end number name word
 abbrev pub unread_lines : List ℕ → ℕ → List ℕ → FileReason → List ℕ
 unread_lines path number name why =
     unread_line path
-    ++ (unread_error_line number name (reason_word why) ++ counts_line (record { containers = 0; errors = 1; notes = 0 }))
+    ++ (unread_error_line number name (reason_word why) ++ counts_line (record { containers = 0; errors = 1; notes = 0; unverified = 0 }))
 
 abbrev pub unread_json : List ℕ → ℕ → List ℕ → FileReason → List ℕ
 unread_json path number name why = unread_object path ++ unread_error_end number name (reason_word why)
@@ -151,7 +158,7 @@ unread_text form path number name = unread_because form path number name reason.
 
 -- its counts
 abbrev pub unread_counts : Counts
-unread_counts = record { containers = 0; errors = 1; notes = 0 }
+unread_counts = record { containers = 0; errors = 1; notes = 0; unverified = 0 }
 
 -- a whole report on a file with these bytes, with these errors and notes besides those of its containers, and what it counts
 pub record IsWhole (form : Form) (path bytes : List ℕ) (other : Option DataFileIs) (found : FoundIs) (text : List ℕ) (counts : Counts) : Type 0 where
@@ -159,11 +166,11 @@ pub record IsWhole (form : Form) (path bytes : List ℕ) (other : Option DataFil
   pub tally : Tally
   pub walked : Walks form bytes (fresh_tally bytes) (containers_in bytes 0) containers tally
   pub printed : text ≡ head_text form path bytes other found ++ (containers ++ end_text form found tally)
-  pub counted : counts ≡ total tally (length found.faults) (length found.notes)
+  pub counted : counts ≡ total tally (length found.errors) (length found.notes)
 
 -- all that is found in a file besides its containers
 abbrev pub found_of : Option DataFileIs → List ℕ → FoundIs
-found_of other bytes = record { faults = faults_of other bytes; notes = notes_of other bytes }
+found_of other bytes = record { errors = faults_of other bytes; notes = notes_of other bytes }
 
 -- a report on a file with these bytes, and what it counts. Its data fork may be in another file. An allocation may fail
 -- before it

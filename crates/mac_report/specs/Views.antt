@@ -1,4 +1,5 @@
 -- The values of what the code keeps, without places in memory.
+use Rattle.std.specs.Option.{option_copied}
 use Rattle.std.specs.Prelude.{option_map}
 use Rattle.pef_words.specs.Refusals.{result_map}
 use Rattle.mac_forks.specs.Views.{part_seen}
@@ -8,11 +9,13 @@ use Rattle.pef_report.specs.Views as view
 use Rattle.mac_report.specs.Containers.{RowIs, inspected, lacking, skipped}
 use Rattle.mac_report.specs.DataFiles.{DataFileIs}
 use Rattle.mac_report.specs.Fragments.{FragmentIs}
+use Rattle.mac_report.specs.Records.{RecordIs}
 use Rattle.mac_report.specs.Reports.{FoundIs}
 use Rattle.mac_report.specs.declared.file.Shown.{Shown}
 use Rattle.mac_report.specs.declared.data_file.DataFile.{DataFile}
 use Rattle.mac_report.specs.declared.fragments.Fragment.{Fragment}
 use Rattle.mac_report.specs.MacParts.{PlaceIs, SceneIs, WrappingIs, elsewhere, lying, missing}
+use Rattle.mac_report.specs.declared.record.FileRecord.{FileRecord}
 use Rattle.mac_report.specs.declared.row.Row.{Row}
 use Rattle.mac_report.specs.declared.row.Row.TheVariants as row
 use Rattle.mac_report.specs.declared.scene.Place.{Place}
@@ -63,4 +66,8 @@ fragment_seen f = record { at = f.at; offset = f.offset; size = f.size; member =
 
 -- what was found in a file besides its containers
 abbrev pub shown_seen : Shown → FoundIs
-shown_seen s = record { faults = s.faults.now; notes = s.notes.now }
+shown_seen s = record { errors = s.errors.now; notes = s.notes.now }
+
+-- what a file says of itself besides its forks
+abbrev pub record_seen : FileRecord → RecordIs
+record_seen r = record { name = option_copied r.name; finder = r.finder; dates = r.dates }

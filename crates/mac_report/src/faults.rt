@@ -28,6 +28,7 @@ ghost use Rattle.mac_report.specs.Faults.{
 ghost use Rattle.mac_report.specs.Views.{data_file_seen, place_seen, scene_seen, wrapping_seen};
 
 use crate::data_file::{DataFile, members_fork};
+use crate::file_finding::FileFinding;
 use crate::scene::{Found, Place, Scene};
 use crate::wrapping::{Wrapping, resources_in};
 use cfm_members::{FileKind, FragmentFault, Member, MemberFault, readable};
@@ -40,7 +41,7 @@ pub(crate) fn find_faults<A: Allocator + Copy>(
     alloc: A,
     bytes: &[u8],
     data_file: Option<DataFile<'_>>,
-) -> Result<Vec<Found, A>, AllocError>
+) -> Result<Vec<FileFinding, A>, AllocError>
     ensures { IfOk result (λ found. found.items ≡ faults_of (option_map data_file_seen data_file.entry) bytes.now) }
 {
     let wrapping = Wrapping::of(bytes);
@@ -59,7 +60,7 @@ pub(crate) fn find_faults<A: Allocator + Copy>(
 /// Adds the errors of a file's header, of the parts of MacBinary that pass the end, and of the rows of entries.
 fn find_in_head<A: Allocator>(
     wrapping: Wrapping<'_>,
-    found: &mut Vec<Found, A>,
+    found: &mut Vec<FileFinding, A>,
 ) -> Result<(), AllocError>
     ensures { OnOk result (found.new.items ≡ found.old.items ++ head_faults (wrapping_seen wrapping.entry)) }
 {
@@ -74,15 +75,15 @@ fn find_in_head<A: Allocator>(
 /// Adds the error of a file's header, of a part that passes the end, or of its rows of entries.
 fn find_in_header<A: Allocator>(
     fault: Option<ForkFault>,
-    found: &mut Vec<Found, A>,
+    found: &mut Vec<FileFinding, A>,
 ) -> Result<(), AllocError>
     ensures { OnOk result (found.new.items ≡ found.old.items ++ header_faults fault) }
 {
     if let Some(fault) = fault {
-        found.push(Found {
+        found.push(FileFinding::Error(Found {
             fault: FragmentFault::Fork(fault),
             base: 0,
-        })?;
+        }))?;
     }
     Ok(())
 }
@@ -90,7 +91,7 @@ fn find_in_header<A: Allocator>(
 /// Adds the error of the entry of a fork.
 fn find_in_entry<A: Allocator>(
     fork: Option<Result<Part<'_>, ForkFault>>,
-    found: &mut Vec<Found, A>,
+    found: &mut Vec<FileFinding, A>,
 ) -> Result<(), AllocError>
     ensures { OnOk result (found.new.items ≡ found.old.items ++ entry_faults (option_map (result_map part_seen) fork.entry)) }
 {
@@ -104,7 +105,7 @@ fn find_in_entry<A: Allocator>(
 fn find_in_parts<A: Allocator>(
     data_fork: Option<Part<'_>>,
     resource: Option<Part<'_>>,
-    found: &mut Vec<Found, A>,
+    found: &mut Vec<FileFinding, A>,
 ) -> Result<(), AllocError>
     ensures { OnOk result (found.new.items ≡ found.old.items ++ parts_faults (option_map part_seen data_fork.entry) (option_map part_seen resource.entry)) }
 {
@@ -123,15 +124,15 @@ fn find_in_parts<A: Allocator>(
 fn add_resource_fault<A: Allocator>(
     fault: Option<ResourceFault>,
     base: u64,
-    found: &mut Vec<Found, A>,
+    found: &mut Vec<FileFinding, A>,
 ) -> Result<(), AllocError>
     ensures { OnOk result (found.new.items ≡ found.old.items ++ resource_fault_list base fault) }
 {
     if let Some(fault) = fault {
-        found.push(Found {
+        found.push(FileFinding::Error(Found {
             fault: FragmentFault::Resource(fault),
             base,
-        })?;
+        }))?;
     }
     Ok(())
 }
@@ -141,7 +142,7 @@ fn find_in_fork<A: Allocator>(
     data_fork: Option<Part<'_>>,
     base: u64,
     fork: ResourceFork<'_>,
-    found: &mut Vec<Found, A>,
+    found: &mut Vec<FileFinding, A>,
 ) -> Result<(), AllocError>
     ensures { OnOk result (found.new.items ≡ found.old.items ++ fork_faults (option_map part_seen data_fork.entry) base (fork_seen fork.entry)) }
 {
@@ -155,7 +156,7 @@ fn find_in_fork<A: Allocator>(
 fn find_in_resources<A: Allocator>(
     base: u64,
     fork: ResourceFork<'_>,
-    found: &mut Vec<Found, A>,
+    found: &mut Vec<FileFinding, A>,
 ) -> Result<(), AllocError>
     ensures { OnOk result (found.new.items ≡ found.old.items ++ resources_faults base (all_resources (fork_seen fork.entry))) }
 {
@@ -169,7 +170,7 @@ fn find_in_resources<A: Allocator>(
 fn find_in_resource<A: Allocator>(
     base: u64,
     row: Result<Resource<'_>, ResourceFault>,
-    found: &mut Vec<Found, A>,
+    found: &mut Vec<FileFinding, A>,
 ) -> Result<(), AllocError>
     ensures { OnOk result (found.new.items ≡ found.old.items ++ resource_faults base (resource_row row.entry)) }
 {
@@ -196,14 +197,14 @@ fn name_fault(name: Option<Result<&[u8], ResourceFault>>) -> Option<ResourceFaul
 /// Adds the error of a table of fragments, or those of its members.
 fn find_in_scene<A: Allocator>(
     scene: Option<Result<Scene<'_>, Found>>,
-    found: &mut Vec<Found, A>,
+    found: &mut Vec<FileFinding, A>,
 ) -> Result<(), AllocError>
     ensures { OnOk result (found.new.items ≡ found.old.items ++ table_faults (option_map (result_map scene_seen) scene.entry)) }
 {
     match scene {
         Some(Ok(scene)) => find_in_members(scene, found),
         Some(Err(fault)) => {
-            found.push(fault)?;
+            found.push(FileFinding::Error(fault))?;
             Ok(())
         }
         None => Ok(()),
@@ -213,7 +214,7 @@ fn find_in_scene<A: Allocator>(
 /// Adds the errors of all members of a table of fragments.
 fn find_in_members<A: Allocator>(
     scene: Scene<'_>,
-    found: &mut Vec<Found, A>,
+    found: &mut Vec<FileFinding, A>,
 ) -> Result<(), AllocError>
     ensures { OnOk result (found.new.items ≡ found.old.items ++ members_faults (scene_seen scene.entry) (all_members (scene_seen scene.entry).table)) }
 {
@@ -227,7 +228,7 @@ fn find_in_members<A: Allocator>(
 fn find_in_row<A: Allocator>(
     scene: Scene<'_>,
     row: Result<Member<'_>, MemberFault>,
-    found: &mut Vec<Found, A>,
+    found: &mut Vec<FileFinding, A>,
 ) -> Result<(), AllocError>
     ensures { OnOk result (found.new.items ≡ found.old.items ++ row_faults (scene_seen scene.entry) (member_row row.entry)) }
 {
@@ -241,15 +242,15 @@ fn find_in_row<A: Allocator>(
 fn add_member_fault<A: Allocator>(
     fault: Option<MemberFault>,
     base: u64,
-    found: &mut Vec<Found, A>,
+    found: &mut Vec<FileFinding, A>,
 ) -> Result<(), AllocError>
     ensures { OnOk result (found.new.items ≡ found.old.items ++ member_fault_list base fault) }
 {
     if let Some(fault) = fault {
-        found.push(Found {
+        found.push(FileFinding::Error(Found {
             fault: FragmentFault::Member(fault),
             base,
-        })?;
+        }))?;
     }
     Ok(())
 }
@@ -258,7 +259,7 @@ fn add_member_fault<A: Allocator>(
 fn find_in_member<A: Allocator>(
     scene: Scene<'_>,
     member: Member<'_>,
-    found: &mut Vec<Found, A>,
+    found: &mut Vec<FileFinding, A>,
 ) -> Result<(), AllocError>
     ensures { OnOk result (found.new.items ≡ found.old.items ++ member_faults (scene_seen scene.entry) (member_seen member.entry)) }
 {
@@ -271,13 +272,13 @@ fn find_in_member<A: Allocator>(
 /// Adds the error of a place where a container should be, and where none begins.
 fn find_at_place<A: Allocator>(
     place: Place<'_>,
-    found: &mut Vec<Found, A>,
+    found: &mut Vec<FileFinding, A>,
 ) -> Result<(), AllocError>
     ensures { OnOk result (found.new.items ≡ found.old.items ++ place_faults (place_seen place.entry)) }
 {
     match place_fault(place) {
-        Some(fault) => {
-            found.push(fault)?;
+        Some(finding) => {
+            found.push(finding)?;
             Ok(())
         }
         None => Ok(()),
@@ -285,20 +286,20 @@ fn find_at_place<A: Allocator>(
 }
 
 /// Returns the error of a place where a container should be, and where none begins.
-fn place_fault(place: Place<'_>) -> Option<Found>
+fn place_fault(place: Place<'_>) -> Option<FileFinding>
     ensures { option_to_list result ≡ place_faults (place_seen place.entry) }
 {
     match place {
         Place::Elsewhere => None,
-        Place::Missing(found) => Some(found),
+        Place::Missing(found) => Some(FileFinding::Error(found)),
         Place::Lying { at, bytes } => {
             if matches!(FileKind::of(bytes), FileKind::Container) {
                 return None;
             }
-            Some(Found {
+            Some(FileFinding::Error(Found {
                 fault: FragmentFault::NoContainer,
                 base: at,
-            })
+            }))
         }
     }
 }

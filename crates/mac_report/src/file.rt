@@ -3,10 +3,11 @@ ghost use Rattle.mac_report.specs.MacParts.{wrapping_of};
 ghost use Rattle.pef_words.specs.Refusals.{result_map};
 ghost use Rattle.pef_ports.specs.Sent.{Sends};
 ghost use Rattle.pef_report.specs.declared.frames.Counts.{Counts as CountsAre};
-ghost use Rattle.mac_report.specs.Containers.{separator, total};
+ghost use Rattle.pef_report.specs.Objects.{separator};
+ghost use Rattle.mac_report.specs.Containers.{total};
 ghost use Rattle.mac_report.specs.DataFiles.{scene_in, whole_scene};
 ghost use Rattle.mac_report.specs.Faults.{faults_of};
-ghost use Rattle.mac_report.specs.FileNotes.{none_of, notes_of};
+ghost use Rattle.mac_report.specs.FileNotes.{notes_of};
 ghost use Rattle.mac_report.specs.Reports.{IsReport, IsWhole, beginning, end_text, first_line, fork_lines_of, fork_objects_of, head_text, json_end, json_head, kind_word, scene_text, skipped_note, skipped_object, skipped_text, text_end, text_head, unread_counts, unread_text};
 ghost use Rattle.mac_report.specs.Views.{data_file_seen, scene_seen, shown_seen, wrapping_seen};
 
@@ -15,18 +16,20 @@ use crate::data_file::{
     DataFile, PairedHead, members_fork, print_paired_line, print_paired_object,
 };
 use crate::faults::find_faults;
-use crate::file_note::{FileNote, print_notes};
+use crate::file_finding::{FileFinding, none_of, print_findings};
 use crate::file_notes::find_notes;
-use crate::found::print_founds;
 use crate::fragments::print_fragments;
-use crate::row::print_separator;
+use crate::record::{print_record_line, print_record_member};
+use crate::resource_row::print_resources;
 use crate::scene::{Found, Scene};
 use crate::tally::Tally;
 use crate::unread::{UNREAD_COUNTS, UnreadFile};
 use crate::wrapping::{Wrapping, resources_in};
 use cfm_members::{FileKind, readable};
 use pef_ports::{FileReason, Page, Sink, StreamFault, send};
-use pef_report::{Counts, Token, print_counts, print_file_line, print_file_object, print_tokens};
+use pef_report::{
+    Counts, Token, print_counts, print_file_line, print_file_object, print_separator, print_tokens,
+};
 use std::alloc::{AllocError, Allocator};
 
 /// The beginning of the object of the note that some containers weren't inspected.
@@ -45,15 +48,15 @@ pub enum Form {
 /// What was found in a file besides its containers.
 #[derive(Drop)]
 pub(crate) struct FoundIn<A: Allocator> {
-    faults: Vec<Found, A>,
-    notes: Vec<FileNote, A>,
+    errors: Vec<FileFinding, A>,
+    notes: Vec<FileFinding, A>,
 }
 
 /// What is shown of it.
 #[derive(Clone, Copy)]
 pub(crate) struct Shown<'f> {
-    pub faults: &'f [Found],
-    pub notes: &'f [FileNote],
+    pub errors: &'f [FileFinding],
+    pub notes: &'f [FileFinding],
 }
 
 impl<A: Allocator + Copy> FoundIn<A> {
@@ -63,20 +66,20 @@ impl<A: Allocator + Copy> FoundIn<A> {
         bytes: &[u8],
         data_file: Option<DataFile<'_>>,
     ) -> Result<FoundIn<A>, AllocError>
-        ensures { IfOk result (λ found. (found.faults.items ≡ faults_of (option_map data_file_seen data_file.entry) bytes.now) × (found.notes.items ≡ notes_of (option_map data_file_seen data_file.entry) bytes.now)) }
+        ensures { IfOk result (λ found. (found.errors.items ≡ faults_of (option_map data_file_seen data_file.entry) bytes.now) × (found.notes.items ≡ notes_of (option_map data_file_seen data_file.entry) bytes.now)) }
     {
         Ok(FoundIn {
-            faults: find_faults(alloc, bytes, data_file)?,
+            errors: find_faults(alloc, bytes, data_file)?,
             notes: find_notes(alloc, bytes, data_file)?,
         })
     }
 
     /// Returns what is shown.
     pub(crate) fn shown(&self) -> Shown<'_>
-        ensures { shown_seen result ≡ record { faults = self.now.faults.items; notes = self.now.notes.items } }
+        ensures { shown_seen result ≡ record { errors = self.now.errors.items; notes = self.now.notes.items } }
     {
         Shown {
-            faults: self.faults.as_slice(),
+            errors: self.errors.as_slice(),
             notes: self.notes.as_slice(),
         }
     }
@@ -85,9 +88,9 @@ impl<A: Allocator + Copy> FoundIn<A> {
 impl<'f> Shown<'f> {
     /// Returns the counts of a file with these errors and notes.
     fn total(self, tally: Tally) -> Counts
-        ensures { result ≡ total tally (length self.entry.faults.now) (length self.entry.notes.now) }
+        ensures { result ≡ total tally (length self.entry.errors.now) (length self.entry.notes.now) }
     {
-        tally.total(self.faults.len() as u64, self.notes.len() as u64)
+        tally.total(self.errors.len() as u64, self.notes.len() as u64)
     }
 }
 
@@ -189,9 +192,11 @@ impl<'a> FileReport<'a> {
     {
         self.print_first_line(out, page)?;
         print_fork_lines(out, page, self.bytes)?;
+        print_record_line(out, page, self.bytes)?;
+        print_resources(out, page, Form::Text, self.bytes)?;
         print_members(out, page, Form::Text, self.bytes, self.data_file)?;
-        print_founds(out, page, Form::Text, found.faults)?;
-        print_notes(out, page, Form::Text, found.notes)
+        print_findings(out, page, Form::Text, found.errors)?;
+        print_findings(out, page, Form::Text, found.notes)
     }
 
     /// Prints the first line.
@@ -224,6 +229,9 @@ impl<'a> FileReport<'a> {
     {
         self.print_beginning(out, page)?;
         print_fork_objects(out, page, self.bytes)?;
+        print_record_member(out, page, self.bytes)?;
+        send(out, page, b",\"resources\":[")?;
+        print_resources(out, page, Form::Json, self.bytes)?;
         send(out, page, b"],\"fragments\":[")?;
         print_members(out, page, Form::Json, self.bytes, self.data_file)?;
         send(out, page, b"],\"containers\":[")
@@ -366,21 +374,11 @@ pub(crate) fn print_json_end<W: Sink>(
     ensures { Sends result (W.stream out.old) (W.stream out.new) page.old.items page.new.items (json_end (shown_seen found.entry) skipped) }
 {
     send(out, page, b"],\"errors\":[")?;
-    print_founds(out, page, Form::Json, found.faults)?;
+    print_findings(out, page, Form::Json, found.errors)?;
     send(out, page, b"],\"notes\":[")?;
-    print_notes(out, page, Form::Json, found.notes)?;
+    print_findings(out, page, Form::Json, found.notes)?;
     print_skipped_note(out, page, none_of(found.notes), skipped)?;
     send(out, page, b"]}\n")
-}
-
-/// Returns whether there are no notes.
-fn none_of(notes: &[FileNote]) -> bool
-    ensures { result ≡ none_of notes.now }
-{
-    match notes {
-        [] => true,
-        _ => false,
-    }
 }
 
 /// Prints the line of the note that some containers weren't inspected, if there are such.

@@ -10,17 +10,18 @@ ghost use Rattle.mac_report.specs.Views.{data_file_seen, place_seen, scene_seen}
 
 use crate::data_file::DataFile;
 use crate::file::scene_in;
-use crate::file_note::{FileNote, OtherFormat};
+use crate::file_finding::{FileFinding, OtherFormat};
 use crate::scene::{Place, Scene};
 use crate::wrapping::Wrapping;
 use cfm_members::{Locator, Member, MemberFault, readable};
 use mac_forks::Part;
+use pef_format::layout::CONTAINER_HEADER_SIZE;
 use pef_report::needed;
 use pef_words::Cut;
 use std::alloc::{AllocError, Allocator};
 
-/// The size of a container header.
-const HEADER_SIZE: u64 = 40;
+/// How many of a member's sections are looked at. A table can have 65,535 members, all at one container with as many sections.
+const SECTIONS_OF_MEMBER: u16 = 64;
 
 /// Returns all notes on a file that aren't those on its containers.
 #[tactic(auto, unfolding(crate::specs::FileNotes::notes_of))]
@@ -28,7 +29,7 @@ pub(crate) fn find_notes<A: Allocator + Copy>(
     alloc: A,
     bytes: &[u8],
     data_file: Option<DataFile<'_>>,
-) -> Result<Vec<FileNote, A>, AllocError>
+) -> Result<Vec<FileFinding, A>, AllocError>
     ensures { IfOk result (λ notes. notes.items ≡ notes_of (option_map data_file_seen data_file.entry) bytes.now) }
 {
     let wrapping = Wrapping::of(bytes);
@@ -45,8 +46,8 @@ pub(crate) fn find_notes<A: Allocator + Copy>(
 
 /// Adds a note, if there is one.
 fn add_some<A: Allocator>(
-    note: Option<FileNote>,
-    notes: &mut Vec<FileNote, A>,
+    note: Option<FileFinding>,
+    notes: &mut Vec<FileFinding, A>,
 ) -> Result<(), AllocError>
     ensures { OnOk result (notes.new.items ≡ notes.old.items ++ option_to_list note) }
 {
@@ -60,14 +61,14 @@ fn add_some<A: Allocator>(
 }
 
 /// Returns the note on the bytes after the forks of MacBinary.
-fn after_note(len: usize, end: Option<usize>) -> Option<FileNote>
+fn after_note(len: usize, end: Option<usize>) -> Option<FileFinding>
     ensures { option_to_list result ≡ after_notes len end }
 {
     let end = end?;
     if end >= len {
         return None;
     }
-    Some(FileNote::BytesAfterForks {
+    Some(FileFinding::BytesAfterForks {
         at: end as u64,
         length: (len - end) as u64,
     })
@@ -78,7 +79,7 @@ fn unpacked_in(
     bytes: &[u8],
     data_fork: Option<Part<'_>>,
     resource_fork: Option<Part<'_>>,
-) -> Option<FileNote>
+) -> Option<FileFinding>
     ensures { option_to_list result ≡ unpacked_in bytes.now (option_map part_seen data_fork.entry) (option_map part_seen resource_fork.entry) }
 {
     match data_fork {
@@ -91,17 +92,17 @@ fn unpacked_in(
 }
 
 /// Returns the note on a format.
-fn format_note(at: u64, format: Option<OtherFormat>) -> Option<FileNote>
+fn format_note(at: u64, format: Option<OtherFormat>) -> Option<FileFinding>
     ensures { option_to_list result ≡ format_notes at format }
 {
     let format = format?;
-    Some(FileNote::NotUnpacked { at, format })
+    Some(FileFinding::NotUnpacked { at, format })
 }
 
 /// Adds the notes on the members of a table of fragments, if there is one.
 fn add_in_scene<A: Allocator>(
     scene: Option<Scene<'_>>,
-    notes: &mut Vec<FileNote, A>,
+    notes: &mut Vec<FileFinding, A>,
 ) -> Result<(), AllocError>
     ensures { OnOk result (notes.new.items ≡ notes.old.items ++ scene_notes (option_map scene_seen scene.entry)) }
 {
@@ -114,7 +115,7 @@ fn add_in_scene<A: Allocator>(
 /// Adds the notes on all members of a table of fragments.
 fn add_in_members<A: Allocator>(
     scene: Scene<'_>,
-    notes: &mut Vec<FileNote, A>,
+    notes: &mut Vec<FileFinding, A>,
 ) -> Result<(), AllocError>
     ensures { OnOk result (notes.new.items ≡ notes.old.items ++ members_notes (scene_seen scene.entry) (all_members (scene_seen scene.entry).table)) }
 {
@@ -125,7 +126,7 @@ fn add_in_members<A: Allocator>(
 }
 
 /// Returns the note on a row of a table of fragments.
-fn row_note(scene: Scene<'_>, row: Result<Member<'_>, MemberFault>) -> Option<FileNote>
+fn row_note(scene: Scene<'_>, row: Result<Member<'_>, MemberFault>) -> Option<FileFinding>
     ensures { option_to_list result ≡ row_notes (scene_seen scene.entry) (member_row row.entry) }
 {
     match row {
@@ -135,22 +136,29 @@ fn row_note(scene: Scene<'_>, row: Result<Member<'_>, MemberFault>) -> Option<Fi
 }
 
 /// Returns the note on a member whose container is at a place.
-fn placed_note(scene: Scene<'_>, member: Member<'_>, place: Place<'_>) -> Option<FileNote>
+fn placed_note(scene: Scene<'_>, member: Member<'_>, place: Place<'_>) -> Option<FileFinding>
     ensures { option_to_list result ≡ placed_notes (scene_seen scene.entry) (member_seen member.entry) (place_seen place.entry) }
 {
     match place {
         Place::Elsewhere => absent_note(scene, member),
         Place::Missing(_) => None,
-        Place::Lying { bytes, .. } => short_note(scene, member, needed(bytes), bytes.len() as u64),
+        Place::Lying { bytes, .. } => {
+            short_note(
+                scene,
+                member,
+                needed(bytes, SECTIONS_OF_MEMBER),
+                bytes.len() as u64,
+            )
+        }
     }
 }
 
 /// Returns the note on a member whose container is in a data fork that isn't there.
-fn absent_note(scene: Scene<'_>, member: Member<'_>) -> Option<FileNote>
+fn absent_note(scene: Scene<'_>, member: Member<'_>) -> Option<FileFinding>
     ensures { option_to_list result ≡ absent_notes (scene_seen scene.entry) (member_seen member.entry) (locator_of (member_seen member.entry).header) }
 {
     match member.header.locator() {
-        Locator::DataFork { .. } => Some(FileNote::DataForkElsewhere {
+        Locator::DataFork { .. } => Some(FileFinding::DataForkElsewhere {
             at: member_offset(scene, member),
             member: u64::from(member.member),
         }),
@@ -159,11 +167,11 @@ fn absent_note(scene: Scene<'_>, member: Member<'_>) -> Option<FileNote>
 }
 
 /// Returns the note on a member whose container needs more bytes than it has. With fewer bytes than a header it is no container.
-fn short_note(scene: Scene<'_>, member: Member<'_>, needs: u64, has: u64) -> Option<FileNote>
+fn short_note(scene: Scene<'_>, member: Member<'_>, needs: u64, has: u64) -> Option<FileFinding>
     ensures { option_to_list result ≡ short_notes (scene_seen scene.entry) (member_seen member.entry) needs has }
 {
-    if has >= HEADER_SIZE && has < needs {
-        Some(FileNote::FragmentShort {
+    if has >= CONTAINER_HEADER_SIZE as u64 && has < needs {
+        Some(FileFinding::FragmentShort {
             at: member_offset(scene, member),
             member: u64::from(member.member),
             length: needs - has,

@@ -6,17 +6,15 @@ ghost use Rattle.cfm_members.specs.Views.{member_seen, name_seen, row_seen};
 ghost use Rattle.std.specs.Option.{option_copied};
 ghost use Rattle.pef_ports.specs.Sent.{Sends};
 ghost use Rattle.pef_report.specs.Tokens.{token_text};
-ghost use Rattle.mac_report.specs.Containers.{separator};
+ghost use Rattle.pef_report.specs.Objects.{separator};
 ghost use Rattle.mac_report.specs.Fragments.{architecture_text, at_or_dash, extent_of, fragment_fields, fragment_in, fragment_json, fragment_line, fragment_name, fragment_numbers, fragment_of, fragment_place, fragment_text, fragment_use, fragment_versions, fragments_text, maybe_fragment, name_of, name_or_mark, stays_first, usage_word, where_word};
 ghost use Rattle.mac_report.specs.Views.{fragment_seen, place_seen, scene_seen};
 
 use crate::file::Form;
-use crate::found::number_or_null;
-use crate::row::print_separator;
 use crate::scene::{Place, Scene};
 use cfm_members::{Locator, Member, MemberFault, Usage};
 use pef_ports::{Page, Sink, StreamFault};
-use pef_report::{Token, print_tokens};
+use pef_report::{Token, number_or_null, print_separator, print_tokens};
 
 /// A member of a table of fragments, with its place in the file and that of its container.
 #[derive(Clone, Copy)]
@@ -362,7 +360,7 @@ fn name_of<'a>(name: Result<&'a [u8], MemberFault>) -> Option<&'a [u8]>
 }
 
 /// Returns an offset in the file, or `-` if there is none.
-fn at_or_dash(offset: Option<u64>) -> Token<'static>
+pub(crate) fn at_or_dash(offset: Option<u64>) -> Token<'static>
     ensures { token_text result ≡ at_or_dash offset }
 {
     match offset {

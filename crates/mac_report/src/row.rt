@@ -2,7 +2,8 @@
 ghost use Rattle.std.specs.Prelude.{◌≡◌, ◌++◌};
 ghost use Rattle.pef_ports.specs.Sent.{Sends};
 ghost use Rattle.pef_report.specs.Views.{inspected};
-ghost use Rattle.mac_report.specs.Containers.{IsInspected, IsRow, errors_in, inspected_object, inspected_text, lacking_line, lacking_object, lacking_text, notes_in, row_text, separator};
+ghost use Rattle.pef_report.specs.Objects.{separator};
+ghost use Rattle.mac_report.specs.Containers.{IsInspected, IsRow, errors_in, inspected_object, inspected_text, lacking_line, lacking_object, lacking_text, notes_in, row_text};
 ghost use Rattle.mac_report.specs.Parts.{excerpt_text};
 ghost use Rattle.mac_report.specs.Views.{row_seen};
 
@@ -10,8 +11,8 @@ use crate::file::Form;
 use crate::turn::Turn;
 use cfm_members::Contents;
 use pef_inspect::Limits;
-use pef_ports::{Page, Sink, StreamFault, send};
-use pef_report::{Inspection, Token, print_tokens};
+use pef_ports::{Page, Sink, StreamFault};
+use pef_report::{Inspection, Token, print_separator, print_tokens};
 use std::alloc::{AllocError, Allocator};
 
 /// The rest of the object of a container whose inspection lacks memory.
@@ -199,19 +200,4 @@ fn print_lacking_fields<W: Sink>(out: &mut W, page: &mut Page, at: u64) -> Resul
             Token::Text(LACKING_REST),
         ],
     )
-}
-
-/// Prints the comma between two objects, unless the next one is the first.
-pub(crate) fn print_separator<W: Sink>(
-    out: &mut W,
-    page: &mut Page,
-    is_first: bool,
-) -> Result<(), StreamFault>
-    ensures { Sends result (W.stream out.old) (W.stream out.new) page.old.items page.new.items (separator is_first) }
-{
-    if is_first {
-        send(out, page, b"")
-    } else {
-        send(out, page, b",")
-    }
 }

@@ -50,6 +50,7 @@ impl Tally {
                 .notes
                 .saturating_add(notes)
                 .saturating_add(u64::from(self.turn.skipped > 0)),
+            unverified: self.turn.skipped,
         }
     }
 }

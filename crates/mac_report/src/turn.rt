@@ -11,7 +11,7 @@ use pef_words::Cut;
 const BUDGET: u64 = 0x0400_0000;
 
 /// What an inspection takes from the budget of its file, besides the bytes of the container's headers and its loader section.
-const INSPECTION_COST: u64 = 0x1_0000;
+const INSPECTION_COST: u64 = 0x2000;
 
 /// The lengths of a container's header and of a section's header, and where the first has the number of sections.
 const CONTAINER_HEADER_SIZE: u64 = 40;

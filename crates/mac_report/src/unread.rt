@@ -14,6 +14,7 @@ pub(crate) const UNREAD_COUNTS: Counts = Counts {
     containers: 0,
     errors: 1,
     notes: 0,
+    unverified: 0,
 };
 
 /// The report on a file that wasn't read, with the number and the name of the error, and why it wasn't.

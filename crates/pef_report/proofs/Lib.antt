@@ -1,4 +1,8 @@
+mod InPlace
+mod Judging
+pub mod Laws
 mod Merging
 mod NameLemmas
+mod Rising
 mod StringLemmas
 mod TokenLemmas

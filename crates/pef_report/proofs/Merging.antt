@@ -74,7 +74,7 @@ unchosen-next base errors is_first f fs chosen = by (is_chosen errors f) chosen
     by false same = refl
 
 -- lines after lines
-findings_text-append : (base : ℕ) (xs ys : List Finding) → findings_text base (xs ++ ys) ≡ findings_text base xs ++ findings_text base ys
+pub findings_text-append : (base : ℕ) (xs ys : List Finding) → findings_text base (xs ++ ys) ≡ findings_text base xs ++ findings_text base ys
 findings_text-append base [] ys = refl
 findings_text-append base (x ∷ xs) ys =
     ap (λ t. finding_text base x ++ t) (findings_text-append base xs ys) ∙ sym (append_assoc (finding_text base x) (findings_text base xs) (findings_text base ys))

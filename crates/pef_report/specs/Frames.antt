@@ -33,7 +33,7 @@ file_object path size format =
 unfoldable pub unread_object : List ℕ → List ℕ
 unread_object path =
     codes "{\"file\":\"" ++ path_text path
-    ++ codes "\",\"size\":null,\"format\":null,\"forks\":[],\"fragments\":[],\"containers\":["
+    ++ codes "\",\"size\":null,\"format\":null,\"forks\":[],\"mac\":null,\"resources\":[],\"fragments\":[],\"containers\":["
 
 -- the end of a file's object, with an error that is about the file as a whole
 unfoldable pub error_end : ℕ → List ℕ → List ℕ

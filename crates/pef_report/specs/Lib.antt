@@ -2,11 +2,13 @@ pub mod Dates
 pub mod Findings
 pub mod Frames
 pub mod Inspection
+pub mod Judged
 pub mod Kept
 pub mod Lines
 pub mod Members
 pub mod Objects
 pub mod Order
+pub mod Places
 pub mod Programs
 pub mod Readable
 pub mod RowViews

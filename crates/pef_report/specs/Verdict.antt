@@ -1,6 +1,6 @@
 -- What the errors of a container leave of it, for a person: whether it is whole, cut or damaged, and which of its parts are
 -- whole (this project's own).
-use Rattle.std.specs.Prelude.{ℕ, ◌+◌, ◌==◌, ◌&&◌, ◌||◌, Bool, true, false, List, [], ◌∷◌, ◌++◌, Option, None, Some, Result, Ok, Err, codes, decimal, length, max, nat_le, nat_lt, if◌then◌else◌}
+use Rattle.std.specs.Prelude.{ℕ, ◌+◌, ◌==◌, ◌&&◌, ◌||◌, Bool, true, false, List, [], ◌∷◌, ◌++◌, Option, None, Some, Result, Ok, Err, codes, decimal, length, max, nat_le, nat_lt, min, take, if◌then◌else◌}
 use Rattle.pef_format.specs.declared.place.Part.{Part}
 use Rattle.pef_format.specs.declared.place.Part.TheVariants as part
 use Rattle.pef_inspect.specs.Findings.{finding_number, is_error}
@@ -21,14 +21,14 @@ abbrev pub section_end : Option SectionHeader → ℕ
 section_end None = 0
 section_end (Some s) = if s.packed_size == 0 then 0 else s.container_offset + s.packed_size
 
--- how many bytes the headers and the raw bytes of all sections need
-abbrev pub needed_by : Contained → ℕ
-needed_by c = max (names_from c.header) (greatest (λ i. section_end (header_in c i)) 0 c.header.section_count)
+-- how many bytes the headers and the raw bytes of the first sections need
+abbrev pub needed_by : ℕ → Contained → ℕ
+needed_by most c = max (names_from c.header) (greatest (λ i. section_end (header_in c i)) 0 (min c.header.section_count most))
 
 -- without a header, the 40 bytes of one
-abbrev pub needed_of : Result Contained ViewFault → ℕ
-needed_of (Ok c) = needed_by c
-needed_of (Err fault) = 40
+abbrev pub needed_of : ℕ → Result Contained ViewFault → ℕ
+needed_of most (Ok c) = needed_by most c
+needed_of most (Err fault) = 40
 
 -- an error with a number at a part is about parts of a container. Without a loader section, and with a loader header or tables
 -- that are cut, nothing is known of what is in it
@@ -66,17 +66,17 @@ abbrev pub count_of : ℕ → List ℕ → ℕ
 count_of b [] = 0
 count_of b (x ∷ bytes) = if x == b then 1 + count_of b bytes else count_of b bytes
 
--- a transfer as text makes each line feed a carriage return, or the other way: one of the two comes 16 times, and the other
--- never
-abbrev pub lacks : ℕ → ℕ → List ℕ → Bool
-lacks one other bytes = count_of one bytes == 0 && nat_le 16 (count_of other bytes)
+-- a transfer as text makes each line feed a carriage return, or the other way: in the first 65,536 bytes, one of the two comes
+-- 16 times, and the other never
+abbrev pub lacks_one : ℕ → ℕ → Bool
+lacks_one feeds returns = (feeds == 0 && nat_le 16 returns) || (returns == 0 && nat_le 16 feeds)
 
 abbrev pub is_as_text : List ℕ → Bool
-is_as_text bytes = lacks 0x0A 0x0D bytes || lacks 0x0D 0x0A bytes
+is_as_text bytes = lacks_one (count_of 0x0A (take 65536 bytes)) (count_of 0x0D (take 65536 bytes))
 
 unfoldable pub verdict_of : List ℕ → List Finding → Verdict
 verdict_of bytes findings = record {
-  needs = needed_of (partial_of bytes);
+  needs = needed_of 65535 (partial_of bytes);
   has = length bytes;
   errors = is_damaged group.Any findings;
   sections = is_damaged group.Sections findings;

@@ -1,9 +1,9 @@
 ghost use Rattle.std.specs.Prelude.{◌≡◌, decimal};
 ghost use Rattle.pef_ports.specs.Sent.{Sends};
-ghost use Rattle.pef_report.specs.Findings.{at_digits, at_word, detail_key, detail_number, detail_text, detail_word, entry_field, export_field, field_number, field_value, field_word, finding_line, finding_object, has_rows, header_field, is_whole, library_field, loader_field, offset_in_file, part_key, part_word, relocation_field, section_field, severity_word};
+ghost use Rattle.pef_report.specs.Findings.{detail_key, detail_number, detail_text, detail_word, entry_field, export_field, field_number, field_value, field_word, finding_line, finding_object, has_rows, header_field, is_whole, library_field, loader_field, offset_in_file, part_key, part_word, relocation_field, section_field, severity_word};
 ghost use Rattle.pef_report.specs.Tokens.{token_text};
 
-use crate::optional::{number_if, number_or_null, text_if};
+use crate::optional::{at_digits, at_word, number_if, number_or_null, text_if};
 use crate::rows::{Detail, FindingRow};
 use crate::tokens::{Token, print_tokens};
 use pef_format::Part;
@@ -275,26 +275,6 @@ pub(crate) fn offset_in_file(base: u64, offset: Option<usize>) -> Option<u64>
     match offset {
         Some(offset) => base.checked_add(offset as u64),
         None => None,
-    }
-}
-
-/// Returns the word before an offset.
-fn at_word(at: Option<u64>) -> &'static [u8]
-    ensures { result.now ≡ at_word at }
-{
-    match at {
-        Some(_) => b" at ",
-        None => b"",
-    }
-}
-
-/// Returns an offset, or nothing.
-fn at_digits(at: Option<u64>) -> Token<'static>
-    ensures { token_text result ≡ at_digits at }
-{
-    match at {
-        Some(at) => Token::At(at),
-        None => Token::Text(b""),
     }
 }
 

@@ -90,7 +90,7 @@ fn print_element<W: Sink>(
 }
 
 /// Prints a comma, but not before the first element of a list.
-pub(crate) fn print_separator<W: Sink>(
+pub fn print_separator<W: Sink>(
     out: &mut W,
     page: &mut Page,
     is_first: bool,

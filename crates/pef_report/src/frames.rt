@@ -12,6 +12,8 @@ pub struct Counts {
     pub containers: u64,
     pub errors: u64,
     pub notes: u64,
+    /// How many containers weren't inspected. A note says it, and the line of the counts doesn't.
+    pub unverified: u64,
 }
 
 /// Prints the first line of a file: its path, its length and what it is.
@@ -145,7 +147,7 @@ pub fn print_unread_object<W: Sink>(
             Token::Text(b"{\"file\":\""),
             Token::Path(path),
             Token::Text(
-                b"\",\"size\":null,\"format\":null,\"forks\":[],\"fragments\":[],\"containers\":[",
+                b"\",\"size\":null,\"format\":null,\"forks\":[],\"mac\":null,\"resources\":[],\"fragments\":[],\"containers\":[",
             ),
         ],
     )

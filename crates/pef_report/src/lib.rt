@@ -24,6 +24,7 @@ mod versions;
 mod walk;
 
 pub use finding::{print_finding, print_finding_object};
+pub use found::print_separator;
 pub use frames::{
     Counts, print_counts, print_error_end, print_file_error, print_file_line, print_file_object,
     print_unread_line, print_unread_object,
@@ -38,11 +39,13 @@ pub use objects::{
     print_entry_object, print_export_object, print_header_object, print_import_object,
     print_library_object, print_loader_object, print_section_object,
 };
+pub use optional::{at_digits, at_word, magnitude, number_or_null, sign};
 pub use programs::{print_instr_line, print_instr_object, print_relocation_object};
 pub use rows::{
     Detail, EntryRow, ExportRow, FindingRow, HeaderRow, ImportRow, InstrRow, LibraryRow, LoaderRow,
     ProgramRow, RelocationRow, SectionRow,
 };
+pub use strings::character_of;
 pub use theorems::{each_finding_is_printed_once, names_are_printed, rows_join};
 pub use tokens::{Token, print_tokens};
 pub use verdict::needed;

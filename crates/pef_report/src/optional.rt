@@ -2,7 +2,7 @@
 ghost use Rattle.std.specs.Prelude.{◌≡◌, decimal};
 ghost use Rattle.pef_listing.specs.Listing.{magnitude, sign_text};
 ghost use Rattle.pef_report.specs.Lines.{is_none_entry};
-ghost use Rattle.pef_report.specs.Findings.{shown};
+ghost use Rattle.pef_report.specs.Findings.{at_digits, at_word, shown};
 ghost use Rattle.pef_report.specs.Tokens.{number_or_null, token_text};
 
 use crate::tokens::Token;
@@ -33,6 +33,26 @@ pub fn number_or_null(n: Option<u64>) -> Token<'static>
     match n {
         Some(n) => Token::Number(n),
         None => Token::Text(b"null"),
+    }
+}
+
+/// Returns the word before an offset, if there is one.
+pub fn at_word(at: Option<u64>) -> &'static [u8]
+    ensures { result.now ≡ at_word at }
+{
+    match at {
+        Some(_) => b" at ",
+        None => b"",
+    }
+}
+
+/// Returns an offset, if there is one.
+pub fn at_digits(at: Option<u64>) -> Token<'static>
+    ensures { token_text result ≡ at_digits at }
+{
+    match at {
+        Some(at) => Token::At(at),
+        None => Token::Text(b""),
     }
 }
 

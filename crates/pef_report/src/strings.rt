@@ -99,7 +99,7 @@ fn print_byte<W: Sink>(out: &mut W, page: &mut Page, b: u8) -> Result<(), Stream
 
 /// Returns the character of a byte of Mac Roman.
 #[tactic(auto, unfolding(crate::specs::Strings::mac_roman))]
-fn character_of(b: u8) -> u16
+pub fn character_of(b: u8) -> u16
     ensures { result ≡ character_of b }
 {
     if b < 128 {

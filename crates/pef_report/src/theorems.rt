@@ -1,4 +1,6 @@
 //! Laws of the text of an inspection. The functions do nothing.
+ghost use Rattle.pef_report.specs.Judged.{JudgesRight};
+ghost use Rattle.pef_report.specs.Places.{PrintsInPlace};
 ghost use Rattle.pef_report.specs.Theorems.{JoinsRows, PrintsEachOnce, PrintsNames};
 
 /// Without the lines of the rows, the text of an inspection is the lines of all its errors and notes, in order. So each of them
@@ -6,6 +8,19 @@ ghost use Rattle.pef_report.specs.Theorems.{JoinsRows, PrintsEachOnce, PrintsNam
 #[tactic(auto, using(crate::proofs::Merging::each_once))]
 pub fn each_finding_is_printed_once()
     ensures { PrintsEachOnce }
+{}
+
+/// Each error and note is printed after the row or the instruction that it is about, and before the next one.
+#[tactic(auto, using(crate::proofs::InPlace::prints_in_place))]
+pub fn each_finding_is_in_its_place()
+    ensures { PrintsInPlace }
+{}
+
+/// An inspection without errors, in which nothing is left unverified, is that of a sound container, and an inspection of a sound
+/// container has no errors, whatever the limits are.
+#[tactic(auto, using(crate::proofs::Judging::judges_right))]
+pub fn inspections_are_right()
+    ensures { JudgesRight }
 {}
 
 /// A row is printed as if all of its name were looked at, but for the length of a name of more than 4,096 bytes.

@@ -3,7 +3,7 @@ ghost use Rattle.std.specs.Prelude.{◌≡◌, ◌≤◌, length};
 ghost use Rattle.pef_ports.specs.Sent.{Sends};
 ghost use Rattle.pef_views.specs.Partial.{partial_of};
 ghost use Rattle.pef_views.specs.PartialViews.{partly};
-ghost use Rattle.pef_report.specs.Verdict.{bool_word, count_of, damages, is_about, is_as_text, is_damaged, lacks, needed_by, needed_of, part_state, section_end, state_word, verdict_line, verdict_object, verdict_of};
+ghost use Rattle.pef_report.specs.Verdict.{bool_word, count_of, damages, is_about, is_as_text, is_damaged, lacks_one, needed_by, needed_of, part_state, section_end, state_word, verdict_line, verdict_object, verdict_of};
 
 use crate::optional::text_if;
 use crate::tokens::{Token, print_tokens};
@@ -15,6 +15,8 @@ use pef_views::{PartialContainer, SectionHeader};
 
 /// How often a byte has to come before it is odd that the other one doesn't.
 const MANY: usize = 16;
+/// In how many bytes of a container its line ends are counted. More would be looked at again for each container in a file.
+const COUNTED: usize = 65_536;
 
 /// What is known of a container as a whole. A flag says that an error is about these parts.
 #[derive(Clone, Copy, Debug)]
@@ -50,7 +52,7 @@ impl Verdict {
     {
         let errors = is_damaged(Group::Any, findings);
         Verdict {
-            needs: needed(bytes),
+            needs: needed(bytes, u16::MAX),
             has: bytes.len() as u64,
             errors,
             sections: is_damaged(Group::Sections, findings),
@@ -125,22 +127,22 @@ impl Verdict {
     }
 }
 
-/// Returns how many bytes the headers and the sections of the container that begins some bytes need.
-pub fn needed(bytes: &[u8]) -> u64
-    ensures { result ≡ needed_of (partial_of bytes.now) }
+/// Returns how many bytes the headers and at most `most` sections of the container that begins some bytes need.
+pub fn needed(bytes: &[u8], most: u16) -> u64
+    ensures { result ≡ needed_of most (partial_of bytes.now) }
 {
     match PartialContainer::read(bytes) {
-        Ok(container) => needed_by(&container),
+        Ok(container) => needed_by(&container, most),
         Err(_) => CONTAINER_HEADER_SIZE as u64,
     }
 }
 
-/// Returns how many bytes the headers and the raw bytes of all sections need.
-fn needed_by(container: &PartialContainer<'_>) -> u64
-    ensures { result ≡ needed_by (partly container.now) }
+/// Returns how many bytes the headers and the raw bytes of the first sections need.
+fn needed_by(container: &PartialContainer<'_>, most: u16) -> u64
+    ensures { result ≡ needed_by most (partly container.now) }
 {
     let mut end = container.names_start() as u64;
-    for i in 0..container.header().section_count {
+    for i in 0..container.header().section_count.min(most) {
         end = end.max(section_end(container.section(usize::from(i))));
     }
     end
@@ -217,14 +219,15 @@ fn is_about(which: Group, number: u32, part: Part) -> bool
 fn is_as_text(bytes: &[u8]) -> bool
     ensures { result ≡ is_as_text bytes.now }
 {
-    lacks(b'\n', b'\r', bytes) || lacks(b'\r', b'\n', bytes)
+    let (counted, _) = bytes.split_at(COUNTED.min(bytes.len()));
+    lacks_one(count_of(b'\n', counted), count_of(b'\r', counted))
 }
 
-/// Returns whether one byte never comes, and another one often.
-fn lacks(one: u8, other: u8, bytes: &[u8]) -> bool
-    ensures { result ≡ lacks one other bytes.now }
+/// Returns whether one of two bytes never comes, and the other one often.
+fn lacks_one(feeds: usize, returns: usize) -> bool
+    ensures { result ≡ lacks_one feeds returns }
 {
-    count_of(one, bytes) == 0 && count_of(other, bytes) >= MANY
+    feeds == 0 && returns >= MANY || returns == 0 && feeds >= MANY
 }
 
 /// Returns how often a byte comes.

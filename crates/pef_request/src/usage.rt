@@ -9,7 +9,10 @@ const NOT_UTF_8: &str = "error: an argument isn't UTF-8
 Give the file or folder another name, for example by a symbolic link.
 ";
 
-/// Returns the error in a command line, or the help that it asks for, as `clap` words it.
+/// What `clap` says last of an error.
+const TRY_HELP: &str = "\nFor more information, try '--help'.\n";
+
+/// Returns the error in a command line, or the help that it asks for, as `clap` words it. The help for a command has an example.
 ///
 /// The words are those of a command line that has no command. If the system's words aren't UTF-8, the list is empty.
 pub fn words_help(alloc: Global, words: &[String]) -> Result<String, AllocError> {
@@ -19,7 +22,46 @@ pub fn words_help(alloc: Global, words: &[String]) -> Result<String, AllocError>
     match helpful_command(alloc)?.try_get_matches_from(words) {
         Ok(matches) if matches.get_flag("version") => version_error(alloc)?.to_string(alloc),
         Ok(matches) => accepted_error(alloc, &matches)?.to_string(alloc),
-        Err(error) => error_text(alloc, &error),
+        Err(error) => match error.kind() {
+            ErrorKind::DisplayHelp => help_text(alloc, &error, asked_command(words)),
+            _ => error_text(alloc, &error),
+        },
+    }
+}
+
+/// Returns the word that names the command whose help is asked for, if there is one.
+fn asked_command(words: &[String]) -> &str {
+    match words {
+        [_, first, second, ..] if first.as_str() == "help" => second.as_str(),
+        [_, first, ..] => first.as_str(),
+        _ => "",
+    }
+}
+
+/// Returns a text of help, with an example if it is that for a command.
+fn help_text(alloc: Global, help: &Error, command: &str) -> Result<String, AllocError> {
+    let mut text = help.to_string(alloc)?;
+    let example = example_of(command);
+    if !example.is_empty() {
+        text.push_str("\nExample:\n  ")?;
+        text.push_str(example)?;
+        text.push_str("\n")?;
+    }
+    Ok(text)
+}
+
+/// Returns an example of a command, or nothing for other words.
+fn example_of(command: &str) -> &'static str {
+    match command {
+        "show" => "pef show < app.pefscript",
+        "link" => "pef link app.pefscript app.pef",
+        "list" => "pef list app.pef",
+        "load" => "pef load app=app.pef Tools=tools.pef",
+        "distances" => "pef distances app.pefscript > app.cert",
+        "check" => "pef check app.pefscript app.cert",
+        "extract" => "pef extract Calculator.bin '#0' calculator.pef",
+        "inspect" => "pef inspect Calculator.bin",
+        _ => "",
     }
 }
 
@@ -36,16 +78,23 @@ fn helpful_command<'a>(alloc: Global) -> Result<Command<'a>, AllocError> {
         .arg(version)
 }
 
-/// Returns the text of an error. If the command is missing or unknown, the list of all commands follows.
+/// Returns the text of an error. If the command is missing or unknown, the list of all commands follows, in place of the advice to
+/// ask for it.
 fn error_text(alloc: Global, error: &Error) -> Result<String, AllocError> {
-    let mut text = error.to_string(alloc)?;
-    if matches!(
+    let said = error.to_string(alloc)?;
+    if !matches!(
         error.kind(),
         ErrorKind::MissingSubcommand | ErrorKind::InvalidSubcommand
     ) {
-        text.push_str("\n")?;
-        text.push_str(helpful_command(alloc)?.render_help()?.as_str())?;
+        return Ok(said);
     }
+    let own = said
+        .as_str()
+        .strip_suffix(TRY_HELP)
+        .unwrap_or(said.as_str());
+    let mut text = String::from_str(alloc, own)?;
+    text.push_str("\n")?;
+    text.push_str(helpful_command(alloc)?.render_help()?.as_str())?;
     Ok(text)
 }
 

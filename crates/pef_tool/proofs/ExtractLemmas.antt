@@ -2,7 +2,7 @@
 use Rattle.std.proofs.Common.{◌≡◌, ◌∙◌, ◌⊎◌, ℕ, Bool, true, false, List, [], ◌∷◌, Option, None, Some, Result, Ok, Err, ap, inl, inr, refl, subst, sym}
 use Rattle.std.specs.List.{slice_get}
 use Rattle.cfm_members.specs.Contents.{rest_from}
-use Rattle.cfm_members.specs.Fragments.{container_in_pair, container_numbered}
+use Rattle.cfm_members.specs.Fragments.{container_numbered}
 use Rattle.cfm_members.specs.Search.{containers_in}
 use Rattle.cfm_members.specs.declared.fragment_fault.FragmentFault.{FragmentFault}
 use Rattle.pef_faults.specs.declared.fault.Fault.{Fault}
@@ -17,6 +17,7 @@ use Rattle.pef_views.proofs.Laws.{kept_whole}
 use Rattle.pef_tool.specs.Answers.Answers.{Answer}
 use Rattle.pef_tool.specs.Companions.{CompanionIs, Looks, LooksAt, LooksIf, companion_places}
 use Rattle.pef_tool.specs.Extract.{ExtractAnswers, ExtractRefuses, ExtractsInspected, FindsContainer, FindsIn, IsKept, WritesFound, as_fault, extracts, found_beside, found_in, found_with, numbered, refuses}
+use Rattle.pef_tool.specs.Spellings.{container_asked}
 use Rattle.pef_tool.specs.Kept.Extracting.{EndsWith, ReadEnds, WrittenAnswer}
 
 -- what was read of a companion: its bytes, unless an allocation failed
@@ -32,7 +33,7 @@ fragment_error (Ok container) why is = absurd (cc is)
 fragment_error (Err fault) why is = inl (fault, cc is)
 
 error_beside : (bytes name : List ℕ) (read : Result (List ℕ) Fault) (why : Fault) → IsRead read → found_beside bytes name read ≡ Err why → IsNotFound why
-error_beside bytes name (Ok resources) why read is = fragment_error (container_in_pair bytes resources name) why is
+error_beside bytes name (Ok resources) why read is = fragment_error (container_asked bytes resources name) why is
 error_beside bytes name (Err fault) why (inl whole) is = absurd (cc whole.1)
 error_beside bytes name (Err fault) why (inr lacks) is = inr (cc (sym lacks ∙ is))
 

@@ -8,23 +8,14 @@ use Rattle.mac_report.specs.declared.file.Form.{Form}
 use Rattle.pef_faults.specs.Faults.{fault_name, fault_number, fault_reason}
 use Rattle.pef_faults.specs.declared.fault.Fault.{Fault}
 use Rattle.pef_faults.specs.declared.fault.Fault.TheVariants as fault
-use Rattle.pef_ports.specs.Input.{ReadsInput}
 use Rattle.pef_ports.specs.Ports.{FilesPort, Grows, Reads, Stream}
 use Rattle.pef_ports.specs.Sent.{Prints, StopsShort}
-use Rattle.pef_ports.specs.declared.input.InputFault.{InputFault}
-use Rattle.pef_ports.specs.declared.input.InputFault.TheVariants.{Unreadable, TooLong, OutOfMemory}
+use Rattle.pef_ports.specs.declared.input.InputFault.TheVariants.{Unreadable, OutOfMemory}
 use Rattle.pef_ports.proofs.Laws.Sending.{Prints-then, StopsShort-longer, StopsShort-then, sent-nothing}
 use Rattle.pef_tool.specs.Companions.{CompanionIs}
-use Rattle.pef_tool.specs.Inspect.{Inspects, IsPrinted, IsPrintedBeside, ReadsPath, ReadsStandard, Reported}
+use Rattle.pef_tool.specs.Inspect.{Inspects, IsPrinted, IsPrintedBeside, ReadsPath, Reported}
 use Rattle.pef_tool.specs.Kept.Inspecting.{read_seen}
 use Rattle.pef_tool.specs.Kept.Reading.{StopsFile}
-use Rattle.pef_tool.specs.Limits.{input_limit}
-
--- the standard input that was read, or why not
-pub standard_failed : (before after : Stream) (f : InputFault) → ReadsInput (Err f) before after input_limit → ReadsStandard before after (Err (fault.Input f))
-standard_failed before after Unreadable reads = reads
-standard_failed before after TooLong reads = reads
-standard_failed before after OutOfMemory reads = reads
 
 module _ {F : Type 0} (port : FilesPort F) (before after : F) (path : List ℕ) where
   -- a file that wasn't read

@@ -14,3 +14,4 @@ mod LoadedLemmas
 mod PathLemmas
 mod RoomLemmas
 mod ShowLemmas
+mod SpellingLemmas

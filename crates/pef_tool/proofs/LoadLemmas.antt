@@ -47,12 +47,6 @@ module _ {F : Type 0} (port : FilesPort F) where
   were-length before after (f ∷ named) [] read = absurd read
   were-length before after (f ∷ named) (c ∷ contents) read = ap suc (were-length read.0 after named contents read.2)
 
-  -- all were read
-  pub read-all : (before after : F) (xs : List NamedFile) (i : ℕ) (contents : List (List ℕ)) → length xs ≤ i → WereRead port before after (map named_path (take i xs)) contents → WereRead port before after (map named_path xs) contents
-  read-all before after xs i contents past read =
-      let P : List NamedFile → Type 0 = λ ys. WereRead port before after (map named_path ys) contents in
-      subst P (take_all i xs past) read
-
   -- the files before one file, that file, and the files after it
   apart : (xs : List NamedFile) (i : ℕ) (d : NamedFile) → i < length xs → map named_path xs ≡ map named_path (take i xs) ++ named_path (get_or xs i d) ∷ map named_path (drop (i + 1) xs)
   apart [] i d under = absurd (omega (arith, under))

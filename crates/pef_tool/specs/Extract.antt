@@ -4,7 +4,7 @@ use Rattle.std.specs.Prelude.{◌≡◌, ◌⊎◌, ◌==◌, ◌&&◌, ℕ, Boo
 use Rattle.std.specs.List.{slice_get}
 use Rattle.std.specs.Option.{is_none, option_map_or}
 use Rattle.cfm_members.specs.Contents.{rest_from}
-use Rattle.cfm_members.specs.Fragments.{container_in_pair, container_named, container_numbered}
+use Rattle.cfm_members.specs.Fragments.{container_numbered}
 use Rattle.cfm_members.specs.Search.{containers_in}
 use Rattle.cfm_members.specs.declared.fragment_fault.FragmentFault.{FragmentFault}
 use Rattle.cfm_members.specs.declared.fragment_fault.FragmentFault.TheVariants.{NoContainer}
@@ -19,6 +19,7 @@ use Rattle.pef_views.specs.Extents.{IsSame, own_part}
 use Rattle.pef_views.specs.declared.fault.ViewFault.{ViewFault}
 use Rattle.pef_tool.specs.Answers.Answers.{Answer, answer_done}
 use Rattle.pef_tool.specs.Answers.Faults.{fault_answer}
+use Rattle.pef_tool.specs.Spellings.{container_asked}
 use Rattle.pef_tool.specs.Companions.{CompanionIs, LooksIf, may_have_companion}
 
 -- the container with a number, without the bytes after it
@@ -28,7 +29,7 @@ numbered bytes number = option_map_or (λ rest. Ok (own_part rest (container_of 
 -- the container that NAME asks for: with a number, if it is `#` (23 in hex) and a decimal number, else of the fragment with
 -- this name
 abbrev pub wanted : List ℕ → List ℕ → Option ℕ → Result (List ℕ) FragmentFault
-wanted bytes name number = option_map_or (numbered bytes) number (container_named bytes name)
+wanted bytes name number = option_map_or (numbered bytes) number (container_asked bytes bytes name)
 
 abbrev pub number_of : List ℕ → Option ℕ
 number_of [] = decimal_number []
@@ -44,7 +45,7 @@ as_fault (Err fault) = Err (Fragment fault)
 
 -- the container of the fragment with this name, by what was read of the companion
 abbrev pub found_beside : List ℕ → List ℕ → Result (List ℕ) Fault → Result (List ℕ) Fault
-found_beside bytes name (Ok resources) = as_fault (container_in_pair bytes resources name)
+found_beside bytes name (Ok resources) = as_fault (container_asked bytes resources name)
 found_beside bytes name (Err why) = Err why
 
 -- the container that NAME asks for, in FILE and its companion if there is one

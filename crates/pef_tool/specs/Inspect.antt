@@ -77,9 +77,13 @@ pub record ReadsPair {F R : Type 0} (port : FilesPort F) (stream : R → Stream)
   pub is : IsRead port stream files between input rest path read
   pub looks : LooksBy given port stream between files' rest input' path read companion
 
--- a report on what was read, and its number of errors. A file that wasn't read has one error
+-- what a file is to blame for: its errors, and the containers that weren't inspected
+abbrev pub blamed : Counts → ℕ
+blamed counts = min (counts.errors + counts.unverified) (2 ^ 64 - 1)
+
+-- a report on what was read, and its number of these. A file that wasn't read has one error
 abbrev pub IsPrinted : Form → List ℕ → Option DataFileIs → Result (List ℕ) Fault → List ℕ → ℕ → Type 0
-IsPrinted form path other (Ok bytes) text errors = (counts : Counts) × IsReport form path bytes other text counts × (errors ≡ counts.errors)
+IsPrinted form path other (Ok bytes) text errors = (counts : Counts) × IsReport form path bytes other text counts × (errors ≡ blamed counts)
 IsPrinted form path other (Err fault) text errors = (text ≡ unread_because form path (fault_number fault) (fault_name fault) (fault_reason fault)) × (errors ≡ 1)
 
 -- the report on the companion of a file, if there is one. The file has its data fork

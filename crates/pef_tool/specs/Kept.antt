@@ -8,3 +8,4 @@ pub mod Reading
 pub mod Rooted
 pub mod Routines
 pub mod Showing
+pub mod Spelling

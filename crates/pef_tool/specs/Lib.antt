@@ -13,5 +13,6 @@ pub mod Limits
 pub mod Load
 pub mod Loaded
 pub mod Show
+pub mod Spellings
 pub mod Version
 pub mod Explain

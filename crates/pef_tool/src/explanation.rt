@@ -1,12 +1,13 @@
-ghost use Rattle.std.specs.Prelude.{◌++◌, ℕ, List, option_map};
+ghost use Rattle.std.specs.Prelude.{◌++◌, ℕ, List, codes, decimal, option_map};
 ghost use Rattle.pef_tool.specs.Answers.Answers.{answer_done};
 ghost use Rattle.pef_tool.specs.Explain.{Explains, IsNoted, NotesHelp};
 ghost use Rattle.pef_faults.specs.Notes.Notes.{note_text};
 
 use crate::answers::{Outcome, Reply, deliver};
 use pef_faults::{Note, print_note};
-use pef_ports::{Page, Sink, StreamFault, send};
-use pef_refusals::help;
+use pef_lines::decimal_number;
+use pef_ports::{Page, Piece, Sink, StreamFault, print_pieces, send};
+use pef_refusals::{help, name};
 use pef_request::words_help;
 use std::alloc::Global;
 
@@ -49,8 +50,43 @@ fn note_help<W: Sink>(notes: &mut W, text: Option<&'static str>, note: Note)
     }
 }
 
-/// Writes the error in the command line, or the help that it asks for.
+/// Writes the error in the command line, or the help that it asks for: that for a command, or with the number of an error its meaning.
 fn note_usage<W: Sink>(alloc: Global, words: &[String], notes: &mut W)
+    ensures { (text : List ℕ) × IsNoted (W.stream notes.old) (W.stream notes.new) text }
+{
+    match asked_number(words) {
+        Some(number) => note_number(alloc, words, number, notes),
+        None => note_words(alloc, words, notes),
+    }
+}
+
+/// Returns the number whose meaning is asked for, if one is.
+fn asked_number(words: &[String]) -> Option<u32> {
+    match words {
+        [_, first, second] if first.as_str() == "help" => decimal_number(second.as_bytes()),
+        _ => None,
+    }
+}
+
+/// Writes what an error or a note with a number is called and means, or the error in the command line if there is no such number.
+fn note_number<W: Sink>(alloc: Global, words: &[String], number: u32, notes: &mut W)
+    ensures { (text : List ℕ) × IsNoted (W.stream notes.old) (W.stream notes.new) text }
+{
+    match (name(number), help(number)) {
+        (Some(name), Some(text)) => write_number(notes, number, name.as_bytes(), text.as_bytes()),
+        _ => note_words(alloc, words, notes),
+    }
+}
+
+/// Writes a number, its name and its meaning.
+fn write_number<'a, W: Sink>(notes: &mut W, number: u32, name: &'a [u8], text: &'a [u8])
+    ensures { IsNoted (W.stream notes.old) (W.stream notes.new) (decimal number ++ codes " " ++ name.entry.now ++ codes "\n" ++ text.entry.now ++ codes "\n") }
+{
+    deliver(notes, &NumberNote { number, name, text });
+}
+
+/// Writes what `clap` says of the command line.
+fn note_words<W: Sink>(alloc: Global, words: &[String], notes: &mut W)
     ensures { (text : List ℕ) × IsNoted (W.stream notes.old) (W.stream notes.new) text }
 {
     match words_help(alloc, words) {
@@ -81,6 +117,37 @@ impl<'a> Reply for TextNote<'a> {
 
     fn print<W: Sink>(&self, out: &mut W, page: &mut Page) -> Result<(), StreamFault> {
         send(out, page, self.text)
+    }
+}
+
+/// A number, its name and its meaning.
+#[derive(Clone, Copy)]
+struct NumberNote<'a> {
+    number: u32,
+    name: &'a [u8],
+    text: &'a [u8],
+}
+
+impl<'a> Reply for NumberNote<'a> {
+    ghost answer = { λ note. answer_done (decimal note.number ++ codes " " ++ note.name.now ++ codes "\n" ++ note.text.now ++ codes "\n") };
+
+    fn outcome(&self) -> Outcome {
+        Outcome::Done
+    }
+
+    fn print<W: Sink>(&self, out: &mut W, page: &mut Page) -> Result<(), StreamFault> {
+        print_pieces(
+            out,
+            page,
+            &[
+                Piece::Number(u64::from(self.number)),
+                Piece::Text(b" "),
+                Piece::Text(self.name),
+                Piece::Text(b"\n"),
+                Piece::Text(self.text),
+                Piece::Text(b"\n"),
+            ],
+        )
     }
 }
 

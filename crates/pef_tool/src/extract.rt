@@ -12,7 +12,8 @@ ghost use Rattle.pef_tool.specs.Kept.Inspecting.{companion_seen};
 use crate::answers::{Outcome, Reply, deliver};
 use crate::companion::{Companion, find_companion, may_have_companion};
 use crate::reading::read_file;
-use cfm_members::{FragmentFault, container_in_pair, named_container, numbered_container};
+use crate::spelling::container_asked;
+use cfm_members::{FragmentFault, numbered_container};
 use pef_faults::Fault;
 use pef_lines::decimal_number;
 use pef_ports::{FileFault, Files, Page, Piece, Sink, StreamFault, print_pieces};
@@ -92,7 +93,7 @@ fn find_with<'a>(
 {
     match companion {
         Some(companion) => match companion.resources() {
-            Ok(resources) => as_fault(container_in_pair(bytes, resources, name)),
+            Ok(resources) => as_fault(container_asked(bytes, resources, name)),
             Err(fault) => Err(fault),
         },
         None => as_fault(find(bytes, name)),
@@ -149,7 +150,7 @@ fn find<'a>(bytes: &'a [u8], name: &[u8]) -> Result<&'a [u8], FragmentFault>
 {
     match number_of(name) {
         Some(number) => find_numbered(bytes, number as usize),
-        None => named_container(bytes, name),
+        None => container_asked(bytes, bytes, name),
     }
 }
 

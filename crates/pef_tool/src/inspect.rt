@@ -498,7 +498,7 @@ fn print_report<'x, W: Sink>(
     }
 }
 
-/// Prints the report on a file that was read, and returns the number of its errors.
+/// Prints the report on a file that was read, and returns the number of its errors and of containers that weren't inspected.
 fn print_read<W: Sink>(
     alloc: Global,
     out: &mut W,
@@ -511,7 +511,7 @@ fn print_read<W: Sink>(
         × IfOk result (λ n. n ≡ errors) }
 {
     let counts = report.print(alloc, out, page)?;
-    Ok(counts.errors)
+    Ok(counts.errors.saturating_add(counts.unverified))
 }
 
 /// Prints the report on a file that wasn't read. It has one error.

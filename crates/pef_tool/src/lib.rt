@@ -21,6 +21,7 @@ mod load;
 mod loaded;
 mod reading;
 mod show;
+mod spelling;
 pub mod theorems;
 mod version;
 

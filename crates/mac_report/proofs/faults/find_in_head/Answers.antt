@@ -1,7 +1,7 @@
 -- One error after the other.
 use Rattle.std.proofs.Common.{◌++◌, List, ap, append_assoc, ◌∙◌}
 use Rattle.mac_report.specs.Faults.{header_faults}
-use Rattle.mac_report.specs.declared.scene.Found.{Found}
+use Rattle.mac_report.specs.declared.file_finding.FileFinding.{FileFinding}
 use Rattle.mac_report.proofs.faults.find_in_head.Goals as goal
 
 pub returns : goal.returns
@@ -14,9 +14,9 @@ returns g c =
     let comment = header_faults w.cuts.comment in
     let rows = header_faults w.cut in
     let first = c.in_ok-find_in_header.ensures in
-    let second = c.in_ok-find_in_header-2.ensures ∙ ap (λ (xs : List Found). xs ++ first_cut) first in
-    let third = c.in_ok-find_in_header-3.ensures ∙ ap (λ (xs : List Found). xs ++ resource) second in
-    let fourth = c.in_ok-find_in_header-4.ensures ∙ ap (λ (xs : List Found). xs ++ comment) third in
-    c.in_ok-find_in_header-5.ensures ∙ ap (λ (xs : List Found). xs ++ rows) fourth
+    let second = c.in_ok-find_in_header-2.ensures ∙ ap (λ (xs : List FileFinding). xs ++ first_cut) first in
+    let third = c.in_ok-find_in_header-3.ensures ∙ ap (λ (xs : List FileFinding). xs ++ resource) second in
+    let fourth = c.in_ok-find_in_header-4.ensures ∙ ap (λ (xs : List FileFinding). xs ++ comment) third in
+    c.in_ok-find_in_header-5.ensures ∙ ap (λ (xs : List FileFinding). xs ++ rows) fourth
     ∙ append_assoc (((old ++ a) ++ first_cut) ++ resource) comment rows ∙ append_assoc ((old ++ a) ++ first_cut) resource (comment ++ rows)
     ∙ append_assoc (old ++ a) first_cut (resource ++ (comment ++ rows)) ∙ append_assoc old a (first_cut ++ (resource ++ (comment ++ rows)))

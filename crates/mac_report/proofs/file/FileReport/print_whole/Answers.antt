@@ -17,10 +17,10 @@ returns-in_err-print_head g c =
     let found = shown_seen c.args.found in
     let w = some_walk me.form me.bytes.now (fresh_tally me.bytes.now) (containers_in me.bytes.now 0) in
     let rest = w.0 ++ end_text me.form found w.1 in
-    let whole : IsWhole me.form me.path.now me.bytes.now other found (head_text me.form me.path.now me.bytes.now other found ++ rest) (total w.1 (length found.faults) (length found.notes)) =
+    let whole : IsWhole me.form me.path.now me.bytes.now other found (head_text me.form me.path.now me.bytes.now other found ++ rest) (total w.1 (length found.errors) (length found.notes)) =
     record { containers = w.0; tally = w.1; walked = w.2; printed = refl; counted = refl } in (
       head_text me.form me.path.now me.bytes.now other found ++ rest,
-      total w.1 (length found.faults) (length found.notes),
+      total w.1 (length found.errors) (length found.notes),
       whole,
       Sends-short _ c.from_residual.result _ c.from_residual.ensures.1 (StopsShort-longer rest c.in_err-print_head.ensures),
       no_value _ _ c.from_residual.result c.from_residual.ensures.1,
@@ -34,10 +34,10 @@ returns-in_err-tally g c =
     let w = c.in_err-tally.ensures in
     let rest = end_text me.form found w.1 in
     let r = c.from_residual-in_err-tally in
-    let whole : IsWhole me.form me.path.now me.bytes.now other found (head_text me.form me.path.now me.bytes.now other found ++ (w.0 ++ rest)) (total w.1 (length found.faults) (length found.notes)) =
+    let whole : IsWhole me.form me.path.now me.bytes.now other found (head_text me.form me.path.now me.bytes.now other found ++ (w.0 ++ rest)) (total w.1 (length found.errors) (length found.notes)) =
     record { containers = w.0; tally = w.1; walked = w.2; printed = refl; counted = refl } in (
       head_text me.form me.path.now me.bytes.now other found ++ (w.0 ++ rest),
-      total w.1 (length found.faults) (length found.notes),
+      total w.1 (length found.errors) (length found.notes),
       whole,
       Sends-short _ r.result _ r.ensures.1 (StopsShort-then c.in_ok-print_head.ensures (StopsShort-longer rest w.3)),
       no_value _ _ r.result r.ensures.1,
@@ -53,10 +53,10 @@ returns-in_err-print_end g c =
     let r = c.from_residual-in_err-print_end in
     let stream = g.W.Sink.stream in
     let P : Tally → Type 0 = λ (t : Tally). StopsShort (stream c.print_containers.new.out) (stream c.print_end.new.out) c.print_containers.new.page.items (end_text me.form found t) in
-    let whole : IsWhole me.form me.path.now me.bytes.now other found (head_text me.form me.path.now me.bytes.now other found ++ (w.0 ++ rest)) (total w.1 (length found.faults) (length found.notes)) =
+    let whole : IsWhole me.form me.path.now me.bytes.now other found (head_text me.form me.path.now me.bytes.now other found ++ (w.0 ++ rest)) (total w.1 (length found.errors) (length found.notes)) =
     record { containers = w.0; tally = w.1; walked = w.2; printed = refl; counted = refl } in (
       head_text me.form me.path.now me.bytes.now other found ++ (w.0 ++ rest),
-      total w.1 (length found.faults) (length found.notes),
+      total w.1 (length found.errors) (length found.notes),
       whole,
       Sends-short _ r.result _ r.ensures.1 (StopsShort-then c.in_ok-print_head.ensures (StopsShort-then w.3 (subst P w.4 c.in_err-print_end.ensures))),
       no_value _ _ r.result r.ensures.1,
@@ -71,11 +71,11 @@ returns g c =
     let rest = end_text me.form found w.1 in
     let stream = g.W.Sink.stream in
     let P : Tally → Type 0 = λ (t : Tally). Prints (stream c.print_containers.new.out) (stream c.print_end.new.out) c.print_containers.new.page.items c.print_end.new.page.items (end_text me.form found t) in
-    let whole : IsWhole me.form me.path.now me.bytes.now other found (head_text me.form me.path.now me.bytes.now other found ++ (w.0 ++ rest)) (total w.1 (length found.faults) (length found.notes)) =
+    let whole : IsWhole me.form me.path.now me.bytes.now other found (head_text me.form me.path.now me.bytes.now other found ++ (w.0 ++ rest)) (total w.1 (length found.errors) (length found.notes)) =
     record { containers = w.0; tally = w.1; walked = w.2; printed = refl; counted = refl } in (
       head_text me.form me.path.now me.bytes.now other found ++ (w.0 ++ rest),
-      total w.1 (length found.faults) (length found.notes),
+      total w.1 (length found.errors) (length found.notes),
       whole,
       Prints-then c.in_ok-print_head.ensures (Prints-then w.3 (subst P w.4 c.in_ok-print_end.ensures)),
-      c.total.ensures ∙ ap (λ t. total t (length found.faults) (length found.notes)) w.4,
+      c.total.ensures ∙ ap (λ t. total t (length found.errors) (length found.notes)) w.4,
     )
