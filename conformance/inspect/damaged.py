@@ -855,6 +855,10 @@ MEMBER_FRAGMENTS = [{
 }]
 
 
+# The bytes of the whole container whose change isn't seen in its report: the code, what a packed block holds, the data and the traceback
+# bytes, which no rule reads; and the offset of a name, if there is no name before and after.
+UNSEEN = [(0x44, 0x48), (0x7C, 0x80), (0x98, 0x9C), (0xC0, 0xD0), (0xD1, 0xD9), (0xE0, 0x100), (0x1E4, 0x1EC)]
+
 # Names of each byte but zero, 17 bytes long.
 NAMES = [bytes(range(start, start + 17)) for start in range(1, 256, 17)]
 
@@ -893,13 +897,6 @@ def shared_by_sections(count: int, length: int) -> bytes:
 def headers_and_zeros(count: int, length: int) -> bytes:
     """So many headers of containers without sections, and zeros, which each of them has to itself."""
     return (b"Joy!peffpwpc" + struct.pack(">IIIIIHHI", 1, 0, 0, 0, 0, 0, 0, 0)) * count + bytes(length)
-
-
-def members_of_sections(members: int, sections: int) -> bytes:
-    """A file in MacBinary with so many members of the table of fragments, all at one container with so many sections."""
-    data = shared_by_sections(sections, 0)
-    table = struct.pack(">10xH18xH", 1, members) + fragments((b"Many", 1, 0, 0))[32:] * members
-    return mac_binary(data, resource_fork(b"cfrg", 0, table))
 
 
 def reordered(contents: bytes, order: List[int], count: int, instantiated: int) -> bytes:

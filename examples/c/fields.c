@@ -341,7 +341,7 @@ static void test_exports(void)
 }
 
 /* The containers of fragments, which stay until the program ends. */
-enum { ROOMS = 9, ROOM = 512 };
+enum { ROOMS = 12, ROOM = 512 };
 static uint8_t rooms[ROOMS][ROOM];
 static size_t used_rooms;
 
