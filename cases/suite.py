@@ -22,7 +22,8 @@ class Case:
     linked: scripts that the program links before, by the paths of their containers.
     certified: scripts of `files` for which the program prints certificates before, by the paths of these.
     stdin: the standard input, as bytes, or as text the path of a file or a folder that it is. printed_to: a device that is the
-    standard output, if it isn't a pipe.
+    standard output, or `|` for a pipe that nobody reads, if it isn't a pipe that is read.
+    memory: how many bytes of memory the program may take at most, its own code and stack among them; 0 is any number.
     stdout, stderr: what is written, as bytes or as `Begins`. status: the exit status.
     after: what files hold afterwards, by path, if that isn't what they held; None is a file that is gone.
     Any other new, changed or missing file is wrong.
@@ -40,6 +41,7 @@ class Case:
     certified: dict = dataclasses.field(default_factory=dict)
     closed: tuple = ()
     printed_to: str = ""
+    memory: int = 0
 
 
 def changed(contents, *changes):

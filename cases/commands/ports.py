@@ -1,6 +1,6 @@
 """Real files, inputs and outputs: what can't be read or written, and what is kept exactly."""
 from data import containers
-from data.refusals import FOLDER, FORBIDDEN, FULL, MISSING, READ_FOLDER, refused
+from data.refusals import ENDLESS, FOLDER, FORBIDDEN, FULL, MISSING, READ_FOLDER, refused
 from data.scripts import EXAMPLE, EXAMPLE_SHOWN, VECTORS
 from suite import Case
 
@@ -28,6 +28,11 @@ CASES = [
     Case("a full device for an error", ["list", "a"], {"a": b"Joy!"}, stderr=OUTPUT_FAILED, status=1, printed_to="/dev/full"),
     # the memory is more than is printed at once
     Case("a full device for a long answer", ["show"], stdin=b"section d data process 4 100000\n", stderr=OUTPUT_FAILED, status=1, printed_to="/dev/full"),
+    # who reads no more needs no explanation
+    Case("an answer that nobody reads", ["list", "a"], {"a": containers.EMPTY}, status=1, printed_to="|"),
+    Case("an error that nobody reads", ["list", "a"], {"a": b"Joy!"}, status=1, printed_to="|"),
+    Case("a report that nobody reads", ["inspect", "a", "a"], {"a": bytes(100)}, status=1, printed_to="|"),
+    Case("a device without an end", ["list", "/dev/zero"], {}, **refused(b"71 FileUnreadable /dev/zero", ENDLESS)),
     Case("a folder as the input", ["show"], stdin=".", **refused(b"73 InputUnreadable")),
     Case("a file as the input", ["show"], {"a": EXAMPLE}, stdin="a", stdout=EXAMPLE_SHOWN),
 ]

@@ -14,6 +14,7 @@ FOLDER = b"The system says: it is a folder.\n"
 READ_FOLDER = b"The system says: it is a folder. `find FOLDER -type f -print0 | pef inspect --files0` inspects the files in a folder.\n"
 FORBIDDEN = b"The system says: it may not be read or written by this user.\n"
 FULL = b"The system says: no room is left on the disk.\n"
+ENDLESS = b"It is a device or a pipe, and has no end or more than 536,870,912 bytes.\n"
 
 
 def at_byte(words, offset):

@@ -23,7 +23,10 @@ fn main(rt: HostRuntime) -> ExitCode {
         }
         Err(AllocError) => (Vec::new(alloc), out_of_memory(&mut out)),
     };
-    explain(alloc, words.as_slice(), outcome, &mut notes);
+    // Who reads no more output, as after `| head`, needs no explanation.
+    if !out.is_unread() {
+        explain(alloc, words.as_slice(), outcome, &mut notes);
+    }
     ExitCode::from(outcome.status())
 }
 

@@ -1,5 +1,5 @@
 -- The number of each error has its name.
-use Rattle.std.proofs.Common.{◌≡◌, ◌∙◌, ℕ, List, Option, Some, refl, sym, ap}
+use Rattle.std.proofs.Common.{◌≡◌, ◌∙◌, Some, refl, sym, ap}
 use Rattle.pef_refusals.specs.Names.{closure_name, container_name, loader_name, mac_name, name_of, packed_name, port_name, relocation_name, script_name}
 use Rattle.cfm_closure.specs.Faults as bind
 use Rattle.cfm_closure.specs.declared.fault.BindFault.{BindFault}

@@ -50,7 +50,7 @@ fault_path (Unreadable path reason) = Some path.now
 fault_path (Unwritable path reason) = Some path.now
 fault_path _ = None
 
--- why it couldn't
+-- why the file couldn't be read or written
 unfoldable pub fault_reason : Fault → FileReason
 fault_reason (Unreadable path reason) = reason
 fault_reason (Unwritable path reason) = reason

@@ -17,7 +17,7 @@ pub record Names : Type 0 where
 abbrev pub no_names : Names
 no_names = record { fragment = None; library = None; symbol = None }
 
--- those of a fragment that has no closure
+-- the names of the error of a fragment that has no closure
 unfoldable pub bind_names : BindFault → Names
 bind_names (bind.Container f v) = record { fragment = Some f.now; library = None; symbol = None }
 bind_names (bind.Loader f v place) = record { fragment = Some f.now; library = None; symbol = None }
@@ -29,14 +29,14 @@ bind_names (bind.ReexportLoop f s place) = record { fragment = Some f.now; libra
 bind_names (bind.InitLoop f place) = record { fragment = Some f.now; library = None; symbol = None }
 bind_names bind.OutOfMemory = no_names
 
--- that of a new fragment of a closure that isn't prepared
+-- the name of a new fragment of a closure that isn't prepared
 unfoldable pub fragment_names : FragmentFault → Names
 fragment_names (fragment.NoRoom f place) = record { fragment = Some f.now; library = None; symbol = None }
 fragment_names (fragment.Pack f k place) = record { fragment = Some f.now; library = None; symbol = None }
 fragment_names (fragment.Reloc f k section place) = record { fragment = Some f.now; library = None; symbol = None }
 fragment_names fragment.OutOfMemory = no_names
 
--- those of a fragment that isn't prepared
+-- the names of the error of a fragment that isn't prepared
 unfoldable pub prepare_names : PrepareFault → Names
 prepare_names (prepare.Bind f) = bind_names f
 prepare_names (prepare.TooManyBytes f) = record { fragment = Some f.now; library = None; symbol = None }
@@ -44,7 +44,7 @@ prepare_names (prepare.TooManyStepsInAll f) = record { fragment = Some f.now; li
 prepare_names (prepare.Fragment f) = fragment_names f
 prepare_names _ = no_names
 
--- those of any error
+-- the names of any error
 unfoldable pub fault_names : Fault → Names
 fault_names (Prepare f) = prepare_names f
 fault_names _ = no_names

@@ -11,12 +11,12 @@ use Rattle.pef_script.specs.declared.text.fault.ScriptFault.TheVariants as scrip
 use Rattle.pef_faults.specs.declared.fault.Fault.{Fault}
 use Rattle.pef_faults.specs.declared.fault.Fault.TheVariants.{Script, Listing, Certificate, Prepare}
 
--- the word of a line of a script, and its first byte
+-- the place of the word of a script that is at fault, and its first byte
 abbrev pub script_place : ScriptFault → Option Place
 script_place (script.Refused what line word earlier) = Some (record { part = Line; row = line; field = word.number; offset = Some word.from })
 script_place script.OutOfMemory = None
 
--- the line of certificates
+-- the place of the line of certificates that is at fault
 abbrev pub certificate_place : CertFault → Option Place
 certificate_place (cert.BadCertificate line) = Some (record { part = Line; row = line; field = 0; offset = None })
 certificate_place cert.OutOfMemory = None

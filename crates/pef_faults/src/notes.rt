@@ -168,6 +168,7 @@ fn unread_note(reason: FileReason) -> Note
         | FileReason::Forbidden
         | FileReason::Full
         | FileReason::NotUtf8
+        | FileReason::TooLong
         | FileReason::Other => Note::File(reason),
     }
 }
@@ -182,7 +183,7 @@ fn place_note(place: Option<Place>) -> Note
     }
 }
 
-/// Prints the end of the line with the help, and then what is known.
+/// Ends the line of the help, and then prints what is known.
 pub fn print_note<W: Sink>(out: &mut W, page: &mut Page, note: &Note) -> Result<(), StreamFault>
     ensures { Sends result (W.stream out.old) (W.stream out.new) page.old.items page.new.items (note_text note.now) }
 {
@@ -223,6 +224,8 @@ fn reason_text(reason: FileReason) -> &'static [u8]
             b"\nThe system says: it may not be read or written by this user.\n",
         FileReason::Full => b"\nThe system says: no room is left on the disk.\n",
         FileReason::NotUtf8 => b"\nThe path isn't valid UTF-8, and such a path can't be opened.\n",
+        FileReason::TooLong =>
+            b"\nIt is a device or a pipe, and has no end or more than 536,870,912 bytes.\n",
         FileReason::Other => b"\n",
     }
 }

@@ -27,7 +27,7 @@ impl<'a> Fault<'a> {
     }
 }
 
-/// Returns the word of a line of a script.
+/// Returns the place of the word of a script that is at fault.
 fn script_place(fault: ScriptFault) -> Option<Place>
     ensures { result ≡ script_place fault }
 {
@@ -42,7 +42,7 @@ fn script_place(fault: ScriptFault) -> Option<Place>
     }
 }
 
-/// Returns the line of certificates.
+/// Returns the place of the line of certificates that is at fault.
 fn certificate_place(fault: CertFault) -> Option<Place>
     ensures { result ≡ certificate_place fault }
 {

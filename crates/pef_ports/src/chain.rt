@@ -10,8 +10,8 @@ use crate::ports::{Sink, StreamFault};
 
 /// What is printed as a text.
 ///
-/// A line of such parts is printed as by [`print_pieces`](crate::print_pieces). The compiler knows the type of each part, so that
-/// lines that come by the thousand take half the time.
+/// A line of such parts is the text that [`print_pieces`](crate::print_pieces) prints. The parts are statically typed, so lines
+/// that come by the thousand take half the time.
 pub trait Printed {
     /// The text.
     ghost text: { Self → List ℕ };

@@ -21,8 +21,7 @@ pub fn send<W: Sink>(out: &mut W, page: &mut Page, bytes: &[u8]) -> Result<(), S
     send_anew(out, page, bytes)
 }
 
-/// Sends `bytes` that the page has no place for: those that wait in it are written first. Each `send` would pay for it if it
-/// were part of that.
+/// Sends `bytes` that the page has no room for: those that wait in the page are written first. Kept out of `send`: it is rare.
 #[inline(never)]
 fn send_anew<W: Sink>(out: &mut W, page: &mut Page, bytes: &[u8]) -> Result<(), StreamFault>
     ensures { Sends result (W.stream out.old) (W.stream out.new) page.old.items page.new.items bytes.now }

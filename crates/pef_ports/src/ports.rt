@@ -36,6 +36,8 @@ pub enum FileReason {
     Full,
     /// Its path isn't valid UTF-8.
     NotUtf8,
+    /// It is a device or a pipe, and has no end or more than 536,870,912 bytes.
+    TooLong,
     /// Another reason, or none is known.
     Other,
 }
@@ -66,11 +68,12 @@ pub trait Files {
     /// The state of the files.
     ghost state: { Self → FilesState };
 
-    /// A call of `read` by a path leads from these files to those, with this result. A port need not say
-    /// more about it. By this name a clause can say which calls a run made.
+    /// Whether a call of `read` by a path leads from the first files to the second ones, with this result.
+    /// Clauses use it to say which calls a run made. A port need not define it.
     ghost was_read: { Self → List ℕ → Result (List ℕ) FileFault → Self → Type 0 } = { λ _ _ _ _. Unit {0} };
 
-    /// The same for a call of `write` by a path with some bytes.
+    /// Whether a call of `write` by a path with some bytes leads from the first files to the second ones,
+    /// with this result.
     ghost was_written: { Self → List ℕ → List ℕ → Result (Unit {0}) FileFault → Self → Type 0 } = { λ _ _ _ _ _. Unit {0} };
 
     /// Why the last call that failed did.

@@ -39,6 +39,6 @@ excerpt_of line from to = record {
 unfoldable pub mark_text : Excerpt → List ℕ
 mark_text e = codes "\n    " ++ (take e.column blanks ++ (take e.marked marks ++ 10 ∷ []))
 
--- and the part with it
+-- the part of the line that is shown, and the line with the mark
 unfoldable pub excerpt_text : Excerpt → List ℕ
 excerpt_text e = codes "    " ++ (take e.len e.bytes ++ mark_text e)

@@ -54,7 +54,7 @@ prepare_note (prepare_fault.Bind f) = bind_note f
 prepare_note (prepare_fault.Fragment f) = fragment_note f
 prepare_note _ = note.Nothing
 
--- that of a file that couldn't be read
+-- the note of a file that couldn't be read
 abbrev pub unread_note : FileReason → Note
 unread_note reason.Folder = note.Folder
 unread_note why = note.File why
@@ -81,6 +81,7 @@ reason_text reason.Folder = codes "\nThe system says: it is a folder.\n"
 reason_text reason.Forbidden = codes "\nThe system says: it may not be read or written by this user.\n"
 reason_text reason.Full = codes "\nThe system says: no room is left on the disk.\n"
 reason_text reason.NotUtf8 = codes "\nThe path isn't valid UTF-8, and such a path can't be opened.\n"
+reason_text reason.TooLong = codes "\nIt is a device or a pipe, and has no end or more than 536,870,912 bytes.\n"
 reason_text reason.Other = codes "\n"
 
 -- the text of what is known

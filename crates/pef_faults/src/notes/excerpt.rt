@@ -14,7 +14,7 @@ const BEFORE: usize = 32;
 /// As many spaces as an excerpt can have bytes.
 const BLANKS: &[u8] = b"                                                                        ";
 
-/// As many marks.
+/// As many marks as an excerpt can have bytes.
 const MARKS: &[u8] = b"^^^^^^^^^^^^^^^^^^^^^^^^^^^^^^^^^^^^^^^^^^^^^^^^^^^^^^^^^^^^^^^^^^^^^^^^";
 
 /// A part of a line that has the beginning of a word. A byte that isn't printing is a question mark.
@@ -56,7 +56,7 @@ fn window(line: &[u8], start: usize) -> &[u8]
     front(rest, WIDTH)
 }
 
-/// Returns the first bytes, all if there are fewer.
+/// Returns the first `count` bytes, or all if there are fewer.
 fn front(bytes: &[u8], count: usize) -> &[u8]
     ensures part { result.now ≡ take count bytes.now }
     ensures small { length result.now ≤ count }

@@ -40,7 +40,7 @@ fn print_field<W: Sink>(out: &mut W, page: &mut Page, place: Place) -> Result<()
     }
 }
 
-/// Prints the end of the line with the help, and the sentences on an instruction of a relocation program.
+/// Ends the line of the help, and prints the sentences on an instruction of a relocation program.
 #[tactic(auto, unfolding(crate::specs::Notes::Places::program_text))]
 pub(crate) fn print_program<W: Sink>(
     out: &mut W,

@@ -17,9 +17,9 @@ pub struct ScriptNote {
 /// Why a line is refused, beyond the number of the error. Lines count from 1.
 #[derive(Clone, Copy, Debug, PartialEq, Eq)]
 pub enum Reason {
-    /// The number says it.
+    /// No more than the number says.
     Number,
-    /// The line has this that no line has.
+    /// The line has this oddity, which no line may have.
     Odd(Oddity),
     /// The word has to be one of the choices for its kind.
     Choices(WordKind),
@@ -134,7 +134,7 @@ fn group_of(line: &[u8]) -> u8
     }
 }
 
-/// Prints the end of the line with the help, the reason, and the line of the text.
+/// Ends the line of the help, and prints the reason and the line of the text.
 pub(crate) fn print_script_note<W: Sink>(
     out: &mut W,
     page: &mut Page,
@@ -146,7 +146,7 @@ pub(crate) fn print_script_note<W: Sink>(
     print_excerpt(out, page, &note.excerpt)
 }
 
-/// Prints the end of the line with the help, and the reason.
+/// Ends the line of the help, and prints the reason.
 #[tactic(auto, unfolding(crate::specs::Notes::Scripts::reason_text))]
 fn print_reason<W: Sink>(out: &mut W, page: &mut Page, reason: Reason) -> Result<(), StreamFault>
     ensures { Sends result (W.stream out.old) (W.stream out.new) page.old.items page.new.items (reason_text reason) }

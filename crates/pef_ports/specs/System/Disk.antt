@@ -8,7 +8,7 @@ use Rattle.std.specs.declared.io.ErrorKind.TheVariants as kind
 use Rattle.pef_ports.specs.declared.ports.FileFault.{FileFault}
 use Rattle.pef_ports.specs.declared.ports.FileFault.TheVariants.{Failed, OutOfMemory}
 use Rattle.pef_ports.specs.declared.ports.FileReason.{FileReason}
-use Rattle.pef_ports.specs.declared.ports.FileReason.TheVariants.{Missing, Folder, Forbidden, Full, NotUtf8, Other}
+use Rattle.pef_ports.specs.declared.ports.FileReason.TheVariants.{Missing, Folder, Forbidden, Full, NotUtf8, TooLong, Other}
 
 -- what a disk did, by the kind of its error
 abbrev pub seen : {A B : Type 0} → (A → B) → Result A Error → Result B ErrorKind
@@ -29,6 +29,7 @@ reason_of kind.PermissionDenied = Forbidden
 reason_of kind.ReadOnlyFilesystem = Forbidden
 reason_of kind.StorageFull = Full
 reason_of kind.QuotaExceeded = Full
+reason_of kind.FileTooLarge = TooLong
 reason_of _ = Other
 
 -- the reason of what a disk did, if it failed

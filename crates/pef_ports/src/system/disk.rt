@@ -8,16 +8,20 @@ ghost use Rattle.pef_ports.specs.declared.ports.FileReason.TheVariants.{NotUtf8}
 
 use crate::{FileFault, FileReason, Files};
 use std::alloc::Global;
-use std::io::{self, ErrorKind};
-use std::{fs, rt, str};
+use std::fs::{self, File};
+use std::io::{self, Error, ErrorKind, Read};
+use std::{rt, str};
+
+/// The most bytes that are read of a device or a pipe, as of the standard input.
+const MOST_BYTES: u64 = 536_870_912;
 
 /// A system's whole files, by their paths.
 pub trait Disk {
-    /// A call of `read_file` by a path may do this. A disk need not say more about it. By this name a clause can say
-    /// which calls a port made.
+    /// Whether a call of `read_file` by a path may have this result. Clauses use it to say which calls a port made. A disk need
+    /// not define it.
     ghost did_read: { Self → List ℕ → Result (List ℕ) ErrorKind → Type 0 } = { λ _ _ _. Unit {0} };
 
-    /// The same for a call of `write_file` by a path with some bytes.
+    /// Whether a call of `write_file` by a path with some bytes may have this result.
     ghost did_write: { Self → List ℕ → List ℕ → Result (Unit {0}) ErrorKind → Type 0 } = { λ _ _ _ _. Unit {0} };
 
     /// Returns all bytes of the file at `path`.
@@ -32,7 +36,18 @@ pub trait Disk {
 /// No clause can say what a real file gives, so a call of the system may do anything.
 impl<R: rt::Files + AllocGlobal> Disk for R {
     fn read_file(&self, path: &str) -> io::Result<Vec<u8>> {
-        fs::read(self, path)
+        if fs::metadata(self, path)?.is_file() {
+            return fs::read(self, path);
+        }
+        // A device or a pipe need not have an end.
+        let mut bytes = Vec::new(self.alloc());
+        File::open(self, path)?
+            .take(MOST_BYTES + 1)
+            .read_to_end(&mut bytes)?;
+        if bytes.len() as u64 > MOST_BYTES {
+            return Err(Error::from(ErrorKind::FileTooLarge));
+        }
+        Ok(bytes)
     }
 
     fn write_file(&self, path: &str, bytes: &[u8]) -> io::Result<()> {
@@ -112,6 +127,7 @@ fn reason_of(kind: ErrorKind) -> FileReason
         ErrorKind::IsADirectory => FileReason::Folder,
         ErrorKind::PermissionDenied | ErrorKind::ReadOnlyFilesystem => FileReason::Forbidden,
         ErrorKind::StorageFull | ErrorKind::QuotaExceeded => FileReason::Full,
+        ErrorKind::FileTooLarge => FileReason::TooLong,
         _ => FileReason::Other,
     }
 }

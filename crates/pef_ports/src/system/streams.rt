@@ -1,5 +1,8 @@
+ghost use Rattle.std.specs.Prelude.{◌≡◌, true};
+ghost use Rattle.pef_ports.specs.Ports.{one_more};
+
 use crate::{Sink, Source, StreamFault};
-use std::io::{Read, Write};
+use std::io::{ErrorKind, Read, Write};
 
 /// An input.
 #[derive(Drop)]
@@ -47,6 +50,8 @@ pub struct Output<W: Write + Drop> {
     writer: W,
     failures: u64,
     failed: bool,
+    /// Whether the last write failed because nothing reads the output any more.
+    unread: bool,
 }
 
 impl<W: Write + Drop> Output<W> {
@@ -55,7 +60,30 @@ impl<W: Write + Drop> Output<W> {
             writer,
             failures: 0,
             failed: false,
+            unread: false,
         }
+    }
+
+    /// Returns whether the last write failed because nothing reads the output any more, as after `| head`. It is for the user:
+    /// nothing else depends on it.
+    pub fn is_unread(&self) -> bool
+        ensures { result ≡ self.now.unread }
+    {
+        self.unread
+    }
+}
+
+impl<W: Write + Drop> Output<W> {
+    fn fault(&mut self, unread: bool) -> StreamFault
+        ensures count { self.new.failures ≡ one_more self.old.failures }
+        ensures failed { self.new.failed ≡ true }
+        ensures written { self.new.writer ≡ self.old.writer }
+        ensures unread { self.new.unread ≡ unread }
+    {
+        self.failures = self.failures.saturating_add(1);
+        self.failed = true;
+        self.unread = unread;
+        StreamFault
     }
 }
 
@@ -73,11 +101,8 @@ impl<W: Write + Drop> Sink for Output<W> {
                 self.failed = false;
                 Ok(taken)
             }
-            _ => {
-                self.failures = self.failures.saturating_add(1);
-                self.failed = true;
-                Err(StreamFault)
-            }
+            Ok(_) => Err(self.fault(false)),
+            Err(error) => Err(self.fault(error.kind() == ErrorKind::BrokenPipe)),
         }
     }
 }
