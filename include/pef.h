@@ -174,6 +174,7 @@ struct pef_bytes {
 #define PEF_NOTE_UNOWNED_BYTES 113
 #define PEF_NOTE_WORD_RELOCATED_TWICE 114
 #define PEF_NOTE_SECTIONS_OUT_OF_ORDER 116
+#define PEF_NOTE_NAME_OUTSIDE 121
 
 /* Only this library returns these: the caller's buffer is too small; there is no such thing; the context isn't open; a
  * fragment is added after a connection was given; the context has as many fragments as it may; the granule is none; the
@@ -246,16 +247,6 @@ uint32_t pef_link(const uint8_t *script, size_t script_length, uint8_t *buffer, 
  * `buffer` is left unchanged; and after a refusal `*written` is too.
  */
 uint32_t pef_list(const uint8_t *container, size_t container_length, uint8_t *buffer, size_t buffer_length, size_t *written);
-
-/*
- * Lists a container in parts: writes the lines that `pef list` prints, from byte `from` on, to the front of `buffer`, as many
- * bytes as fit.
- *
- * Returns PEF_OK, and stores the number of bytes in `*written`: it is less than `buffer_length` only at the end of the lines, and
- * 0 after it. Or returns the first refusal, 1 to 20 or 31 to 36; or PEF_OUT_OF_MEMORY. Then `buffer` and `*written` are left
- * unchanged. Each call makes the lines up to the end of its part again. To read all parts, pef_list_next() makes them once.
- */
-uint32_t pef_list_part(const uint8_t *container, size_t container_length, size_t from, uint8_t *buffer, size_t buffer_length, size_t *written);
 
 /*
  * A listing that is read part by part. It starts as zero bytes:

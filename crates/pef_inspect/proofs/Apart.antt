@@ -175,7 +175,7 @@ module _ (limits : Limits) (c : Contained) where
   note-in : (irregular : Bool) → AreNotes (notes_in limits c irregular)
   note-in irregular =
       all-append IsNote (all_met (header_notes c)) (all_among (section_row c) 0 c.header.section_count ++ behind_notes limits c (loader.partial_of (views.sections_allowed c) c.loader) irregular) (each-met IsNote (header_notes c) (refl, (refl, (refl, (refl, tt)))))
-      (all-append IsNote (all_among (section_row c) 0 c.header.section_count) (behind_notes limits c (loader.partial_of (views.sections_allowed c) c.loader) irregular) (each-among IsNote (section_row c) 0 c.header.section_count (λ i. each-or IsNote (λ s. all_met (section_notes c i s)) (views.header_in c i) (λ s. each-met IsNote (section_notes c i s) (refl, (refl, (refl, tt))))))
+      (all-append IsNote (all_among (section_row c) 0 c.header.section_count) (behind_notes limits c (loader.partial_of (views.sections_allowed c) c.loader) irregular) (each-among IsNote (section_row c) 0 c.header.section_count (λ i. each-or IsNote (λ s. all_met (section_notes c i s)) (views.header_in c i) (λ s. each-met IsNote (section_notes c i s) (refl, (refl, (refl, (refl, tt)))))))
       (note-behind (loader.partial_of (views.sections_allowed c) c.loader) irregular))
 
   note-gap : (bytes : List ℕ) (place : Place) (from to : ℕ) → AreNotes (option_to_list (gap_note bytes place from to))

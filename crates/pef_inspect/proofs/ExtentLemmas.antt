@@ -12,7 +12,8 @@ use Rattle.pef_views.specs.Header.{names_from}
 use Rattle.pef_views.specs.Partial as views
 use Rattle.pef_views.specs.declared.section.SectionHeader.{SectionHeader}
 use Rattle.pef_words.specs.Refusals.{◌>>=◌}
-use Rattle.pef_inspect.specs.Extents.{Extent, greatest_end, last_name, later, name_begins, name_offset, parts_notes}
+use Rattle.pef_inspect.specs.Extents.{Extent, greatest_end, last_name, later, name_offset, parts_notes}
+use Rattle.pef_inspect.specs.Oddities.{name_begins}
 use Rattle.pef_inspect.specs.declared.finding.Finding.{Finding}
 
 pub last_name-next : (c : Contained) (i n : ℕ) → i < n → last_name c i (n - i) ≡ later (name_offset c i) (last_name c (i + 1) (n - (i + 1)))

@@ -62,7 +62,7 @@ packed_at c i = views.header_in c i >>= (λ s. if is_packed (kind_of s.section_k
 abbrev pub image_cost : Contained → ℕ → ℕ
 image_cost c i = option_map_or (λ (s : SectionHeader). s.packed_size) (packed_at c i) 0
 
--- why its packed data doesn't spell its image
+-- why the packed data of a section doesn't spell its image
 abbrev pub image_fault : Contained → SectionHeader → Option PackFault
 image_fault c s = result_err (pattern_text (raw_of c.bytes s) s.unpacked_size)
 
@@ -107,7 +107,7 @@ abbrev pub tables_errors : Limits → Contained → Result Loaded LoaderFault �
 tables_errors limits c (Ok l) = loader_errors limits c l
 tables_errors limits c (Err f) = loader_finding c f ∷ image_errors limits c
 
--- the errors behind those of the container itself
+-- the errors that follow those of the container itself
 abbrev pub behind_errors : Limits → Contained → List Finding
 behind_errors limits c =
     if is_none (views.found_loader c.bytes c.header) then image_errors limits c
@@ -126,6 +126,6 @@ opened_errors limits (Err f) = view_finding f ∷ []
 unfoldable pub errors_within : Limits → List ℕ → List Finding
 errors_within limits bytes = opened_errors limits (views.partial_of bytes)
 
--- the same within the limits for one container
+-- the errors of some bytes within the limits for one container
 unfoldable pub errors_of : List ℕ → List Finding
 errors_of bytes = errors_within container_limits bytes

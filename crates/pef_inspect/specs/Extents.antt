@@ -1,6 +1,6 @@
 -- Which bytes of a container belong to its parts, and what is odd about it: bytes of two parts, of none, and after all.
 -- That section headers and names are one part, and which bytes only align a part, are this project's own rules.
-use Rattle.std.specs.Prelude.{◌≡◌, ℕ, ℤ, pos, negsuc, zero, suc, ◌+◌, ◌-◌, ◌==◌, ◌&&◌, ◌||◌, Bool, true, false, min, max, List, [], ◌∷◌, ◌++◌, Option, None, Some, length, nat_lt, if◌then◌else◌}
+use Rattle.std.specs.Prelude.{◌≡◌, ℕ, zero, suc, ◌+◌, ◌-◌, ◌==◌, ◌&&◌, ◌||◌, Bool, true, false, min, max, List, [], ◌∷◌, ◌++◌, Option, None, Some, length, nat_lt, if◌then◌else◌}
 use Rattle.std.specs.List.Sorted.{IsPermutation, IsSorted}
 use Rattle.std.specs.Option.{option_map_or, option_to_list, unwrap_or}
 use Rattle.std.specs.Ordering.{nat_cmp, ordering_then}
@@ -15,7 +15,7 @@ use Rattle.pef_words.specs.Bytes.{name_at, part_of}
 use Rattle.pef_words.specs.Findings.{all_among}
 use Rattle.pef_words.specs.Refusals.{◌>>=◌}
 use Rattle.pef_inspect.specs.Findings.{note_finding, whole_place}
-use Rattle.pef_inspect.specs.Oddities.{note_at}
+use Rattle.pef_inspect.specs.Oddities.{name_begins, note_at}
 use Rattle.pef_inspect.specs.declared.finding.Finding.{Finding}
 use Rattle.pef_inspect.specs.declared.note.Note.TheVariants.{Overlap, TrailingBytes, UnownedBytes}
 
@@ -24,10 +24,6 @@ abbrev pub Extent : Type 0
 Extent = ℕ × ℕ × ℕ
 
 -- where the name of section i begins in the section name table, if it begins in the container
-abbrev pub name_begins : Contained → ℤ → Option ℕ
-name_begins c (pos offset) = if nat_lt offset (length c.bytes - names_from c.header) then Some offset else None
-name_begins c (negsuc n) = None
-
 abbrev pub name_offset : Contained → ℕ → Option ℕ
 name_offset c i = views.header_in c i >>= (λ s. name_begins c s.name_offset)
 
@@ -116,7 +112,7 @@ parts_notes note before (e ∷ extents) = option_to_list (note (greatest_end bef
 abbrev pub extent_notes : Contained → List Extent → List Finding
 extent_notes c extents = parts_notes (part_note c) [] extents ++ option_to_list (trailing_note c (greatest_end extents))
 
--- these are the parts of a container, in their order
+-- some extents are the parts of a container, in their order
 pub record AreParts (c : Contained) (extents : List Extent) : Type 0 where
   pub same : IsPermutation (extents_of c) extents
   pub sorted : IsSorted extent_order extents

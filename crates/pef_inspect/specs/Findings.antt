@@ -1,15 +1,16 @@
 -- Findings: errors and notes with their places.
-use Rattle.std.specs.Prelude.{ℕ, ◌==◌, ◌||◌, Bool, true, false, List, Some}
-use Rattle.std.specs.Option.{unwrap_or}
+use Rattle.std.specs.Prelude.{ℕ, ◌==◌, ◌||◌, Bool, true, false, List, Option, None, Some, length, nat_lt, if◌then◌else◌}
+use Rattle.std.specs.Option.{option_map_or, unwrap_or}
 use Rattle.pef_format.specs.declared.place.Part.TheVariants as part
 use Rattle.pef_format.specs.declared.place.Place.{Place}
-use Rattle.pef_views.specs.Container.{Contained}
+use Rattle.pef_views.specs.Container.{Contained, loader_offset_of, loader_row_of}
 use Rattle.pef_views.specs.Faults as view
 use Rattle.pef_views.specs.declared.fault.ViewFault.{ViewFault}
 use Rattle.pef_loader.specs.Faults as loader
 use Rattle.pef_loader.specs.Places.{place_of}
 use Rattle.pef_loader.specs.Programs.{program_place}
 use Rattle.pef_loader.specs.declared.fault.LoaderFault.{LoaderFault}
+use Rattle.pef_loader.specs.declared.fault.LoaderFault.TheVariants.{LoaderShort}
 use Rattle.pef_pidata.specs.Faults as pack
 use Rattle.pef_pidata.specs.declared.fault.PackFault.{PackFault}
 use Rattle.pef_reloc.specs.Faults as reloc
@@ -62,9 +63,21 @@ whole_place offset = record { part = part.Header; row = 0; field = offset; offse
 abbrev pub view_finding : ViewFault → Finding
 view_finding f = record { cause = cause.View f; place = unwrap_or (view.fault_place f) (whole_place 0) }
 
+-- the number of the loader section, if it begins at no byte of the container
+abbrev pub outside_row : Contained → Option ℕ
+outside_row c = if option_map_or (λ from. nat_lt from (length c.bytes)) (loader_offset_of c) false then None else loader_row_of c
+
+-- the section whose containerOffset an error of the loader section is about: if there is no place for a loader header
+abbrev pub named_section : Contained → LoaderFault → Option ℕ
+named_section c LoaderShort = outside_row c
+named_section c f = None
+
 -- an error of the loader section
 abbrev pub loader_finding : Contained → LoaderFault → Finding
-loader_finding c f = record { cause = cause.Loader f; place = loader.fault_place c f }
+loader_finding c f = record {
+  cause = cause.Loader f;
+  place = option_map_or (λ i. place_of c part.Section i 20) (named_section c f) (loader.fault_place c f);
+}
 
 -- an error of the packed data of section i
 abbrev pub image_finding : Contained → ℕ → PackFault → Finding

@@ -55,7 +55,7 @@ abbrev pub FirstIsReported : Type 0
 FirstIsReported = (bytes : List ℕ) (f : Finding) → first_reported bytes ≡ Some f
     → (first_fault (errors_of bytes) ≡ Some f) ⊎ IsLimit container_limits bytes (first_fault (errors_of bytes))
 
--- the same within any limits
+-- within any limits the error that is reported is the first of all, or the note that says so is
 abbrev pub FirstIsReportedWithin : Type 0
 FirstIsReportedWithin = (limits : Limits) (bytes : List ℕ) (f : Finding) → first_reported bytes ≡ Some f
     → (first_fault (errors_within limits bytes) ≡ Some f) ⊎ IsLimit limits bytes (first_fault (errors_within limits bytes))

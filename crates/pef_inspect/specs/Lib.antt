@@ -1,3 +1,4 @@
+pub mod Details
 pub mod Errors
 pub mod Extents
 pub mod Findings

@@ -40,7 +40,7 @@ abbrev pub total : (ℕ → ℕ) → ℕ → ℕ → ℕ
 total cost from zero = 0
 total cost from (suc n) = cost from + total cost (from + 1) n
 
--- what is left then: the limit less what the parts before the first that costs more cost
+-- what is left after the parts within a limit: the limit less what those before the first that costs more cost
 abbrev pub left_within : (ℕ → ℕ) → ℕ → ℕ → ℕ → ℕ
 left_within cost left from zero = left
 left_within cost left from (suc n) = if nat_lt left (cost from) then left else left_within cost (left - cost from) (from + 1) n

@@ -92,7 +92,7 @@ loader_parts l = tables_part l ∷ end_part l
 abbrev pub loader_note : Contained → Loaded → ℕ → Extent → Option Finding
 loader_note c l end e = if nat_lt end e.0 then gap_note l.bytes (place_of c part.LoaderHeader 0 end) end e.0 else None
 
--- these are the parts of a loader section, in their order
+-- some extents are the parts of a loader section, in their order
 pub record AreLoaderParts (l : Loaded) (extents : List Extent) : Type 0 where
   pub same : IsPermutation (loader_parts l) extents
   pub sorted : IsSorted extent_order extents
@@ -103,7 +103,7 @@ pub record AreGapsIn (c : Contained) (l : Loaded) (gaps : List Finding) : Type 0
   pub are : AreLoaderParts l extents
   pub notes : gaps ≡ parts_notes (loader_note c l) [] extents
 
--- none if it has no header
+-- there are no such notes if the loader section has no header
 abbrev pub AreGapsOpened : Contained → Result Loaded LoaderFault → List Finding → Type 0
 AreGapsOpened c (Ok l) notes = AreGapsIn c l notes
 AreGapsOpened c (Err fault) notes = notes ≡ []
@@ -111,7 +111,7 @@ AreGapsOpened c (Err fault) notes = notes ≡ []
 abbrev pub AreGaps : Contained → List Finding → Type 0
 AreGaps c notes = AreGapsOpened c (loader.partial_of (sections_allowed c) c.loader) notes
 
--- they follow others
+-- the notes on the bytes of a loader section that belong to no part follow others
 pub record AddsGaps (c : Contained) (before after : List Finding) : Type 0 where
   pub gaps : List Finding
   pub are : AreGaps c gaps

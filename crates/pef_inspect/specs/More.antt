@@ -10,7 +10,7 @@ use Rattle.pef_inspect.specs.Twice.{twice_in}
 use Rattle.pef_inspect.specs.declared.finding.Finding.{Finding}
 use Rattle.pef_inspect.specs.declared.limits.Limits.{Limits}
 
--- those on the parts of a container, in their order, then those on bytes of the loader section that belong to none of its
+-- the notes on the parts of a container, in their order, then those on bytes of the loader section that belong to none of its
 -- parts, then those on words that are relocated twice
 pub record AreMoreIn (limits : Limits) (c : Contained) (found : List Finding) : Type 0 where
   pub extents : List Extent
@@ -19,7 +19,7 @@ pub record AreMoreIn (limits : Limits) (c : Contained) (found : List Finding) : 
   pub are_gaps : AreGaps c gaps
   pub notes : found ≡ extent_notes c extents ++ (gaps ++ twice_in limits c)
 
--- none if the bytes have no header
+-- there are no such notes if the bytes have no header
 abbrev pub AreMoreOpened : Limits → Result Contained ViewFault → List Finding → Type 0
 AreMoreOpened limits (Ok c) found = AreMoreIn limits c found
 AreMoreOpened limits (Err f) found = found ≡ []
@@ -27,6 +27,6 @@ AreMoreOpened limits (Err f) found = found ≡ []
 unfoldable pub AreMoreWithin : Limits → List ℕ → List Finding → Type 0
 AreMoreWithin limits bytes found = AreMoreOpened limits (partial_of bytes) found
 
--- the same within the limits for one container
+-- the notes that need memory within the limits for one container
 unfoldable pub AreMore : List ℕ → List Finding → Type 0
 AreMore bytes found = AreMoreWithin container_limits bytes found

@@ -1,6 +1,6 @@
 -- What is odd about a container and breaks no rule. Which oddities are noted is this project's own choice.
-use Rattle.std.specs.Prelude.{◌≡◌, ◌↔◌, ℕ, zero, suc, ℤ, pos, negsuc, ◌+◌, ◌==◌, ◌&&◌, not, min, Bool, true, false, IsTrue, List, [], ◌∷◌, ◌++◌, Option, None, Some, Result, Ok, Err, nat_le, nat_lt, if◌then◌else◌}
-use Rattle.std.specs.Option.{option_and_then, option_map, option_map_or, option_to_list}
+use Rattle.std.specs.Prelude.{◌≡◌, ◌↔◌, ℕ, zero, suc, ℤ, pos, negsuc, ◌+◌, ◌-◌, ◌==◌, ◌&&◌, not, min, Bool, true, false, IsTrue, List, [], ◌∷◌, ◌++◌, Option, None, Some, Result, Ok, Err, length, nat_le, nat_lt, if◌then◌else◌}
+use Rattle.std.specs.Option.{is_none, option_and_then, option_map, option_map_or, option_to_list}
 use Rattle.pef_words.specs.Findings.{all_among, all_met}
 use Rattle.pef_format.specs.Exports.{value_of}
 use Rattle.pef_format.specs.Sections.{is_instantiable, kind_of, share_of}
@@ -13,6 +13,7 @@ use Rattle.pef_format.specs.declared.section.SectionKind.TheVariants as kind
 use Rattle.pef_format.specs.declared.section.Share.{Share}
 use Rattle.pef_format.specs.declared.section.Share.TheVariants as share
 use Rattle.pef_views.specs.Container.{Contained, is_instantiated}
+use Rattle.pef_views.specs.Header.{names_from}
 use Rattle.pef_views.specs.Partial as views
 use Rattle.pef_views.specs.declared.fault.ViewFault.{ViewFault}
 use Rattle.pef_views.specs.declared.section.SectionHeader.{SectionHeader}
@@ -33,7 +34,7 @@ use Rattle.pef_inspect.specs.Findings.{note_finding}
 use Rattle.pef_inspect.specs.Limits.{container_limits, within}
 use Rattle.pef_inspect.specs.declared.limits.Limits.{Limits}
 use Rattle.pef_inspect.specs.declared.note.Note.{Note}
-use Rattle.pef_inspect.specs.declared.note.Note.TheVariants.{ReservedNotZero, UnknownKind, UnknownShare, VersionBelowOldest, EntryOutside, ExportOutside, WordOutsideImage, IrregularExports, SectionsOutOfOrder}
+use Rattle.pef_inspect.specs.declared.note.Note.TheVariants.{ReservedNotZero, UnknownKind, UnknownShare, VersionBelowOldest, EntryOutside, ExportOutside, WordOutsideImage, IrregularExports, SectionsOutOfOrder, NameOutside}
 use Rattle.pef_inspect.specs.declared.finding.Finding.{Finding}
 
 -- a note at a field of a part
@@ -69,9 +70,20 @@ abbrev pub is_unknown_share : Share → Bool
 is_unknown_share (share.Other code) = true
 is_unknown_share share = false
 
+-- where a name begins in the section name table, if it begins in the container
+abbrev pub name_begins : Contained → ℤ → Option ℕ
+name_begins c (pos offset) = if nat_lt offset (length c.bytes - names_from c.header) then Some offset else None
+name_begins c (negsuc n) = None
+
+-- a name's offset is neither that of a byte of the container nor -1, which says that there is no name
+abbrev pub is_name_outside : Contained → ℤ → Bool
+is_name_outside c (pos offset) = is_none (name_begins c (pos offset))
+is_name_outside c (negsuc n) = not (n == 0)
+
 -- the tests of section i
 abbrev pub section_notes : Contained → ℕ → SectionHeader → List (Bool × Finding)
-section_notes c i s = (is_unknown_kind (kind_of s.section_kind), note_at c UnknownKind part.Section i 24)
+section_notes c i s = (is_name_outside c s.name_offset, note_at c NameOutside part.Section i 0)
+    ∷ (is_unknown_kind (kind_of s.section_kind), note_at c UnknownKind part.Section i 24)
     ∷ (is_instantiated c.header i && is_unknown_share (share_of s.share_kind), note_at c UnknownShare part.Section i 25)
     ∷ (not (s.reserved == 0), note_at c ReservedNotZero part.Section i 27)
     ∷ []
@@ -199,6 +211,6 @@ pub record Adds (before after : List Finding) (notes : Bool → List Finding) (h
 unfoldable pub notes_within : Limits → List ℕ → Bool → List Finding
 notes_within limits bytes irregular = opened_notes limits (views.partial_of bytes) irregular
 
--- the same within the limits for one container
+-- the notes on some bytes within the limits for one container
 unfoldable pub notes_of : List ℕ → Bool → List Finding
 notes_of bytes irregular = notes_within container_limits bytes irregular

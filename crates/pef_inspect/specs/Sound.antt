@@ -30,7 +30,7 @@ pub record IsSound (bytes : List ℕ) : Type 0 where
 abbrev pub FindsAll : Type 0
 FindsAll = (bytes : List ℕ) → errors_of bytes ≡ [] → IsSound bytes
 
--- the same within any limits
+-- if no error is found within some limits, and nothing is left unverified, the container is sound
 abbrev pub FindsAllWithin : Type 0
 FindsAllWithin = (limits : Limits) (bytes : List ℕ) → errors_within limits bytes ≡ [] → IsSound bytes
 

@@ -30,7 +30,7 @@ pub fn find_errors<S: Findings>(bytes: &[u8], sink: &mut S) -> Result<(), S::Err
     find_errors_within(bytes, Limits::for_container(), sink)
 }
 
-/// Hands the same errors to a sink, within any limits.
+/// Hands the errors of some bytes to a sink as [`find_errors`] does, within any limits.
 ///
 /// # Errors
 ///

@@ -2,10 +2,11 @@ ghost use Rattle.std.specs.Prelude.{◌≡◌, ◌++◌, ◌∷◌, ◌-◌, ℕ
 ghost use Rattle.std.specs.Option.{option_to_list};
 ghost use Rattle.pef_views.specs.PartialViews.{partly};
 ghost use Rattle.pef_inspect.specs.declared.finding.Finding.{Finding};
-ghost use Rattle.pef_inspect.specs.Extents.{AddsExtents, AreParts, Extent, are_zero, extent_in, extents_of, gap_note, greatest_end, head_extent, is_padding, last_name, later, name_begins, name_end, name_offset, names_end, overlap_note, part_note, parts_notes, raw_end, section_extent, trailing_note};
+ghost use Rattle.pef_inspect.specs.Extents.{AddsExtents, AreParts, Extent, are_zero, extent_in, extents_of, gap_note, greatest_end, head_extent, is_padding, last_name, later, name_end, name_offset, names_end, overlap_note, part_note, parts_notes, raw_end, section_extent, trailing_note};
 
 use crate::finding::{Finding, whole_place};
 use crate::note::Note;
+use crate::notes::name_begins;
 use pef_format::layout::CONTAINER_OFFSET_AT;
 use pef_format::{Part, Place};
 use pef_loader::partial_place;
@@ -257,21 +258,6 @@ fn name_offset(container: &PartialContainer<'_>, i: u16) -> Option<usize>
 {
     let section = container.section(usize::from(i))?;
     name_begins(container, section.name_offset)
-}
-
-/// Returns an offset in the section name table, if it is one in the container.
-fn name_begins(container: &PartialContainer<'_>, offset: i32) -> Option<usize>
-    ensures { result ≡ name_begins (partly container.now) offset }
-{
-    let room = container
-        .bytes()
-        .len()
-        .saturating_sub(container.names_start());
-    if offset >= 0 && (offset.cast_unsigned() as usize) < room {
-        Some(offset.cast_unsigned() as usize)
-    } else {
-        None
-    }
 }
 
 /// Returns the greater of two offsets, if there are any.

@@ -1,10 +1,11 @@
 ghost use Rattle.std.specs.Prelude.{◌≡◌};
 ghost use Rattle.pef_views.specs.PartialViews.{partly};
-ghost use Rattle.pef_inspect.specs.Findings.{finding_name, finding_number, is_error, loader_finding, note_finding, view_finding, whole_place};
+ghost use Rattle.pef_inspect.specs.Findings.{finding_name, finding_number, is_error, loader_finding, named_section, note_finding, outside_row, view_finding, whole_place};
 
 use crate::note::Note;
+use pef_format::layout::CONTAINER_OFFSET_AT;
 use pef_format::{Part, Place};
-use pef_loader::LoaderFault;
+use pef_loader::{LoaderFault, partial_place};
 use pef_pidata::PackFault;
 use pef_reloc::RelocFault;
 use pef_views::{PartialContainer, ViewFault};
@@ -79,13 +80,22 @@ impl Finding {
         }
     }
 
-    /// Returns an error of the loader section of a container.
+    /// Returns an error of the loader section of a container. If there is no loader header because the section begins
+    /// outside the container, its place is that of the section's containerOffset.
     pub fn of_loader(container: &PartialContainer<'_>, fault: LoaderFault) -> Finding
         ensures { result ≡ loader_finding (partly container.now) fault }
     {
         Finding {
             cause: Cause::Loader(fault),
-            place: fault.partial_place(container),
+            place: match named_section(container, fault) {
+                Some(row) => partial_place(
+                    container,
+                    Part::Section,
+                    u32::from(row),
+                    CONTAINER_OFFSET_AT,
+                ),
+                None => fault.partial_place(container),
+            },
         }
     }
 
@@ -97,6 +107,26 @@ impl Finding {
             cause: Cause::Note(note),
             place,
         }
+    }
+}
+
+/// Returns the section whose containerOffset an error of the loader section is about.
+fn named_section(container: &PartialContainer<'_>, fault: LoaderFault) -> Option<u16>
+    ensures { result ≡ named_section (partly container.now) fault }
+{
+    match fault {
+        LoaderFault::LoaderShort => outside_row(container),
+        _ => None,
+    }
+}
+
+/// Returns the number of the loader section, if it begins at no byte of the container.
+fn outside_row(container: &PartialContainer<'_>) -> Option<u16>
+    ensures { result ≡ outside_row (partly container.now) }
+{
+    match container.loader_offset() {
+        Some(from) if from < container.bytes().len() => None,
+        Some(_) | None => container.loader_row(),
     }
 }
 

@@ -13,8 +13,8 @@ use crate::twice::words_within;
 use pef_loader::PartialLoader;
 use pef_views::PartialContainer;
 
-/// Returns what is left of limits after a container was verified within them: each limit less what the parts that were within
-/// it cost.
+/// Returns what is left of limits after a container was verified within them: each limit less what the parts that were within it
+/// cost. Of words nothing is left if a program has more of them than there were.
 #[tactic(auto, unfolding(crate::specs::Left::left_after))]
 pub fn left_after(limits: Limits, bytes: &[u8]) -> Limits
     ensures { result ≡ left_after limits bytes.now }

@@ -7,6 +7,7 @@
 #![tactic(auto)]
 
 mod checked;
+mod detail;
 mod errors;
 mod extents;
 mod finding;
@@ -26,6 +27,7 @@ mod tables;
 mod theorems;
 mod twice;
 
+pub use detail::Detail;
 pub use errors::{find_errors, find_errors_within};
 pub use finding::{Cause, Finding};
 pub use left::left_after;

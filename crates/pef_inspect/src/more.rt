@@ -26,7 +26,7 @@ pub fn find_more_notes<A: Allocator + Copy>(
     find_more_notes_within(alloc, bytes, Limits::for_container())
 }
 
-/// Returns the same notes, within any limits.
+/// Returns the notes that need memory as [`find_more_notes`] does, within any limits.
 ///
 /// # Errors
 ///

@@ -37,10 +37,12 @@ pub enum Note {
     /// The instantiated sections aren't the first ones: each loader section counts as instantiated. `sections` sections have a
     /// kind that may be instantiated.
     SectionsOutOfOrder { sections: u32 },
+    /// The nameOffset of a section is neither -1 nor the offset of a byte of the container.
+    NameOutside,
 }
 
 impl Note {
-    /// Returns the note's number, from 101. No error has it, and 115 is about a file.
+    /// Returns the note's number, from 101. No error has it, and 115 and 117 to 120 are about a file.
     pub fn number(&self) -> u32
         ensures { result ≡ note_number self.now }
     {
@@ -60,6 +62,7 @@ impl Note {
             Note::UnownedBytes { .. } => 113,
             Note::WordRelocatedTwice { .. } => 114,
             Note::SectionsOutOfOrder { .. } => 116,
+            Note::NameOutside => 121,
         }
     }
 
@@ -83,6 +86,7 @@ impl Note {
             Note::UnownedBytes { .. } => "UnownedBytes",
             Note::WordRelocatedTwice { .. } => "WordRelocatedTwice",
             Note::SectionsOutOfOrder { .. } => "SectionsOutOfOrder",
+            Note::NameOutside => "NameOutside",
         }
     }
 }

@@ -4,7 +4,7 @@ ghost use Rattle.pef_words.specs.Findings.{all_met};
 ghost use Rattle.pef_views.specs.Partial.{sections_allowed};
 ghost use Rattle.pef_views.specs.PartialViews.{partly};
 ghost use Rattle.pef_loader.specs.PartialViews.{export_seen, partly_loaded};
-ghost use Rattle.pef_inspect.specs.Oddities.{Adds, HasIrregularExports, IrregularContainer, behind_notes, entry_notes, export_notes, header_notes, image_size, instantiable_at, instantiable_sections, irregular_note, is_past, is_past_entry, is_past_value, is_unknown_kind, is_unknown_share, loader_notes, note_at, notes_in, notes_of, notes_within, section_notes, word_inside, word_note, word_outside};
+ghost use Rattle.pef_inspect.specs.Oddities.{Adds, HasIrregularExports, IrregularContainer, behind_notes, entry_notes, export_notes, header_notes, image_size, instantiable_at, instantiable_sections, irregular_note, is_past, is_past_entry, is_name_outside, is_past_value, is_unknown_kind, is_unknown_share, loader_notes, name_begins, note_at, notes_in, notes_of, notes_within, section_notes, word_inside, word_note, word_outside};
 ghost use Rattle.pef_inspect.specs.Runs.{run_seen};
 ghost use Rattle.pef_loader.specs.Partial.{partial_of};
 
@@ -15,9 +15,9 @@ use crate::runs::{Run, runs_within};
 use crate::sink::{Findings, Rows, take_met, take_rows, take_some};
 use pef_format::layout::{
     CONTAINER_RESERVED_AT, EXPORT_HASH_OFFSET_AT, EXPORT_VALUE_AT, INSTANTIATED_SECTION_COUNT_AT,
-    LIBRARY_OLD_IMP_VERSION_AT, LIBRARY_RESERVED_AT, MAIN_OFFSET_AT, OLD_DEF_VERSION_AT,
-    OLD_IMP_VERSION_AT, RELOCATION_RESERVED_AT, SECTION_KIND_AT, SECTION_RESERVED_AT,
-    SHARE_KIND_AT,
+    LIBRARY_OLD_IMP_VERSION_AT, LIBRARY_RESERVED_AT, MAIN_OFFSET_AT, NAME_OFFSET_AT,
+    OLD_DEF_VERSION_AT, OLD_IMP_VERSION_AT, RELOCATION_RESERVED_AT, SECTION_KIND_AT,
+    SECTION_RESERVED_AT, SHARE_KIND_AT,
 };
 use pef_format::{ExportValue, Part, SectionKind, Share};
 use pef_loader::{PartialExport, PartialLoader, partial_place};
@@ -37,7 +37,7 @@ pub fn find_notes<S: Findings>(bytes: &[u8], sink: &mut S) -> Result<(), S::Erro
     find_notes_within(bytes, Limits::for_container(), sink)
 }
 
-/// Hands the same notes to a sink, within any limits.
+/// Hands the notes on some bytes to a sink as [`find_notes`] does, within any limits.
 ///
 /// # Errors
 ///
@@ -124,7 +124,7 @@ fn note_at(
     Finding::of_note(note, partial_place(container, part, row, field))
 }
 
-/// Returns the note on irregular exports, if they are.
+/// Returns the note on exports that are irregular, if they are.
 fn irregular_note(container: &PartialContainer<'_>, irregular: bool) -> Option<Finding>
     ensures { option_to_list result ≡ irregular_note (partly container.now) irregular }
 {
@@ -245,11 +245,21 @@ fn section_notes(
     container: &PartialContainer<'_>,
     i: u32,
     section: SectionHeader,
-) -> [(bool, Finding); 3]
+) -> [(bool, Finding); 4]
     ensures { result ≡ section_notes (partly container.now) i section }
 {
     let instantiated = i < u32::from(container.header().instantiated_section_count);
     [
+        (
+            is_name_outside(container, section.name_offset),
+            note_at(
+                container,
+                Note::NameOutside,
+                Part::Section,
+                i,
+                NAME_OFFSET_AT,
+            ),
+        ),
         (
             is_unknown_kind(section.kind()),
             note_at(
@@ -281,6 +291,32 @@ fn section_notes(
             ),
         ),
     ]
+}
+
+/// Returns whether a name's offset is neither that of a byte of the container nor -1.
+fn is_name_outside(container: &PartialContainer<'_>, offset: i32) -> bool
+    ensures { result ≡ is_name_outside (partly container.now) offset }
+{
+    if offset >= 0 {
+        name_begins(container, offset).is_none()
+    } else {
+        offset != -1
+    }
+}
+
+/// Returns an offset in the section name table, if it is one in the container.
+pub(crate) fn name_begins(container: &PartialContainer<'_>, offset: i32) -> Option<usize>
+    ensures { result ≡ name_begins (partly container.now) offset }
+{
+    let room = container
+        .bytes()
+        .len()
+        .saturating_sub(container.names_start());
+    if offset >= 0 && (offset.cast_unsigned() as usize) < room {
+        Some(offset.cast_unsigned() as usize)
+    } else {
+        None
+    }
 }
 
 /// Returns whether the format names no kind with this code.

@@ -84,7 +84,7 @@ pub(crate) fn runs_within(
     within(&Runs { container, loader }, limits.steps, programs)
 }
 
-/// A readable program, with its section and what this is tested against.
+/// A readable program, with its section and the sizes that the relocation is tested against.
 #[derive(Clone, Copy)]
 pub(crate) struct Run<'a> {
     pub section: u16,

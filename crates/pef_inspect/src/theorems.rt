@@ -16,13 +16,13 @@ pub fn first_error_is_reported()
     ensures { FirstIsReported }
 {}
 
-/// The first law holds within any limits.
+/// The law [`no_errors_are_sound`] holds within any limits.
 #[tactic(auto, using(crate::proofs::Soundness::no_errors_within_sound))]
 pub fn no_errors_within_are_sound()
     ensures { FindsAllWithin }
 {}
 
-/// So does the second.
+/// The law [`first_error_is_reported`] holds within any limits.
 #[tactic(auto, using(crate::proofs::FirstLemmas::first_within_is_reported))]
 pub fn first_error_within_is_reported()
     ensures { FirstIsReportedWithin }

@@ -38,7 +38,7 @@ pub(crate) fn add_twice<A: Allocator + Copy>(
     }
 }
 
-/// Adds those of a loader section, and the note on programs that have too many words.
+/// Adds these notes for a loader section, and the note on programs that have too many words.
 fn add_in_loader<A: Allocator + Copy>(
     alloc: A,
     container: &PartialContainer<'_>,
@@ -72,7 +72,7 @@ pub(crate) fn words_within(
     within(&Words { container, loader }, limits.words, runs)
 }
 
-/// Adds those of the first `count` programs.
+/// Adds the note on the first word to which one has already added, for each of the first `count` programs.
 fn add_each<A: Allocator + Copy>(
     alloc: A,
     words: Words<'_, '_>,

@@ -143,6 +143,7 @@ note_help number =
     else if number == 113 then Some (codes "Bytes between two parts belong to none. An offset or a size may be damaged.")
     else if number == 114 then Some (codes "An address is added to a word to which one was added already.")
     else if number == 116 then Some (codes "The loader section counts as instantiated, so the instantiated sections aren't the first ones. Rows of the loader section may name each section that is there.")
+    else if number == 121 then Some (codes "nameOffset is neither -1, which says that there is no name, nor the offset of a byte of the container. The section header may be damaged.")
     else None
 
 -- all of them

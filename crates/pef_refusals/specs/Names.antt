@@ -143,6 +143,7 @@ note_name number =
     else if number == 113 then Some (codes "UnownedBytes")
     else if number == 114 then Some (codes "WordRelocatedTwice")
     else if number == 116 then Some (codes "SectionsOutOfOrder")
+    else if number == 121 then Some (codes "NameOutside")
     else None
 
 -- all of them

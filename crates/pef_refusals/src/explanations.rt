@@ -374,6 +374,9 @@ fn note_help(number: u32) -> Option<&'static str>
         116 => Some(
             "The loader section counts as instantiated, so the instantiated sections aren't the first ones. Rows of the loader section may name each section that is there.",
         ),
+        121 => Some(
+            "nameOffset is neither -1, which says that there is no name, nor the offset of a byte of the container. The section header may be damaged.",
+        ),
         _ => None,
     }
 }

@@ -204,6 +204,7 @@ fn note_name(number: u32) -> Option<&'static str>
         113 => Some("UnownedBytes"),
         114 => Some("WordRelocatedTwice"),
         116 => Some("SectionsOutOfOrder"),
+        121 => Some("NameOutside"),
         _ => None,
     }
 }

@@ -1,9 +1,9 @@
 -- The own bytes of a container are the same container.
-use Rattle.std.proofs.Common.{◌≡◌, ℕ, ℤ, pos, negsuc, zero, suc, ◌+◌, ◌-◌, ◌<◌, ◌≤◌, ◌⊎◌, ◌∙◌, max, min, not, Bool, true, false, List, [], ◌∷◌, Option, None, Some, drop, take, length, length-take, length-drop, refl, sym, ap, subst, arith, inl, inr}
-use Rattle.std.specs.Prelude.{◌==◌, ◌&&◌, ◌||◌, Ok, Err, nat_le, nat_lt, option_map, unwrap_or, if◌then◌else◌}
+use Rattle.std.proofs.Common.{◌≡◌, ℕ, ℤ, pos, negsuc, zero, suc, ◌+◌, ◌-◌, ◌<◌, ◌≤◌, ◌⊎◌, ◌∙◌, max, min, not, Bool, true, false, List, [], ◌∷◌, Option, None, Some, drop, take, length, length-drop, refl, sym, ap, subst, arith, inl, inr}
+use Rattle.std.specs.Prelude.{◌==◌, ◌||◌, Ok, Err, nat_le, option_map, unwrap_or, if◌then◌else◌}
 use Rattle.std.specs.Option.{option_map_or}
 use Rattle.std.proofs.Math.Nat.{le-max_left, le-max_right, max-zero}
-use Rattle.std.proofs.lemmas.Bool.{cases_lt, eqb-true, le-leb, le-ltb, leb-true, lt-ltb, ltb-false, ne_eqb}
+use Rattle.std.proofs.lemmas.Bool.{cases_lt, eqb-true, le-leb, le-ltb, leb-true, lt-ltb, ne_eqb}
 use Rattle.std.proofs.lemmas.List.{drop-drop, length-take-le, take_min}
 use Rattle.std.proofs.Math.Seq.{take-take}
 use Rattle.pef_words.specs.Bytes.{before_zero, name_at, number_at}
@@ -12,7 +12,7 @@ use Rattle.pef_words.proofs.Laws.Numbers.{number-kept, rest-kept}
 use Rattle.pef_words.proofs.Laws.Refusals.{first_among-none, first_unmet, unless_ok}
 use Rattle.pef_views.specs.declared.header.Header.{Header}
 use Rattle.pef_views.specs.declared.section.SectionHeader.{SectionHeader}
-use Rattle.pef_views.specs.Header.{header_of, header_tests, joy, names_from, peff, pwpc, section_header_from, version_1}
+use Rattle.pef_views.specs.Header.{header_of, header_tests, names_from, section_header_from}
 use Rattle.pef_views.specs.Section.{is_inside, raw_of, section_at, section_tests}
 use Rattle.pef_views.specs.Container.{Contained, IsContainer, container_of, is_instantiated, loader_here, loader_of, name_in, section_in, section_name_of, section_of, section_refusal, judged}
 use Rattle.pef_views.specs.declared.fault.ViewFault.TheVariants.{TooShort}

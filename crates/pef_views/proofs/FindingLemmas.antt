@@ -1,19 +1,19 @@
 -- The first of all faults is the one that is reported alone.
 use Rattle.std.proofs.Common.{◌≡◌, ◌∙◌, ℕ, ◌+◌, ◌<◌, ◌≤◌, false, true, List, [], ◌∷◌, ◌++◌, Option, None, Some, refl, sym, ap, arith, length}
-use Rattle.std.specs.Prelude.{Result, Ok, Err, nat_lt, not, ◌==◌, ◌&&◌}
+use Rattle.std.specs.Prelude.{Result, Ok, Err}
 use Rattle.std.specs.Option.{is_none, is_some, option_or, option_map, option_map_or, unwrap_or}
 use Rattle.std.specs.Result.{result_err}
-use Rattle.std.proofs.lemmas.Bool.{ltb-false, le-leb, lt-ltb}
+use Rattle.std.proofs.lemmas.Bool.{le-leb, lt-ltb}
 use Rattle.pef_words.specs.Bytes.{number_at}
 use Rattle.pef_words.specs.Findings.{all_among, all_met, first_fault, found_in}
 use Rattle.pef_words.specs.Refusals.{first_among, first_met, unless}
 use Rattle.pef_words.proofs.Laws.Findings.{first_fault-append, first_fault-met, first_fault-among, option_or-third, result_err-unless}
-use Rattle.pef_words.proofs.Laws.Refusals.{first_unmet, neither, unless_ok}
+use Rattle.pef_words.proofs.Laws.Refusals.{neither, unless_ok}
 use Rattle.pef_views.specs.declared.header.Header.{Header}
 use Rattle.pef_views.specs.declared.section.SectionHeader.{SectionHeader}
 use Rattle.pef_views.specs.declared.fault.ViewFault.{ViewFault}
 use Rattle.pef_views.specs.declared.fault.ViewFault.TheVariants.{TooShort, NoLoader}
-use Rattle.pef_views.specs.Header.{header_of, header_tests, tag_tests, field_tests, names_from, section_header_from, joy, peff, pwpc, version_1}
+use Rattle.pef_views.specs.Header.{header_of, header_tests, tag_tests, field_tests, names_from, section_header_from}
 use Rattle.pef_views.specs.Section.{raw_of, section_at, section_tests}
 use Rattle.pef_views.specs.Container.{Contained, any_loader, container_of, judged, is_instantiated, loader_of, section_refusal, with_loader}
 use Rattle.pef_views.specs.Partial.{findings_in, findings_of, is_out_of_order, loader_tests, opened, partial_of, section_findings, sections_allowed}

@@ -37,19 +37,21 @@ loader_here bytes h i =
 abbrev pub loader_of : List ℕ → Header → Option (List ℕ)
 loader_of bytes h = first_among (loader_here bytes h) 0 h.section_count
 
--- where the raw bytes of section i begin, if it is such a section
-abbrev pub loader_offset_here : List ℕ → Header → ℕ → Option ℕ
-loader_offset_here bytes h i =
-    if is_instantiated h i then None
-    else section_at bytes i >>= (λ s. if is_loader (kind_of s.section_kind) then Some s.container_offset else None)
+-- the number of section i, if it is a loader section
+abbrev pub loader_row_at : List ℕ → ℕ → Option ℕ
+loader_row_at bytes i = section_at bytes i >>= (λ s. if is_loader (kind_of s.section_kind) then Some i else None)
 
--- the header of section i, if it is a loader section
-abbrev pub loader_header_at : List ℕ → ℕ → Option SectionHeader
-loader_header_at bytes i = section_at bytes i >>= (λ s. if is_loader (kind_of s.section_kind) then Some s else None)
+-- the number of section i, if it is a loader section that isn't instantiated
+abbrev pub behind_row_at : List ℕ → Header → ℕ → Option ℕ
+behind_row_at bytes h i = if is_instantiated h i then None else loader_row_at bytes i
 
--- the first of all loader sections, whether they are instantiated or not
+-- the number of the first of all loader sections, whether they are instantiated or not
+abbrev pub any_row : List ℕ → Header → Option ℕ
+any_row bytes h = first_among (loader_row_at bytes) 0 h.section_count
+
+-- the header of the first of all loader sections
 abbrev pub any_loader : List ℕ → Header → Option SectionHeader
-any_loader bytes h = first_among (loader_header_at bytes) 0 h.section_count
+any_loader bytes h = any_row bytes h >>= section_at bytes
 
 -- what the container consists of, if it has a loader section
 abbrev pub with_loader : List ℕ → Header → Option (List ℕ) → Result Contained ViewFault
@@ -71,10 +73,13 @@ container_of bytes = option_map_or (judged bytes) (header_of bytes) (Err TooShor
 abbrev pub IsContainer : Contained → Type 0
 IsContainer c = container_of c.bytes ≡ Ok c
 
--- where the loader section begins. If each one is instantiated, which no container has, it is the first of them
+-- the number of the loader section. If each one is instantiated, which no container has, it is the first of them
+unfoldable pub loader_row_of : Contained → Option ℕ
+loader_row_of c = option_or (first_among (behind_row_at c.bytes c.header) 0 c.header.section_count) (any_row c.bytes c.header)
+
+-- where the loader section begins
 unfoldable pub loader_offset_of : Contained → Option ℕ
-loader_offset_of c = option_or (first_among (loader_offset_here c.bytes c.header) 0 c.header.section_count)
-    (option_map (λ s. s.container_offset) (any_loader c.bytes c.header))
+loader_offset_of c = loader_row_of c >>= (λ i. option_map (λ s. s.container_offset) (section_at c.bytes i))
 
 -- a section: its header and its raw bytes
 pub record Section : Type 0 where

@@ -43,7 +43,7 @@ names_end c at = if at == 0 then 0 else option_map_or (λ name. at + length name
 unfoldable pub extent : Contained → ℕ
 extent c = max (parts_end c) (names_end c (last_name c))
 
--- its own bytes, without those after it
+-- the bytes of a container, without those after it
 unfoldable pub own_bytes : Contained → List ℕ
 own_bytes c = take (extent c) c.bytes
 

@@ -36,7 +36,7 @@ partial_of bytes = option_map_or (λ h. unless (first_met (tag_tests h)) (Ok (op
 abbrev pub header_in : Contained → ℕ → Option SectionHeader
 header_in c i = if nat_lt i c.header.section_count then section_at c.bytes i else None
 
--- its name
+-- the name of section i, if its header is in the bytes
 abbrev pub name_of_section : Contained → ℕ → Option (List ℕ)
 name_of_section c i = header_in c i >>= (λ s. name_in c s.name_offset)
 

@@ -9,6 +9,6 @@ use Rattle.pef_views.specs.Partial.{findings_of, partial_of}
 abbrev pub FirstIsReported : Type 0
 FirstIsReported = (bytes : List ℕ) → first_fault (findings_of bytes) ≡ result_err (container_of bytes)
 
--- what can be read of a container is the container
+-- of bytes that are a container, what can be read as of a damaged one is the container itself
 abbrev pub OpensContainers : Type 0
 OpensContainers = (bytes : List ℕ) (c : Contained) → container_of bytes ≡ Ok c → partial_of bytes ≡ Ok c

@@ -2,7 +2,7 @@ ghost use Rattle.std.specs.Prelude.{◌≡◌, ◌<◌, ◌≤◌, ◌↔◌, �
 ghost use Rattle.std.specs.Result.{result_err};
 ghost use Rattle.std.specs.Option.{option_copied, option_or};
 ghost use Rattle.pef_words.specs.Refusals.{first_among, result_map};
-ghost use Rattle.pef_views.specs.Container.{IsInstantiable, any_loader, container_of, loader_header_at, loader_here, loader_of, loader_offset_here, loader_offset_of, section_refusal, section_name_of, section_of};
+ghost use Rattle.pef_views.specs.Container.{IsInstantiable, any_loader, any_row, behind_row_at, container_of, loader_here, loader_of, loader_offset_of, loader_row_at, section_refusal, section_name_of, section_of};
 
 use crate::fault::ViewFault;
 use crate::header::{Header, names_at, read_header, test_header};
@@ -96,12 +96,13 @@ impl<'a> Container<'a> {
     /// Returns the offset in the container of the first byte of the loader section.
     ///
     /// It is looked for among the section headers.
-    #[tactic(auto, unfolding(crate::specs::Container::loader_offset_of))]
+    #[tactic(auto, unfolding(crate::specs::Container::loader_offset_of, crate::specs::Container::loader_row_of))]
     pub fn loader_offset(&self) -> Option<usize>
         ensures value { result ≡ loader_offset_of (contained self.now) }
         ensures small { IfSome result (λ offset. offset < 2 ^ 32) }
     {
-        loader_offset(self.cut, self.header)
+        let row = loader_row(self.cut, self.header)?;
+        Some(read_section(self.cut, usize::from(row))?.container_offset as usize)
     }
 
     /// Returns the name of section `i`, without the zero byte at its end.
@@ -165,14 +166,13 @@ fn loader_at<'a>(cut: Cut<'a>, header: Header, i: usize) -> Option<&'a [u8]>
     Some(raw_bytes(cut, section))
 }
 
-/// Returns where the loader section begins: the first that isn't instantiated, or the first of all.
-pub(crate) fn loader_offset(cut: Cut<'_>, header: Header) -> Option<usize>
-    ensures value { result ≡ option_or (first_among (loader_offset_here cut.entry.bytes.now header) 0 header.section_count) (option_map (λ s. s.container_offset) (any_loader cut.entry.bytes.now header)) }
-    ensures small { IfSome result (λ offset. offset < 2 ^ 32) }
+/// Returns the number of the loader section: the first that isn't instantiated, or the first of all.
+pub(crate) fn loader_row(cut: Cut<'_>, header: Header) -> Option<u16>
+    ensures { result ≡ option_or (first_among (behind_row_at cut.entry.bytes.now header) 0 header.section_count) (any_row cut.entry.bytes.now header) }
 {
-    match behind_offset(cut, header) {
-        Some(offset) => Some(offset),
-        None => Some(any_loader(cut, header)?.container_offset as usize),
+    match behind_row(cut, header) {
+        Some(row) => Some(row),
+        None => any_row(cut, header),
     }
 }
 
@@ -180,53 +180,53 @@ pub(crate) fn loader_offset(cut: Cut<'_>, header: Header) -> Option<usize>
 pub(crate) fn any_loader(cut: Cut<'_>, header: Header) -> Option<SectionHeader>
     ensures { result ≡ any_loader cut.entry.bytes.now header }
 {
-    for i in 0..usize::from(header.section_count) {
-        match loader_header_at(cut, i) {
-            Some(section) => return Some(section),
+    let row = any_row(cut, header)?;
+    read_section(cut, usize::from(row))
+}
+
+/// Returns the number of the first of all loader sections.
+fn any_row(cut: Cut<'_>, header: Header) -> Option<u16>
+    ensures { result ≡ any_row cut.entry.bytes.now header }
+{
+    for i in 0..header.section_count {
+        match loader_row_at(cut, i) {
+            Some(row) => return Some(row),
             None => {}
         }
     }
     None
 }
 
-/// Returns the header of section `i`, if it is a loader section.
-fn loader_header_at(cut: Cut<'_>, i: usize) -> Option<SectionHeader>
-    requires { i < 2 ^ 16 }
-    ensures { result ≡ loader_header_at cut.entry.bytes.now i }
+/// Returns the number of the first loader section that isn't instantiated.
+fn behind_row(cut: Cut<'_>, header: Header) -> Option<u16>
+    ensures { result ≡ first_among (behind_row_at cut.entry.bytes.now header) 0 header.section_count }
 {
-    let section = read_section(cut, i)?;
-    if !section.kind().is_loader() {
-        return None;
-    }
-    Some(section)
-}
-
-/// Returns where the first loader section that isn't instantiated begins.
-fn behind_offset(cut: Cut<'_>, header: Header) -> Option<usize>
-    ensures value { result ≡ first_among (loader_offset_here cut.entry.bytes.now header) 0 header.section_count }
-    ensures small { IfSome result (λ offset. offset < 2 ^ 32) }
-{
-    for i in 0..usize::from(header.section_count) {
-        match loader_offset_at(cut, header, i) {
-            Some(offset) => return Some(offset),
+    for i in 0..header.section_count {
+        match behind_row_at(cut, header, i) {
+            Some(row) => return Some(row),
             None => {}
         }
     }
     None
 }
 
-/// Returns where section `i` begins, if it is a loader section that isn't instantiated.
-fn loader_offset_at(cut: Cut<'_>, header: Header, i: usize) -> Option<usize>
-    requires { i < 2 ^ 16 }
-    ensures value { result ≡ loader_offset_here cut.entry.bytes.now header i }
-    ensures small { IfSome result (λ offset. offset < 2 ^ 32) }
+/// Returns `i`, if section `i` is a loader section that isn't instantiated.
+fn behind_row_at(cut: Cut<'_>, header: Header, i: u16) -> Option<u16>
+    ensures { result ≡ behind_row_at cut.entry.bytes.now header i }
 {
-    if i < usize::from(header.instantiated_section_count) {
+    if i < header.instantiated_section_count {
         return None;
     }
-    let section = read_section(cut, i)?;
+    loader_row_at(cut, i)
+}
+
+/// Returns `i`, if section `i` is a loader section.
+fn loader_row_at(cut: Cut<'_>, i: u16) -> Option<u16>
+    ensures { result ≡ loader_row_at cut.entry.bytes.now i }
+{
+    let section = read_section(cut, usize::from(i))?;
     if !section.kind().is_loader() {
         return None;
     }
-    Some(section.container_offset as usize)
+    Some(i)
 }

@@ -85,7 +85,7 @@ impl ViewFault {
         }
     }
 
-    /// Returns the offset in the container of that field.
+    /// Returns the offset in the container of the field that the broken rule is about.
     pub fn offset(&self) -> Option<usize>
         ensures { result ≡ fault_offset self.now }
     {

@@ -1,12 +1,12 @@
 ghost use Rattle.std.specs.Prelude.{◌≡◌, ◌<◌, ◌^◌, ◌∷◌, [], Some, option_map, Ok, IfSome, length};
-ghost use Rattle.std.specs.Option.{ForSome, is_none, option_copied};
+ghost use Rattle.std.specs.Option.{is_none, option_copied};
 ghost use Rattle.pef_words.specs.Refusals.{result_map};
-ghost use Rattle.pef_views.specs.Container.{loader_of, loader_offset_of};
+ghost use Rattle.pef_views.specs.Container.{loader_of, loader_offset_of, loader_row_of};
 ghost use Rattle.pef_views.specs.Header.{field_tests, names_from};
 ghost use Rattle.pef_views.specs.Partial.{found_loader, header_in, is_out_of_order, loader_tests, name_of_section, opened, partial_of, sections_allowed, tests_of_section};
 ghost use Rattle.pef_views.specs.Section.{raw_of};
 
-use crate::container::{any_loader, find_loader, loader_offset};
+use crate::container::{any_loader, find_loader, loader_row};
 use crate::fault::ViewFault;
 use crate::header::{Header, field_table, names_at, read_header, test_tag};
 use crate::section::{SectionHeader, raw_bytes, read_section, section_table};
@@ -22,11 +22,10 @@ pub struct PartialContainer<'a> {
     header: Header,
     no_loader: bool,
     loader: Option<&'a [u8]>,
-    loader_offset: Option<usize>,
+    loader_row: Option<u16>,
     ghost lacks: { no_loader ≡ is_none (loader_of cut.bytes.now header) },
     ghost loads: { option_copied loader ≡ found_loader cut.bytes.now header },
-    ghost begins: { loader_offset ≡ loader_offset_of (opened cut.bytes.now header) },
-    ghost small: { ForSome loader_offset (λ offset. offset < 2 ^ 32) },
+    ghost numbered: { loader_row ≡ loader_row_of (opened cut.bytes.now header) },
 }
 
 impl<'a> PartialContainer<'a> {
@@ -37,7 +36,7 @@ impl<'a> PartialContainer<'a> {
     /// # Errors
     ///
     /// `TooShort` if there are fewer than 40 bytes, `BadTag` if the first eight aren't `Joy!peff`.
-    #[tactic(auto, unfolding(crate::specs::Partial::partial_of, crate::specs::Container::loader_offset_of))]
+    #[tactic(auto, unfolding(crate::specs::Partial::partial_of, crate::specs::Container::loader_row_of))]
     pub fn read(bytes: &'a [u8]) -> Result<PartialContainer<'a>, ViewFault>
         ensures { result_map partly result ≡ partial_of bytes.entry.now }
     {
@@ -50,7 +49,7 @@ impl<'a> PartialContainer<'a> {
             header,
             no_loader: behind.is_none(),
             loader: found_loader(cut, header, behind),
-            loader_offset: loader_offset(cut, header),
+            loader_row: loader_row(cut, header),
         })
     }
 
@@ -112,7 +111,8 @@ impl<'a> PartialContainer<'a> {
         self.loader
     }
 
-    /// Returns the same bytes, and none if there is no loader section.
+    /// Returns the raw bytes of the loader section, as far as they are in the container, or no bytes if
+    /// there is none.
     pub fn loader_bytes(&self) -> &'a [u8]
         ensures { result.now ≡ (partly self.now).loader }
     {
@@ -140,12 +140,22 @@ impl<'a> PartialContainer<'a> {
         }
     }
 
-    /// Returns the offset of the first byte of the loader section.
+    /// Returns the number of the loader section, which is the section whose bytes [`loader`](Self::loader)
+    /// gives.
+    pub fn loader_row(&self) -> Option<u16>
+        ensures { result ≡ loader_row_of (partly self.now) }
+    {
+        self.loader_row
+    }
+
+    /// Returns the offset of the first byte of the loader section. It may be past the end of the container.
+    #[tactic(auto, unfolding(crate::specs::Container::loader_offset_of))]
     pub fn loader_offset(&self) -> Option<usize>
         ensures value { result ≡ loader_offset_of (partly self.now) }
         ensures small { IfSome result (λ offset. offset < 2 ^ 32) }
     {
-        self.loader_offset
+        let row = self.loader_row?;
+        Some(read_section(self.cut, usize::from(row))?.container_offset as usize)
     }
 
     /// Returns the tests of the fields of the header, in order: whether each rule is broken, and which it is.

@@ -9,7 +9,7 @@ pub fn first_fault_is_reported()
     ensures { FirstIsReported }
 {}
 
-/// What can be read of a container is the container.
+/// If some bytes are a container, what can be read of them as of a damaged one is that container.
 #[tactic(auto, using(crate::proofs::FindingLemmas::whole_container))]
 pub fn containers_open()
     ensures { OpensContainers }

@@ -221,6 +221,8 @@ pub const PEF_NOTE_WORD_RELOCATED_TWICE: u32 = 114;
 
 pub const PEF_NOTE_SECTIONS_OUT_OF_ORDER: u32 = 116;
 
+pub const PEF_NOTE_NAME_OUTSIDE: u32 = 121;
+
 // Only this library returns these: the caller's buffer is too small; there is no such thing; the context isn't open; a
 // fragment is added after a connection was given; the context has as many fragments as it may; the granule is none; the
 // options have another size.
@@ -795,15 +797,6 @@ extern "C" {
     /// `buffer` is left unchanged; and after a refusal `*written` is too.
     #[cfg(feature = "native")]
     pub fn pef_list(container: *const u8, container_length: usize, buffer: *mut u8, buffer_length: usize, written: *mut usize) -> u32;
-
-    /// Lists a container in parts: writes the lines that `pef list` prints, from byte `from` on, to the front of `buffer`, as many
-    /// bytes as fit.
-    ///
-    /// Returns PEF_OK, and stores the number of bytes in `*written`: it is less than `buffer_length` only at the end of the lines, and
-    /// 0 after it. Or returns the first refusal, 1 to 20 or 31 to 36; or PEF_OUT_OF_MEMORY. Then `buffer` and `*written` are left
-    /// unchanged. Each call makes the lines up to the end of its part again. To read all parts, `pef_list_next()` makes them once.
-    #[cfg(feature = "native")]
-    pub fn pef_list_part(container: *const u8, container_length: usize, from: usize, buffer: *mut u8, buffer_length: usize, written: *mut usize) -> u32;
 
     /// Opens the listing of a container, to be read by `pef_list_next()`. A listing that is open already is freed first.
     ///
