@@ -13,7 +13,7 @@ use Rattle.pef_report.specs.Readable.{readable_at}
 use Rattle.pef_report.proofs.Merging.{findings_text-append}
 use Rattle.pef_report.proofs.Rising.{own-rank, rows_rise}
 
--- the findings before a place aren't past one that isn't before it
+-- which findings are before a rank is decided by those up to the first one that isn't
 before-skip : (rank : ℕ) (xs : List Finding) (f : Finding) (ys : List Finding) → rank ≤ finding_rank f → before rank (xs ++ f ∷ ys) ≡ before rank xs
 before-skip rank [] f ys past = rw (le-ltb (finding_rank f) rank past) refl
 before-skip rank (x ∷ xs) f ys past = by (nat_lt (finding_rank x) rank) (before-skip rank xs f ys past)
@@ -32,7 +32,7 @@ after-skip rank (x ∷ xs) f ys past = by (nat_lt (finding_rank x) rank) (after-
     by true same = same
     by false same = refl
 
--- all of some findings are before a place
+-- findings that all have ranks below one are before it
 before-all : (rank : ℕ) (xs zs : List Finding) → AllByRecursion (λ x. finding_rank x < rank) xs → before rank (xs ++ zs) ≡ xs ++ before rank zs
 before-all rank [] zs low = refl
 before-all rank (x ∷ xs) zs low = rw (lt-ltb (finding_rank x) rank low.0) (ap (λ fs. x ∷ fs) (before-all rank xs zs low.1))
@@ -41,7 +41,7 @@ after-all : (rank : ℕ) (xs zs : List Finding) → AllByRecursion (λ x. findin
 after-all rank [] zs low = refl
 after-all rank (x ∷ xs) zs low = rw (lt-ltb (finding_rank x) rank low.0) (after-all rank xs zs low.1)
 
--- those that are left have what all have
+-- what is true of all findings is true of those that are left
 after-kept : (P : Finding → Type 0) (rank : ℕ) (xs : List Finding) → AllByRecursion P xs → AllByRecursion P (after rank xs)
 after-kept P rank [] all = tt
 after-kept P rank (x ∷ xs) all = by (nat_lt (finding_rank x) rank) (after-kept P rank xs all.1)
@@ -116,7 +116,7 @@ split-at rank (row ∷ rows) rises = by (split-at rank rows rises.1)
       | inr low ↦ record { earlier = row ∷ rest.earlier; later = rest.later; parts = ap (λ rs. row ∷ rs) rest.parts; up_to = (omega (arith, low), rest.up_to); past = rest.past }
     ]
 
--- of findings in order those before one aren't after it
+-- in findings that are in order, those before one have no higher rank
 at-middle : (xs : List Finding) (f : Finding) (ys : List Finding) (d : Finding) → slice_index_or (xs ++ f ∷ ys) (length xs) d ≡ f
 at-middle [] f ys d = refl
 at-middle (x ∷ xs) f ys d = at-middle xs f ys d

@@ -14,7 +14,7 @@ use Rattle.pef_inspect.proofs.Laws.{no_errors_within_sound, no_false_alarm, tell
 use Rattle.pef_report.specs.Inspection.{count_chosen}
 use Rattle.pef_report.specs.Judged.{JudgesRight}
 
--- without an error, none is counted, and the other way
+-- the count of errors is 0 exactly if there are none
 none-counted : (fs : List Finding) → count_chosen true fs ≡ 0 → AllByRecursion (λ f. is_error f ≡ false) fs
 none-counted [] none = tt
 none-counted (f ∷ fs) none = by (is_error f) refl none (none-counted fs)
@@ -27,12 +27,12 @@ counted-none : (fs : List Finding) → AllByRecursion (λ f. is_error f ≡ fals
 counted-none [] none = refl
 counted-none (f ∷ fs) none = rw none.0 (counted-none fs none.1)
 
--- neither an error nor such a note
+-- without errors, and without notes that something wasn't verified, no finding is either
 neither : (fs : List Finding) → AllByRecursion (λ f. is_error f ≡ false) fs → AllByRecursion (λ f. is_unverified f ≡ false) fs → AllByRecursion (λ f. is_error f || is_unverified f ≡ false) fs
 neither [] errors unverified = tt
 neither (f ∷ fs) errors unverified = (rw (errors.0, unverified.0) refl, neither fs errors.1 unverified.1)
 
--- of findings that are each one of these there is none then
+-- if each finding is an error or such a note, and none is, there is no finding
 none-open : (fs : List Finding) → AllByRecursion (λ f. is_error f || is_unverified f ≡ true) fs → AllByRecursion (λ f. is_error f || is_unverified f ≡ false) fs → fs ≡ []
 none-open [] opened closed = refl
 none-open (f ∷ fs) opened closed = absurd (cc (opened.0, closed.0))

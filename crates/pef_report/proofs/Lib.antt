@@ -2,7 +2,4 @@ mod InPlace
 mod Judging
 pub mod Laws
 mod Merging
-mod NameLemmas
 mod Rising
-mod StringLemmas
-mod TokenLemmas

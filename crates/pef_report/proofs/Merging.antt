@@ -9,17 +9,20 @@ use Rattle.pef_inspect.specs.declared.finding.Cause.TheVariants.{View}
 use Rattle.pef_inspect.specs.declared.finding.Finding.{Finding}
 use Rattle.pef_views.specs.declared.fault.ViewFault.TheVariants.{TooShort}
 use Rattle.pef_report.specs.Inspection.{Row, element, elements, finding_json, finding_text, findings_json, findings_text, is_chosen, merged_left, merged_text, object_count, row_at, rows_among, rows_below}
-use Rattle.pef_report.specs.Objects.{separator}
+use Rattle.pef_rows.specs.Objects.{separator}
 use Rattle.pef_report.specs.Order.{after, before, count_before}
 use Rattle.pef_report.specs.Readable.{Readable, row_count}
 use Rattle.pef_report.specs.Theorems.{JoinsRows, blank}
 use Rattle.pef_report.specs.declared.members.Member.{Member}
 
--- a finding in place of those past the last one
+-- any finding, and any member: what an index past the end of a list gives
 abbrev pub no_finding : Finding
 no_finding = record { cause = View TooShort; place = record { part = Header; row = 0; field = 0; offset = None } }
 
--- the first of the rows that are left, and what belongs to it
+abbrev pub no_member : Member
+no_member = record { key = record { ref_ptr = (0, 0); now = [] }; part = Header }
+
+-- rows that are left begin with the first of them and what belongs to it
 pub rows_among-next : (r : Readable) (kind : Part) (i n : ℕ) → i < n → rows_among r kind i (n - i) ≡ (row_at r kind i ∷ rows_below r kind i) ++ rows_among r kind (i + 1) (n - (i + 1))
 rows_among-next r kind i n under =
     let e : n - i ≡ suc (n - (i + 1)) = omega arith in
@@ -30,7 +33,7 @@ rows_among-none r kind i n past =
     let e : n - i ≡ 0 = omega arith in
     rw e refl
 
--- the first of the elements that are left
+-- elements that are left begin with the first of them
 pub elements-next : (r : Readable) (kind : Part) (i n : ℕ) → i < n → elements r kind i (n - i) ≡ element r kind i ++ elements r kind (i + 1) (n - (i + 1))
 elements-next r kind i n under =
     let e : n - i ≡ suc (n - (i + 1)) = omega arith in
@@ -41,7 +44,7 @@ elements-none r kind i n past =
     let e : n - i ≡ 0 = omega arith in
     rw e refl
 
--- rows after rows
+-- the text of two lists of rows, one after the other, and the findings that are left after them
 pub merged_text-append : (base : ℕ) (xs ys : List Row) (left : List Finding) → merged_text base (xs ++ ys) left ≡ merged_text base xs left ++ merged_text base ys (merged_left xs left)
 merged_text-append base [] ys left = refl
 merged_text-append base (row ∷ xs) ys left =
@@ -53,7 +56,7 @@ pub merged_left-append : (xs ys : List Row) (left : List Finding) → merged_lef
 merged_left-append [] ys left = refl
 merged_left-append (row ∷ xs) ys left = merged_left-append xs ys (after row.rank left)
 
--- a finding that is printed in a list
+-- a finding that is chosen is printed before the others
 pub chosen-next : (base : ℕ) (errors is_first : Bool) (f : Finding) (fs : List Finding) → is_chosen errors f ≡ true → findings_json base errors is_first (f ∷ fs) ≡ (separator is_first ++ finding_json base f) ++ findings_json base errors false fs
 chosen-next base errors is_first f fs chosen = by (is_chosen errors f) chosen
   where
@@ -61,11 +64,7 @@ chosen-next base errors is_first f fs chosen = by (is_chosen errors f) chosen
     by true same = refl
     by false same = absurd (cc same)
 
--- a member in place of those past the last one
-abbrev pub no_member : Member
-no_member = record { key = record { ref_ptr = (0, 0); now = [] }; part = Header }
-
--- one that isn't
+-- one that isn't chosen is left out
 pub unchosen-next : (base : ℕ) (errors is_first : Bool) (f : Finding) (fs : List Finding) → is_chosen errors f ≡ false → findings_json base errors is_first (f ∷ fs) ≡ findings_json base errors is_first fs
 unchosen-next base errors is_first f fs chosen = by (is_chosen errors f) chosen
   where
@@ -73,7 +72,7 @@ unchosen-next base errors is_first f fs chosen = by (is_chosen errors f) chosen
     by true same = absurd (cc same)
     by false same = refl
 
--- lines after lines
+-- the lines of two lists of findings, one after the other
 pub findings_text-append : (base : ℕ) (xs ys : List Finding) → findings_text base (xs ++ ys) ≡ findings_text base xs ++ findings_text base ys
 findings_text-append base [] ys = refl
 findings_text-append base (x ∷ xs) ys =
@@ -91,7 +90,7 @@ each_once base (row ∷ rows) fs =
     ∙ (sym (findings_text-append base (before row.rank fs) rest)
     ∙ ap (findings_text base) (take-append-drop (count_before row.rank fs) fs))))
 
--- where no finding is left, none is before a row or after it
+-- if no finding is left, none is before a row or after it
 pub none_before : (base rank : ℕ) (fs : List Finding) → length fs ≡ 0 → findings_text base (before rank fs) ≡ []
 none_before base rank [] none = refl
 none_before base rank (f ∷ fs) none = absurd (omega arith)
@@ -100,7 +99,7 @@ pub none_after : (rank : ℕ) (fs : List Finding) → length fs ≡ 0 → after 
 none_after rank [] none = refl
 none_after rank (f ∷ fs) none = absurd (omega arith)
 
--- rows after rows of a kind
+-- elements of a kind and those after them are all of these
 elements-append : (r : Readable) (kind : Part) (from n m : ℕ) → elements r kind from n ++ elements r kind (from + n) m ≡ elements r kind from (n + m)
 elements-append r kind from zero m = (let e : from + 0 ≡ from = omega arith in let z : 0 + m ≡ m = omega arith in rw (e, z) refl)
 elements-append r kind from (suc n) m =
@@ -109,7 +108,7 @@ elements-append r kind from (suc n) m =
     let here = element r kind from in
     rw (e, z) (append_assoc here (elements r kind (from + 1) n) (elements r kind (from + 1 + n) m) ∙ ap (λ t. here ++ t) (elements-append r kind (from + 1) n m))
 
--- the first ones of a kind that can have several
+-- of a kind that can have several rows, the first ones and those after them are all
 first_of : (r : Readable) (kind : Part) (most n : ℕ) → elements r kind 0 (min n most) ++ elements r kind most (n - most) ≡ elements r kind 0 n
 first_of r kind most n = elim (cases_lt most n) [
   | inl less ↦ (
@@ -126,7 +125,7 @@ first_of r kind most n = elim (cases_lt most n) [
       )
 ]
 
--- one of a kind that can have no more
+-- of a kind that has one row, the first ones are that one, and none is after it
 only_one : (r : Readable) (kind : Part) (most : ℕ) → 1 ≤ most → elements r kind 0 1 ++ elements r kind most (1 - most) ≡ elements r kind 0 1
 only_one r kind most some = (let none : 1 - most ≡ 0 = omega (arith, some) in rw none (append-nil (elements r kind 0 1)))
 

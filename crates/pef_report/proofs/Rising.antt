@@ -39,7 +39,7 @@ use Rattle.pef_reloc.proofs.Laws.{some_length}
 use Rattle.pef_report.specs.Inspection.{Row, instr_row, program_rows, row_at, row_parts, rows_among, rows_below, rows_of}
 use Rattle.pef_report.specs.Order.{rank, row_part}
 use Rattle.pef_report.specs.Places.{Rises}
-use Rattle.pef_report.specs.Programs.{Program, steps_in}
+use Rattle.pef_rows.specs.Programs.{Program, steps_in}
 use Rattle.pef_report.specs.Readable.{Readable, loader_count, loader_in, program_in, program_of, readable_at, row_count, row_offset, sections_in}
 
 -- a part has the rank of its row
@@ -59,7 +59,7 @@ own-rank part.PackedData row field isnt = refl
 own-rank part.Program row field isnt = absurd (isnt refl)
 own-rank part.Line row field isnt = refl
 
--- where row i of the kind with a code is
+-- the rank of row i of the kind with a code
 abbrev base : ℕ → ℕ → ℕ
 base code i = (code * 2 ^ 32 + i) * 2 ^ 65
 
@@ -102,14 +102,14 @@ instr-rank : (k at : ℕ) (instr : Instr) (from : ℕ) → k < 2 ^ 32 → (instr
 unfolding rank
 instr-rank k at instr from under = (let few : min k (2 ^ 32 - 1) ≡ k = omega (arith, under) in rw few (omega arith))
 
--- nothing is left past the end
+-- no byte is past the end of a list
 drop-past : (n : ℕ) (xs : List ℕ) → length xs ≤ n → drop n xs ≡ []
 drop-past zero [] past = refl
 drop-past zero (x ∷ xs) past = absurd (omega (arith, past))
 drop-past (suc n) [] past = refl
 drop-past (suc n) (x ∷ xs) past = drop-past n xs (omega (arith, past))
 
--- .. and no instruction begins there
+-- .. and no instruction begins past it
 no-steps : (P : Step → Type 0) (n at : ℕ) → AllByRecursion P (steps_from at (code_within n at []).instrs)
 unfolding code_within
 no-steps P zero at = tt
@@ -351,7 +351,7 @@ row-program l k row program is has =
     made-row _ (λ (r : RelocationRow). r.program ≡ Some program → length program ≤ length l.bytes) (nat_lt k l.header.reloc_count) (reloc_at l.bytes l.header k) row
     (λ e there. part-small l.bytes (l.header.reloc_instr_offset + e.first) (2 * e.count) program there) is has
 
--- what is read of some bytes is small if they are
+-- what can be read of few bytes meets these bounds
 module _ (base_at : ℕ) (bytes : List ℕ) (programs : ℕ) (small : length bytes ≤ 2 ^ 34) where
   abbrev shown : Option Contained → Readable
   shown o = record { base = base_at; container = o; loader = option_and_then loader_in o; programs = programs }

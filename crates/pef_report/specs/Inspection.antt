@@ -3,28 +3,22 @@ use Rattle.std.specs.Prelude.{◌≡◌, ◌↔◌, ℕ, zero, suc, ◌+◌, ◌
 use Rattle.std.specs.Option.{unwrap_or}
 use Rattle.pef_format.specs.declared.place.Part.{Part}
 use Rattle.pef_format.specs.declared.place.Part.TheVariants as part
+use Rattle.pef_inspect.specs.Details.{detail_of}
 use Rattle.pef_inspect.specs.Errors.{errors_within}
 use Rattle.pef_inspect.specs.Findings.{finding_name, finding_number, is_error}
 use Rattle.pef_inspect.specs.Limits.{container_limits}
 use Rattle.pef_inspect.specs.More.{AreMoreWithin}
 use Rattle.pef_inspect.specs.Oddities.{HasIrregularExports, notes_within}
 use Rattle.pef_inspect.specs.Shown.{programs_shown}
-use Rattle.pef_inspect.specs.declared.finding.Cause.{Cause}
-use Rattle.pef_inspect.specs.declared.finding.Cause.TheVariants as cause
 use Rattle.pef_inspect.specs.declared.finding.Finding.{Finding}
 use Rattle.pef_inspect.specs.declared.limits.Limits.{Limits}
-use Rattle.pef_inspect.specs.declared.note.Note.{Note}
-use Rattle.pef_inspect.specs.declared.note.Note.TheVariants.{ReservedNotZero, UnknownKind, UnknownShare, VersionBelowOldest, EntryOutside, ExportOutside, WordOutsideImage, IrregularExports, TrailingBytes, ProgramsUnverified, ImagesUnverified, Overlap, UnownedBytes, WordRelocatedTwice, SectionsOutOfOrder}
-use Rattle.pef_reloc.specs.Faults.{fault_word}
 use Rattle.pef_reloc.specs.Unrolled.{Step}
-use Rattle.pef_report.specs.Findings.{finding_line, finding_object}
-use Rattle.pef_report.specs.Objects.{separator}
+use Rattle.pef_rows.specs.Findings.{finding_line, finding_object}
+use Rattle.pef_rows.specs.Objects.{separator}
 use Rattle.pef_report.specs.Order.{IsInOrder, after, before, rank}
-use Rattle.pef_report.specs.Programs.{Program, instr_line, step_offset, steps_in}
+use Rattle.pef_rows.specs.Programs.{Program, instr_line, step_offset, steps_in}
 use Rattle.pef_report.specs.Readable.{Readable, line_at, object_at, program_of, readable_at, row_count}
 use Rattle.pef_report.specs.Verdict.{verdict_line, verdict_object, verdict_of}
-use Rattle.pef_report.specs.declared.rows.Detail.{Detail}
-use Rattle.pef_report.specs.declared.rows.Detail.TheVariants as detail
 use Rattle.pef_report.specs.declared.verdict.Verdict.{Verdict}
 
 -- the bytes of a container, their offset in the file, how many relocation programs are printed, and all errors and notes in the
@@ -66,37 +60,6 @@ is_chosen errors f = if errors then is_error f else not (is_error f)
 abbrev pub count_chosen : Bool → List Finding → ℕ
 count_chosen errors [] = 0
 count_chosen errors (f ∷ fs) = if is_chosen errors f then suc (count_chosen errors fs) else count_chosen errors fs
-
--- the number that a note has beside its place
-abbrev pub note_detail : Note → Detail
-note_detail (WordOutsideImage word) = detail.Word word
-note_detail (WordRelocatedTwice word) = detail.Word word
-note_detail (TrailingBytes len) = detail.Length len
-note_detail (Overlap len) = detail.Length len
-note_detail (UnownedBytes len) = detail.Length len
-note_detail (SectionsOutOfOrder sections) = detail.Sections sections
-note_detail ReservedNotZero = detail.None
-note_detail UnknownKind = detail.None
-note_detail UnknownShare = detail.None
-note_detail VersionBelowOldest = detail.None
-note_detail EntryOutside = detail.None
-note_detail ExportOutside = detail.None
-note_detail IrregularExports = detail.None
-note_detail ProgramsUnverified = detail.None
-note_detail ImagesUnverified = detail.None
-
--- the offset of a word, if there is one
-abbrev pub word_detail : Option ℕ → Detail
-word_detail None = detail.None
-word_detail (Some word) = detail.Word word
-
--- the number that an error or a note has beside its place: an error of a relocation program can name a word
-abbrev pub detail_of : Cause → Detail
-detail_of (cause.Note n) = note_detail n
-detail_of (cause.View f) = detail.None
-detail_of (cause.Loader f) = detail.None
-detail_of (cause.Pack f) = detail.None
-detail_of (cause.Reloc f) = word_detail (fault_word f)
 
 -- the line of an error or a note, and its object
 unfoldable pub finding_text : ℕ → Finding → List ℕ

@@ -23,21 +23,21 @@ row_part part.Relocation = part.Relocation
 row_part part.Export = part.Export
 row_part part.Line = part.Line
 
--- the place after a row: an instruction of a relocation header's program has one by its offset in the program
+-- how far the rank of an instruction is from that of its relocation header: by its offset in the program. A row has none
 abbrev pub place_after : Part → ℕ → ℕ
 place_after part.Program field = field + 1
 place_after kind field = 0
 
--- the place of a row in the order, or of an instruction: by the kind of its part, then by its number, which is below 2^32,
--- then by the offset of the instruction
+-- the rank of a row or of an instruction, which is its place in the order: by the kind of its part, then by its number, which is
+-- below 2^32, then by the offset of the instruction
 unfoldable pub rank : Part → ℕ → ℕ → ℕ
 rank kind row field = (part_code (row_part kind) * 2 ^ 32 + min row (2 ^ 32 - 1)) * 2 ^ 65 + place_after kind field
 
--- the place of the row or of the instruction that an error or a note is about
+-- the rank of the row or of the instruction that an error or a note is about
 abbrev pub finding_rank : Finding → ℕ
 finding_rank f = rank f.place.part f.place.row f.place.field
 
--- how many of the first findings are about what comes before the place with a rank
+-- how many of the first findings are about what comes before a rank
 abbrev pub count_before : ℕ → List Finding → ℕ
 count_before rank [] = 0
 count_before rank (f ∷ fs) = if nat_lt (finding_rank f) rank then suc (count_before rank fs) else 0

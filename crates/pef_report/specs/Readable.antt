@@ -12,11 +12,11 @@ use Rattle.pef_loader.specs.Loader.{Loaded}
 use Rattle.pef_loader.specs.CutNames.{CutName}
 use Rattle.pef_loader.specs.Partial.{CutImportRow, CutLibraryRow, cut_import_row, cut_library_row, export_row, exports_in, partial_of, relocation_row, rows_in}
 use Rattle.pef_loader.specs.Places.{place_of}
-use Rattle.pef_report.specs.Findings.{file_offset}
-use Rattle.pef_report.specs.Lines.{entry_line, export_line, header_line, import_line, library_line, loader_line, relocation_line, section_line}
-use Rattle.pef_report.specs.Objects.{entry_object, export_object, header_object, import_object, library_object, loader_object, section_object}
-use Rattle.pef_report.specs.Programs.{Program, relocation_object}
-use Rattle.pef_report.specs.Tokens.{row_name}
+use Rattle.pef_rows.specs.Findings.{file_offset}
+use Rattle.pef_rows.specs.Lines.{entry_line, export_line, header_line, import_line, library_line, loader_line, relocation_line, section_line}
+use Rattle.pef_rows.specs.Objects.{entry_object, export_object, header_object, import_object, library_object, loader_object, section_object}
+use Rattle.pef_rows.specs.Programs.{Program, relocation_object}
+use Rattle.pef_rows.specs.Tokens.{row_name}
 
 -- what can be read of some bytes of a file, from an offset on: a container, its loader section, and how many of its
 -- relocation programs are printed

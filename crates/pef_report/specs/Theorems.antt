@@ -1,9 +1,7 @@
 -- Laws of the text of an inspection.
-use Rattle.std.specs.Prelude.{◌≡◌, ℕ, ◌+◌, ◌-◌, ◌<◌, ◌≤◌, List, [], ◌++◌, None, Some, length, map, take}
+use Rattle.std.specs.Prelude.{◌≡◌, ℕ, ◌+◌, ◌-◌, ◌≤◌, List, [], ◌++◌, None, Some, map}
 use Rattle.pef_format.specs.declared.place.Part.{Part}
 use Rattle.pef_inspect.specs.declared.finding.Finding.{Finding}
-use Rattle.pef_loader.specs.CutNames.{cut_name}
-use Rattle.pef_report.specs.Tokens.{label_member, label_text, length_member, name_member}
 use Rattle.pef_report.specs.Inspection.{Row, elements, findings_text, merged_left, merged_text, object_count}
 use Rattle.pef_report.specs.Readable.{Readable}
 
@@ -15,16 +13,6 @@ blank row = record row { text = [] }
 abbrev pub PrintsEachOnce : Type 0
 PrintsEachOnce = (base : ℕ) (rows : List Row) (findings : List Finding)
     → merged_text base (map blank rows) findings ++ findings_text base (merged_left rows findings) ≡ findings_text base findings
-
--- what is printed of a row's name, of which at most 4,096 bytes are looked at: the line is that of the whole name, and so is
--- the object, which has no length if the name is longer
-pub record PrintsNames : Type 0 where
-  pub line : (name : List ℕ) → label_text (cut_name 4096 name).bytes ≡ label_text name
-  pub whole : (key name : List ℕ) → length name ≤ 1024 → label_member key (cut_name 4096 name) ≡ name_member key name
-  pub long : (key name : List ℕ) → 1024 < length name → length name ≤ 4096
-      → label_member key (cut_name 4096 name) ≡ name_member key (take 1024 name) ++ length_member key (Some (length name))
-  pub longer : (key name : List ℕ) → 4096 < length name
-      → label_member key (cut_name 4096 name) ≡ name_member key (take 1024 name) ++ length_member key None
 
 -- the first rows of a kind and the ones after them are all rows: those after the first `most`, and those after any others
 pub record JoinsRows : Type 0 where

@@ -1,6 +1,5 @@
--- What the errors of a container leave of it, for a person: whether it is whole, cut or damaged, and which of its parts are
--- whole (this project's own).
-use Rattle.std.specs.Prelude.{ℕ, ◌+◌, ◌==◌, ◌&&◌, ◌||◌, Bool, true, false, List, [], ◌∷◌, ◌++◌, Option, None, Some, Result, Ok, Err, codes, decimal, length, max, nat_le, nat_lt, min, take, if◌then◌else◌}
+-- The verdict on a container: whether it is whole, cut or damaged, and which of its parts are whole (this project's own).
+use Rattle.std.specs.Prelude.{ℕ, ◌+◌, ◌==◌, ◌&&◌, ◌||◌, Bool, true, false, List, [], ◌∷◌, ◌++◌, Option, None, Some, Result, Ok, Err, codes, decimal, length, max, nat_le, nat_lt, take, if◌then◌else◌}
 use Rattle.pef_format.specs.declared.place.Part.{Part}
 use Rattle.pef_format.specs.declared.place.Part.TheVariants as part
 use Rattle.pef_inspect.specs.Findings.{finding_number, is_error}
@@ -11,7 +10,7 @@ use Rattle.pef_views.specs.Header.{names_from}
 use Rattle.pef_views.specs.Partial.{header_in, partial_of}
 use Rattle.pef_views.specs.declared.fault.ViewFault.{ViewFault}
 use Rattle.pef_views.specs.declared.section.SectionHeader.{SectionHeader}
-use Rattle.pef_report.specs.Findings.{shown}
+use Rattle.pef_rows.specs.Findings.{shown}
 use Rattle.pef_report.specs.declared.verdict.Group.{Group}
 use Rattle.pef_report.specs.declared.verdict.Group.TheVariants as group
 use Rattle.pef_report.specs.declared.verdict.Verdict.{Verdict}
@@ -22,16 +21,16 @@ section_end None = 0
 section_end (Some s) = if s.packed_size == 0 then 0 else s.container_offset + s.packed_size
 
 -- how many bytes the headers and the raw bytes of the first sections need
-abbrev pub needed_by : ℕ → Contained → ℕ
-needed_by most c = max (names_from c.header) (greatest (λ i. section_end (header_in c i)) 0 (min c.header.section_count most))
+abbrev pub needed_by : Contained → ℕ
+needed_by c = max (names_from c.header) (greatest (λ i. section_end (header_in c i)) 0 c.header.section_count)
 
 -- without a header, the 40 bytes of one
-abbrev pub needed_of : ℕ → Result Contained ViewFault → ℕ
-needed_of most (Ok c) = needed_by most c
-needed_of most (Err fault) = 40
+abbrev pub needed_of : Result Contained ViewFault → ℕ
+needed_of (Ok c) = needed_by c
+needed_of (Err fault) = 40
 
 -- an error with a number at a part is about parts of a container. Without a loader section, and with a loader header or tables
--- that are cut, nothing is known of what is in it
+-- that are cut, nothing is known of what is in it. The error of a loader header that isn't there can be about a section header
 abbrev pub is_about : Group → ℕ → Part → Bool
 is_about group.Any number kind = true
 is_about group.Sections number part.Section = true
@@ -41,15 +40,18 @@ is_about group.Sections number kind = false
 is_about group.Imports number part.Library = true
 is_about group.Imports number part.Import = true
 is_about group.Imports number part.LoaderHeader = number == 11 || number == 12
+is_about group.Imports number part.Section = number == 11
 is_about group.Imports number part.Header = number == 1 || number == 10
 is_about group.Imports number kind = false
 is_about group.Exports number part.Export = true
 is_about group.Exports number part.LoaderHeader = number == 11 || number == 19
+is_about group.Exports number part.Section = number == 11
 is_about group.Exports number part.Header = number == 1 || number == 10
 is_about group.Exports number kind = false
 is_about group.Relocations number part.Relocation = true
 is_about group.Relocations number part.Program = true
 is_about group.Relocations number part.LoaderHeader = number == 11 || number == 12
+is_about group.Relocations number part.Section = number == 11
 is_about group.Relocations number part.Header = number == 1 || number == 10
 is_about group.Relocations number kind = false
 
@@ -76,7 +78,7 @@ is_as_text bytes = lacks_one (count_of 0x0A (take 65536 bytes)) (count_of 0x0D (
 
 unfoldable pub verdict_of : List ℕ → List Finding → Verdict
 verdict_of bytes findings = record {
-  needs = needed_of 65535 (partial_of bytes);
+  needs = needed_of (partial_of bytes);
   has = length bytes;
   errors = is_damaged group.Any findings;
   sections = is_damaged group.Sections findings;

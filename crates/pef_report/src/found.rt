@@ -1,14 +1,13 @@
 //! Errors and notes as they are printed.
 ghost use Rattle.std.specs.Prelude.{◌≡◌, ◌++◌, true};
 ghost use Rattle.pef_ports.specs.Sent.{Sends};
-ghost use Rattle.pef_report.specs.Findings.{finding_line, finding_object};
-ghost use Rattle.pef_report.specs.Inspection.{count_chosen, detail_of, finding_json, finding_text, findings_json, findings_text, is_chosen, note_detail, word_detail};
-ghost use Rattle.pef_report.specs.Objects.{separator};
+ghost use Rattle.pef_rows.specs.Findings.{finding_line, finding_object};
+ghost use Rattle.pef_report.specs.Inspection.{count_chosen, finding_json, finding_text, findings_json, findings_text, is_chosen};
+ghost use Rattle.pef_rows.specs.Objects.{separator};
 
-use crate::finding::{print_finding, print_finding_object};
-use crate::rows::{Detail, FindingRow};
-use pef_inspect::{Cause, Finding, Note};
-use pef_ports::{Page, Sink, StreamFault, send};
+use pef_inspect::Finding;
+use pef_ports::{Page, Sink, StreamFault};
+use pef_rows::{FindingRow, print_finding, print_finding_object, print_separator};
 
 /// Prints the lines of errors and notes of a container that begins at an offset of the file.
 pub(crate) fn print_findings<W: Sink>(
@@ -89,17 +88,6 @@ fn print_element<W: Sink>(
     print_json(out, page, base, finding)
 }
 
-/// Prints a comma, but not before the first element of a list.
-pub fn print_separator<W: Sink>(
-    out: &mut W,
-    page: &mut Page,
-    is_first: bool,
-) -> Result<(), StreamFault>
-    ensures { Sends result (W.stream out.old) (W.stream out.new) page.old.items page.new.items (separator is_first) }
-{
-    send(out, page, if is_first { b"" } else { b"," })
-}
-
 /// Returns how many of the findings are errors, or how many are notes.
 pub(crate) fn count_chosen(findings: &[Finding], errors: bool) -> u64
     ensures { result ≡ count_chosen errors findings.now }
@@ -124,7 +112,7 @@ fn is_chosen(finding: Finding, errors: bool) -> bool
     }
 }
 
-/// Returns an error or a note as it is printed.
+/// Returns a finding with its number, its name and its detail.
 #[tactic(auto, unfolding(crate::specs::Inspection::finding_text, crate::specs::Inspection::finding_json))]
 fn finding_row(base: u64, finding: Finding) -> FindingRow
     ensures line { finding_line result.base result.number result.name.now result.is_error result.place result.detail ≡ finding_text base finding }
@@ -136,48 +124,6 @@ fn finding_row(base: u64, finding: Finding) -> FindingRow
         name: finding.name(),
         is_error: finding.is_error(),
         place: finding.place,
-        detail: detail_of(finding.cause),
-    }
-}
-
-/// Returns the number that an error or a note has beside its place.
-fn detail_of(cause: Cause) -> Detail
-    ensures { result ≡ detail_of cause }
-{
-    match cause {
-        Cause::Note(note) => note_detail(note),
-        Cause::Reloc(fault) => word_detail(fault.word()),
-        Cause::View(_) | Cause::Loader(_) | Cause::Pack(_) => Detail::None,
-    }
-}
-
-/// Returns the offset of a word, if there is one.
-fn word_detail(word: Option<u64>) -> Detail
-    ensures { result ≡ word_detail word }
-{
-    match word {
-        Some(word) => Detail::Word(word),
-        None => Detail::None,
-    }
-}
-
-/// Returns the number that a note has beside its place.
-fn note_detail(note: Note) -> Detail
-    ensures { result ≡ note_detail note }
-{
-    match note {
-        Note::WordOutsideImage { word } | Note::WordRelocatedTwice { word } => Detail::Word(word),
-        Note::TrailingBytes { length } | Note::Overlap { length } | Note::UnownedBytes { length } =>
-            { Detail::Length(length as u64) }
-        Note::SectionsOutOfOrder { sections } => Detail::Sections(u64::from(sections)),
-        Note::ReservedNotZero
-        | Note::UnknownKind
-        | Note::UnknownShare
-        | Note::VersionBelowOldest
-        | Note::EntryOutside
-        | Note::ExportOutside
-        | Note::IrregularExports
-        | Note::ProgramsUnverified
-        | Note::ImagesUnverified => Detail::None,
+        detail: finding.detail(),
     }
 }

@@ -48,7 +48,7 @@ impl<'a, A: Allocator + Copy> Inspection<'a, A> {
     ///
     /// # Errors
     ///
-    /// Only want of memory.
+    /// An allocation failed.
     pub fn read(alloc: A, base: u64, bytes: &'a [u8]) -> Result<Inspection<'a, A>, AllocError>
         ensures { IfOk result (λ i. Inspects base bytes.entry.now (inspected i)) }
     {
@@ -60,7 +60,7 @@ impl<'a, A: Allocator + Copy> Inspection<'a, A> {
     ///
     /// # Errors
     ///
-    /// Only want of memory.
+    /// An allocation failed.
     pub fn read_within(
         alloc: A,
         base: u64,

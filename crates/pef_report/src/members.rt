@@ -5,18 +5,16 @@ ghost use Rattle.pef_ports.specs.Sent.{Sends};
 ghost use Rattle.pef_report.specs.Inspection.{at_most, element, elements, members_text, object_count, row_members};
 ghost use Rattle.pef_report.specs.Members.{member_seen};
 ghost use Rattle.pef_report.specs.Readable.{export_row_object, import_row_object, library_row_object, object_at};
-ghost use Rattle.pef_report.specs.RowViews.{object_of};
+ghost use Rattle.pef_rows.specs.RowViews.{object_of};
 ghost use Rattle.pef_report.specs.Views.{readable};
 
-use crate::found::print_separator;
-use crate::objects::{
-    print_entry_object, print_export_object, print_header_object, print_import_object,
-    print_library_object, print_loader_object, print_section_object,
-};
-use crate::programs::print_relocation_object;
-use crate::reading::{Reading, Row};
+use crate::reading::Reading;
 use pef_format::Part;
 use pef_ports::{Page, Sink, StreamFault, send};
+use pef_rows::{
+    print_export_object, print_import_object, print_library_object, print_row_object,
+    print_separator,
+};
 
 /// A member of an object: what is before its elements, and the kind of rows that they are.
 #[derive(Clone, Copy)]
@@ -228,23 +226,5 @@ fn print_export_at<W: Sink>(
     match reading.export_row(i) {
         Some(row) => print_export_object(out, page, row),
         None => send(out, page, b"null"),
-    }
-}
-
-/// Prints the object of a row.
-fn print_row_object<W: Sink>(out: &mut W, page: &mut Page, row: Row<'_>) -> Result<(), StreamFault>
-    ensures { Sends result (W.stream out.old) (W.stream out.new) page.old.items page.new.items (object_of row.entry) }
-{
-    match row {
-        Row::Header(row) => print_header_object(out, page, row),
-        Row::Section(row) => print_section_object(out, page, row),
-        Row::Loader(row) => print_loader_object(out, page, row),
-        Row::Library(row) => print_library_object(out, page, row),
-        Row::Import(row) => print_import_object(out, page, row),
-        Row::Main(row) | Row::Init(row) | Row::Term(row) => {
-            print_entry_object(out, page, b"", row)
-        }
-        Row::Relocation(row) => print_relocation_object(out, page, row),
-        Row::Export(row) => print_export_object(out, page, row),
     }
 }

@@ -7,11 +7,11 @@ ghost use Rattle.pef_report.specs.Views.{shown_seen};
 use crate::found::{Chosen, print_chosen};
 use crate::members::{Elements, print_elements, print_members, row_members};
 use crate::reading::Reading;
-use crate::tokens::{Token, print_tokens};
 use crate::verdict::Verdict;
 use pef_format::Part;
 use pef_inspect::{Finding, programs_shown};
 use pef_ports::{Page, Sink, StreamFault, send};
+use pef_rows::{Token, print_tokens};
 
 /// What is shown of an inspection.
 #[derive(Clone, Copy)]

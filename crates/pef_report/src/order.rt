@@ -5,16 +5,16 @@ ghost use Rattle.pef_report.specs.Order.{after, before, count_before, finding_ra
 use pef_format::Part;
 use pef_inspect::Finding;
 
-/// How far apart the first rows of two kinds are. No kind has as many rows.
+/// The distance of the ranks of two kinds, in rows. No kind has more rows.
 const ROWS: u128 = 0x1_0000_0000;
 
 /// The greatest number of a row.
 const MAX_ROW: usize = 0xFFFF_FFFF;
 
-/// How far apart two rows are. No program has as many bytes.
+/// The distance of the ranks of two rows. It is more than any offset in a program.
 const PLACES: u128 = 0x2_0000_0000_0000_0000;
 
-/// Returns the place of a row in the order, or that of an instruction, by its offset in its program.
+/// Returns the rank of a row, which is its place in the order, or that of the instruction at the offset `field` of a program.
 #[tactic(auto, unfolding(crate::specs::Order::rank))]
 pub(crate) fn rank(part: Part, row: usize, field: usize) -> u128
     ensures { result ≡ rank part row field }
@@ -23,7 +23,7 @@ pub(crate) fn rank(part: Part, row: usize, field: usize) -> u128
     row * PLACES + place_after(part, field)
 }
 
-/// Returns the place after its row of an instruction, or 0 for a row.
+/// Returns how far the rank of an instruction is from that of its relocation header, or 0 for a row.
 fn place_after(part: Part, field: usize) -> u128
     ensures value { result ≡ place_after part field }
     ensures small { result ≤ 2 ^ 64 }
@@ -66,14 +66,14 @@ fn row_part(part: Part) -> Part
     }
 }
 
-/// Returns the place of the row or of the instruction that an error or a note is about.
+/// Returns the rank of the row or of the instruction that an error or a note is about.
 pub(crate) fn finding_rank(finding: &Finding) -> u128
     ensures { result ≡ finding_rank finding.now }
 {
     rank(finding.place.part, finding.place.row, finding.place.field)
 }
 
-/// Returns the first findings, which are about what comes before a place in the order, and the others.
+/// Splits findings that are in order: those about what comes before a rank, and the others.
 pub(crate) fn split_before<'f>(
     findings: &'f [Finding],
     rank: u128,
@@ -84,7 +84,7 @@ pub(crate) fn split_before<'f>(
     findings.split_at(count_before(findings, rank))
 }
 
-/// Returns how many of the first findings are about what comes before a place in the order.
+/// Returns how many of the first findings are about what comes before a rank.
 fn count_before(findings: &[Finding], rank: u128) -> usize
     ensures value { result ≡ count_before rank findings.now }
     ensures below { result ≤ length findings.now }

@@ -7,37 +7,20 @@ ghost use Rattle.pef_views.specs.PartialViews.{partly};
 ghost use Rattle.pef_loader.specs.CutNames.{cut_name};
 ghost use Rattle.pef_loader.specs.PartialViews.{cut_seen, names_bytes, partly_loaded};
 ghost use Rattle.pef_loader.specs.Places.{place_of};
-ghost use Rattle.pef_report.specs.Findings.{file_offset};
-ghost use Rattle.pef_report.specs.RowViews.{line_of, object_of, program_seen};
+ghost use Rattle.pef_rows.specs.Findings.{file_offset};
+ghost use Rattle.pef_rows.specs.RowViews.{line_of, object_of, program_seen};
 ghost use Rattle.pef_report.specs.Readable.{export_row_line, export_row_object, header_row_line, header_row_object, import_line_in, import_object_in, import_offset, import_row_line, import_row_object, init_row_line, init_row_object, library_name, library_row_line, library_row_object, line_at, loader_count, loader_in, loader_row_line, loader_row_object, main_row_line, main_row_object, object_at, program_in, program_of, readable_at, relocation_row_line, relocation_row_object, row_count, section_row_line, section_row_object, sections_in, term_row_line, term_row_object};
-ghost use Rattle.pef_report.specs.Tokens.{row_name};
-ghost use Rattle.pef_report.specs.declared.reading.Row.TheVariants as row;
+ghost use Rattle.pef_rows.specs.Tokens.{row_name};
+ghost use Rattle.pef_rows.specs.declared.any_row.Row.TheVariants as row;
 
-use crate::finding::offset_in_file;
-use crate::rows::{
-    EntryRow, ExportRow, HeaderRow, ImportRow, LibraryRow, LoaderRow, ProgramRow, RelocationRow,
-    SectionRow,
-};
-use crate::tokens::MAX_NAME_LENGTH;
 use pef_format::Part;
 use pef_format::layout::{CONTAINER_HEADER_SIZE, SECTION_HEADER_SIZE};
 use pef_loader::{CutName, Names, PartialImports, PartialLoader, partial_place};
+use pef_rows::{
+    EntryRow, ExportRow, HeaderRow, ImportRow, LibraryRow, LoaderRow, MAX_NAME_LENGTH, ProgramRow,
+    RelocationRow, Row, SectionRow, file_offset,
+};
 use pef_views::PartialContainer;
-
-/// A row of a container.
-#[derive(Clone, Copy)]
-pub(crate) enum Row<'a> {
-    Header(HeaderRow),
-    Section(SectionRow<'a>),
-    Loader(LoaderRow),
-    Library(LibraryRow<'a>),
-    Import(ImportRow<'a>),
-    Main(EntryRow),
-    Init(EntryRow),
-    Term(EntryRow),
-    Relocation(RelocationRow<'a>),
-    Export(ExportRow<'a>),
-}
 
 /// What can be read of the bytes at an offset of a file.
 #[derive(Drop)]
@@ -493,7 +476,7 @@ fn library_name<'a>(loader: &PartialLoader<'a>, library: usize) -> Option<CutNam
     loader.library_cut(library, MAX_NAME_LENGTH)?.name
 }
 
-/// Returns the name of an export as the other names are shown.
+/// Returns the name of an export, cut as the names of other rows are.
 fn export_name<'a>(name: Option<&'a [u8]>) -> Option<CutName<'a>>
     ensures { option_map cut_seen result ≡ row_name (option_copied name.entry) }
 {
@@ -515,15 +498,5 @@ fn cut_name(name: &[u8]) -> CutName<'_>
     CutName {
         bytes,
         whole: false,
-    }
-}
-
-/// Returns an offset in a container as one in the file, or that of the container if there is none.
-pub(crate) fn file_offset(base: u64, offset: Option<usize>) -> u64
-    ensures { result ≡ file_offset base offset }
-{
-    match offset_in_file(base, offset) {
-        Some(at) => at,
-        None => base,
     }
 }

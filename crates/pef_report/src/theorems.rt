@@ -1,7 +1,7 @@
 //! Laws of the text of an inspection. The functions do nothing.
 ghost use Rattle.pef_report.specs.Judged.{JudgesRight};
 ghost use Rattle.pef_report.specs.Places.{PrintsInPlace};
-ghost use Rattle.pef_report.specs.Theorems.{JoinsRows, PrintsEachOnce, PrintsNames};
+ghost use Rattle.pef_report.specs.Theorems.{JoinsRows, PrintsEachOnce};
 
 /// Without the lines of the rows, the text of an inspection is the lines of all its errors and notes, in order. So each of them
 /// is printed once, whichever rows can be read.
@@ -21,12 +21,6 @@ pub fn each_finding_is_in_its_place()
 #[tactic(auto, using(crate::proofs::Judging::judges_right))]
 pub fn inspections_are_right()
     ensures { JudgesRight }
-{}
-
-/// A row is printed as if all of its name were looked at, but for the length of a name of more than 4,096 bytes.
-#[tactic(auto, using(crate::proofs::NameLemmas::prints_names))]
-pub fn names_are_printed()
-    ensures { PrintsNames }
 {}
 
 /// Rows that are printed in parts are those of the whole object.

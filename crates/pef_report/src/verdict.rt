@@ -1,24 +1,25 @@
-//! What the errors of a container leave of it.
+//! The verdict on a container: whether it is whole, cut or damaged, and which of its parts are whole.
 ghost use Rattle.std.specs.Prelude.{◌≡◌, ◌≤◌, length};
 ghost use Rattle.pef_ports.specs.Sent.{Sends};
 ghost use Rattle.pef_views.specs.Partial.{partial_of};
 ghost use Rattle.pef_views.specs.PartialViews.{partly};
 ghost use Rattle.pef_report.specs.Verdict.{bool_word, count_of, damages, is_about, is_as_text, is_damaged, lacks_one, needed_by, needed_of, part_state, section_end, state_word, verdict_line, verdict_object, verdict_of};
 
-use crate::optional::text_if;
-use crate::tokens::{Token, print_tokens};
 use pef_format::Part;
 use pef_format::layout::CONTAINER_HEADER_SIZE;
 use pef_inspect::Finding;
 use pef_ports::{Page, Sink, StreamFault};
+use pef_rows::{Token, print_tokens, text_if};
 use pef_views::{PartialContainer, SectionHeader};
 
-/// How often a byte has to come before it is odd that the other one doesn't.
+/// If one of CR and LF comes this often and the other one never, the container was probably transferred as text.
 const MANY: usize = 16;
-/// In how many bytes of a container its line ends are counted. More would be looked at again for each container in a file.
+
+/// How many bytes of a container are searched for CR and LF. Its bytes reach to the end of the file, so without a limit the end of
+/// a file would be searched again for each container in it.
 const COUNTED: usize = 65_536;
 
-/// What is known of a container as a whole. A flag says that an error is about these parts.
+/// The verdict on a container. The flag of some parts says that an error is about them.
 #[derive(Clone, Copy, Debug)]
 pub(crate) struct Verdict {
     /// How many bytes its headers and sections need.
@@ -30,7 +31,7 @@ pub(crate) struct Verdict {
     pub imports: bool,
     pub exports: bool,
     pub relocations: bool,
-    /// Whether it seems that it was transferred as text.
+    /// Whether it was probably transferred as text.
     pub as_text: bool,
 }
 
@@ -52,7 +53,7 @@ impl Verdict {
     {
         let errors = is_damaged(Group::Any, findings);
         Verdict {
-            needs: needed(bytes, u16::MAX),
+            needs: needed(bytes),
             has: bytes.len() as u64,
             errors,
             sections: is_damaged(Group::Sections, findings),
@@ -127,22 +128,22 @@ impl Verdict {
     }
 }
 
-/// Returns how many bytes the headers and at most `most` sections of the container that begins some bytes need.
-pub fn needed(bytes: &[u8], most: u16) -> u64
-    ensures { result ≡ needed_of most (partial_of bytes.now) }
+/// Returns how many bytes the headers and the sections of the container that begins some bytes need.
+pub fn needed(bytes: &[u8]) -> u64
+    ensures { result ≡ needed_of (partial_of bytes.now) }
 {
     match PartialContainer::read(bytes) {
-        Ok(container) => needed_by(&container, most),
+        Ok(container) => needed_by(&container),
         Err(_) => CONTAINER_HEADER_SIZE as u64,
     }
 }
 
 /// Returns how many bytes the headers and the raw bytes of the first sections need.
-fn needed_by(container: &PartialContainer<'_>, most: u16) -> u64
-    ensures { result ≡ needed_by most (partly container.now) }
+fn needed_by(container: &PartialContainer<'_>) -> u64
+    ensures { result ≡ needed_by (partly container.now) }
 {
     let mut end = container.names_start() as u64;
-    for i in 0..container.header().section_count.min(most) {
+    for i in 0..container.header().section_count {
         end = end.max(section_end(container.section(usize::from(i))));
     }
     end
@@ -197,25 +198,28 @@ fn is_about(which: Group, number: u32, part: Part) -> bool
         Group::Imports => match part {
             Part::Library | Part::Import => true,
             Part::LoaderHeader => number == 11 || number == 12,
+            Part::Section => number == 11,
             Part::Header => number == 1 || number == 10,
             _ => false,
         },
         Group::Exports => match part {
             Part::Export => true,
             Part::LoaderHeader => number == 11 || number == 19,
+            Part::Section => number == 11,
             Part::Header => number == 1 || number == 10,
             _ => false,
         },
         Group::Relocations => match part {
             Part::Relocation | Part::Program => true,
             Part::LoaderHeader => number == 11 || number == 12,
+            Part::Section => number == 11,
             Part::Header => number == 1 || number == 10,
             _ => false,
         },
     }
 }
 
-/// Returns whether some bytes seem to have been transferred as text.
+/// Returns whether some bytes were probably transferred as text.
 fn is_as_text(bytes: &[u8]) -> bool
     ensures { result ≡ is_as_text bytes.now }
 {
@@ -264,7 +268,7 @@ fn part_state(damaged: bool) -> &'static [u8]
     if damaged { b"damaged" } else { b"whole" }
 }
 
-/// Returns a value of JSON.
+/// Returns a truth value of JSON.
 fn bool_word(answer: bool) -> &'static [u8]
     ensures { result.now ≡ bool_word answer }
 {

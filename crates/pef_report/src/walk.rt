@@ -5,24 +5,22 @@ ghost use Rattle.pef_ports.specs.Sent.{Sends};
 ghost use Rattle.pef_reloc.specs.Instrs.{instr_fits};
 ghost use Rattle.pef_report.specs.Inspection.{findings_text, instr_row, merged_text, program_rows, row_at, rows_among, rows_below, rows_of};
 ghost use Rattle.pef_report.specs.Order.{before, rank};
-ghost use Rattle.pef_report.specs.Programs.{instr_line, steps_in};
+ghost use Rattle.pef_rows.specs.Programs.{instr_line, steps_in};
 ghost use Rattle.pef_report.specs.Readable.{export_row_line, import_row_line, library_row_line, line_at, program_of, row_count};
-ghost use Rattle.pef_report.specs.RowViews.{line_of, program_seen};
+ghost use Rattle.pef_rows.specs.RowViews.{line_of, program_seen};
 ghost use Rattle.pef_report.specs.Views.{readable};
 
 use crate::found::print_findings;
-use crate::lines::{
-    print_entry, print_export, print_header, print_import, print_library, print_loader,
-    print_relocation, print_section,
-};
 use crate::order::{rank, split_before};
-use crate::programs::print_instr_line;
-use crate::reading::{Reading, Row, file_offset};
-use crate::rows::{InstrRow, ProgramRow};
+use crate::reading::Reading;
 use pef_format::Part;
 use pef_inspect::Finding;
 use pef_ports::{Page, Sink, StreamFault};
 use pef_reloc::Instrs;
+use pef_rows::{
+    InstrRow, ProgramRow, file_offset, print_export, print_import, print_instr_line, print_library,
+    print_row,
+};
 
 /// Rows that are printed in order with their instructions, and the errors and notes that are left to be printed among them.
 #[derive(Drop)]
@@ -83,7 +81,7 @@ impl<'f, 'a> Walk<'f, 'a> {
         Ok(())
     }
 
-    /// Prints row `i` of a kind alone.
+    /// Prints row `i` of a kind, after the errors and notes that are left about what comes before it.
     fn print_alone<W: Sink>(
         &mut self,
         out: &mut W,
@@ -99,7 +97,7 @@ impl<'f, 'a> Walk<'f, 'a> {
         Ok(())
     }
 
-    /// Prints the errors and notes that are left about what comes before a place in the order.
+    /// Prints the errors and notes that are left about what comes before a rank.
     fn print_before<W: Sink>(
         &mut self,
         out: &mut W,
@@ -184,7 +182,7 @@ impl<'f, 'a> Walk<'f, 'a> {
         Ok(())
     }
 
-    /// Prints an instruction that has a place in the order.
+    /// Prints the instruction with a rank, after the errors and notes that are left about what comes before it.
     fn print_instr<W: Sink>(
         &mut self,
         out: &mut W,
@@ -278,23 +276,5 @@ fn print_export_at<W: Sink>(
     match reading.export_row(i) {
         Some(row) => print_export(out, page, row),
         None => Ok(()),
-    }
-}
-
-/// Prints the line of a row.
-fn print_row<W: Sink>(out: &mut W, page: &mut Page, row: Row<'_>) -> Result<(), StreamFault>
-    ensures { Sends result (W.stream out.old) (W.stream out.new) page.old.items page.new.items (line_of row.entry) }
-{
-    match row {
-        Row::Header(row) => print_header(out, page, row),
-        Row::Section(row) => print_section(out, page, row),
-        Row::Loader(row) => print_loader(out, page, row),
-        Row::Library(row) => print_library(out, page, row),
-        Row::Import(row) => print_import(out, page, row),
-        Row::Main(row) => print_entry(out, page, b" main ", row),
-        Row::Init(row) => print_entry(out, page, b" init ", row),
-        Row::Term(row) => print_entry(out, page, b" term ", row),
-        Row::Relocation(row) => print_relocation(out, page, row),
-        Row::Export(row) => print_export(out, page, row),
     }
 }

@@ -1,5 +1,5 @@
 -- A section ends last so far, or doesn't.
-use Rattle.std.proofs.Common.{ℕ, ◌+◌, ◌-◌, ◌<◌, ◌∙◌, ap, arith, max, min}
+use Rattle.std.proofs.Common.{ℕ, ◌+◌, ◌-◌, ◌<◌, ◌∙◌, ap, arith, max}
 use Rattle.pef_views.specs.Extents.{greatest}
 use Rattle.pef_views.specs.Partial.{header_in}
 use Rattle.pef_views.specs.PartialViews.{partly}
@@ -12,8 +12,8 @@ loop-i-preserved c =
     let p = partly c.args.container.now in
     let ends : ℕ → ℕ = λ i. section_end (header_in p i) in
     let i = c.loop-i.i in
-    let n = min p.header.section_count c.args.most in
-    let count = c.min-i-end.ensures ∙ ap (λ h. min h.section_count c.args.most) c.header.ensures in
+    let n = p.header.section_count in
+    let count = ap (λ h. h.section_count) c.header-i-end.ensures in
     let under : i < n = omega (arith, count) in
     ap (λ e. max e (greatest ends (i + 1) (n - (i + 1)))) (c.max-end.ensures ∙ ap (max c.loop-i.end) (c.section_end.ensures ∙ (ap section_end c.section.ensures ∙ ap ends c.from.ensures)))
     ∙ (greatest-next ends i n c.loop-i.end under ∙ c.loop-i.invariant)

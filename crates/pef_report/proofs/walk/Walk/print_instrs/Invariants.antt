@@ -2,8 +2,8 @@
 use Rattle.std.proofs.Common.{◌≡◌, length, map}
 use Rattle.pef_reloc.specs.Views.{placed}
 use Rattle.pef_report.specs.Inspection.{instr_row, merged_left, merged_text}
-use Rattle.pef_report.specs.Programs.{steps_in}
-use Rattle.pef_report.specs.RowViews.{program_seen}
+use Rattle.pef_rows.specs.Programs.{steps_in}
+use Rattle.pef_rows.specs.RowViews.{program_seen}
 use Rattle.pef_report.specs.Views.{readable}
 use Rattle.pef_ports.proofs.Laws.Sending.{IsSentUpTo}
 use Rattle.pef_report.proofs.walk.Walk.print_instrs.Given as goal

@@ -1,0 +1,4 @@
+mod NameLemmas
+mod StringLemmas
+mod TokenLemmas
+mod UnicodeLemmas

@@ -1,0 +1,7 @@
+use Rattle.std.proofs.Common.{drop}
+use Rattle.pef_ports.specs.Text.{hex_text}
+use Rattle.pef_ports.proofs.Laws.Sending.{IsSentUpTo}
+use Rattle.pef_rows.proofs.tokens.print_octets.Given as goal
+
+abbrev pub invariant-loop-b : goal.invariant-loop-b
+invariant-loop-b g l = IsSentUpTo (g.W.Sink.stream l.fn.out) (g.W.Sink.stream l.out) l.fn.page.items l.page.items (hex_text l.bytes) (hex_text (drop l.b-index l.bytes))

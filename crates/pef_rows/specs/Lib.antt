@@ -1,0 +1,14 @@
+pub mod Codes
+pub mod Dates
+pub mod Findings
+pub mod Frames
+pub mod Kept
+pub mod Lines
+pub mod Objects
+pub mod Programs
+pub mod RowViews
+pub mod Strings
+pub mod Theorems
+pub mod Tokens
+pub mod Unicode
+pub mod Versions
