@@ -6,12 +6,12 @@ use Rattle.pef_ports.specs.Ports.{Stream}
 use Rattle.pef_ports.specs.Sent.{Prints, StopsShort}
 use Rattle.pef_ports.proofs.Laws.Sending.{Prints-then, StopsShort-longer, StopsShort-then, sent-nothing}
 use Rattle.pef_inspect.specs.declared.limits.Limits.{Limits}
+use Rattle.mac_rows.specs.declared.output_format.OutputFormat.{OutputFormat}
 use Rattle.mac_report.specs.Containers.{IsRowIf, RowIs, Steps, Walks, cost, fresh_tally, lacking, row_text, skipped, tallied}
-use Rattle.mac_report.specs.declared.file.Form.{Form}
 use Rattle.mac_report.specs.declared.tally.Tally.{Tally}
 
 -- what was sent of the first containers, and what the places that are left add to it
-pub record HasWalked (form : Form) (bytes : List ℕ) (before after : Stream) (page page' : List ℕ) (places : List ℕ) (tally : Tally) (left : List ℕ) : Type 0 where
+pub record HasWalked (form : OutputFormat) (bytes : List ℕ) (before after : Stream) (page page' : List ℕ) (places : List ℕ) (tally : Tally) (left : List ℕ) : Type 0 where
   pub sent : List ℕ
   pub prints : Prints before after page page' sent
   pub walks : (text : List ℕ) (last : Tally) → Walks form bytes tally left text last → Walks form bytes (fresh_tally bytes) places (sent ++ text) last
@@ -22,7 +22,7 @@ some_row true limits rest at = (skipped, refl)
 some_row false limits rest at = (lacking at, refl)
 
 -- containers that weren't reached add some text
-pub some_walk : (form : Form) (bytes : List ℕ) (tally : Tally) (places : List ℕ) → (text : List ℕ) × (last : Tally) × Walks form bytes tally places text last
+pub some_walk : (form : OutputFormat) (bytes : List ℕ) (tally : Tally) (places : List ℕ) → (text : List ℕ) × (last : Tally) × Walks form bytes tally places text last
 some_walk form bytes tally [] = ([], tally, (refl, refl))
 some_walk form bytes tally (at ∷ places) =
     let row = some_row (nat_lt tally.turn.budget (cost (rest_from bytes at))) tally.turn.limits (rest_from bytes at) at in
@@ -32,13 +32,13 @@ some_walk form bytes tally (at ∷ places) =
     (here ++ others.0, others.1, (here, next, others.0, record { row = row.0; is = row.1; printed = refl; counted = refl }, others.2, refl))
 
 -- before the first container
-pub walked-nothing : (form : Form) (bytes : List ℕ) (out : Stream) (page places : List ℕ) → HasWalked form bytes out out page page places (fresh_tally bytes) places
+pub walked-nothing : (form : OutputFormat) (bytes : List ℕ) (out : Stream) (page places : List ℕ) → HasWalked form bytes out out page page places (fresh_tally bytes) places
 walked-nothing form bytes out page places =
     let none = sent-nothing out page [] in
     let P : List ℕ → Type 0 = λ (t : List ℕ). Prints out out page page t in
     record { sent = []; prints = subst P (sym (append-nil none.front) ∙ none.whole) none.prints; walks = λ text last walk. walk }
 
-module _ {form : Form} {bytes : List ℕ} {before mid after : Stream} {page p places : List ℕ} {tally : Tally} {left : List ℕ} where
+module _ {form : OutputFormat} {bytes : List ℕ} {before mid after : Stream} {page p places : List ℕ} {tally : Tally} {left : List ℕ} where
   -- the next container
   pub walked-more : {p' : List ℕ} (at : ℕ) (others here : List ℕ) (next : Tally) → HasWalked form bytes before mid page p places tally left → left ≡ at ∷ others
       → Steps form bytes tally at here next → Prints mid after p p' here → HasWalked form bytes before after page p' places next others
@@ -61,7 +61,7 @@ module _ {form : Form} {bytes : List ℕ} {before mid after : Stream} {page p pl
       (so_far.sent ++ (here ++ rest.0), rest.1, so_far.walks (here ++ rest.0) rest.1 (subst Q (sym is) (here, next, rest.0, steps, rest.2, refl)), StopsShort-then so_far.prints (StopsShort-longer rest.0 short))
 
 -- past the last container
-pub walked-all : {form : Form} {bytes : List ℕ} {before after : Stream} {page p places : List ℕ} {tally : Tally} {left : List ℕ} → HasWalked form bytes before after page p places tally left → left ≡ []
+pub walked-all : {form : OutputFormat} {bytes : List ℕ} {before after : Stream} {page p places : List ℕ} {tally : Tally} {left : List ℕ} → HasWalked form bytes before after page p places tally left → left ≡ []
     → (text : List ℕ) × Walks form bytes (fresh_tally bytes) places text tally × Prints before after page p text
 walked-all {form} {bytes} {before} {after} {page} {p} {places} {tally} {left} so_far none =
     let P : List ℕ → Type 0 = λ (t : List ℕ). Walks form bytes (fresh_tally bytes) places t tally in

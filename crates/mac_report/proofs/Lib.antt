@@ -1,5 +1,3 @@
 mod ContainerLemmas
-mod FragmentLemmas
 mod PartLemmas
 mod QuietLemmas
-mod ResourceLemmas

@@ -2,11 +2,11 @@
 use Rattle.std.proofs.Common.{◌≡◌, ℕ, List, [], ◌∷◌, length, refl, sym}
 use Rattle.cfm_members.specs.Contents.{rest_from}
 use Rattle.cfm_members.specs.Search.{containers_in}
+use Rattle.mac_rows.specs.Faults.{faults_of}
+use Rattle.mac_rows.specs.FileNotes.{notes_of}
+use Rattle.mac_rows.specs.declared.output_format.OutputFormat.TheVariants.{Json}
 use Rattle.mac_report.specs.Containers.{Walks, fresh_tally, tallied, total}
-use Rattle.mac_report.specs.Faults.{faults_of}
-use Rattle.mac_report.specs.FileNotes.{notes_of}
 use Rattle.mac_report.specs.Parts.{AreContainers, PartsJoin}
-use Rattle.mac_report.specs.declared.file.Form.TheVariants.{Json}
 use Rattle.mac_report.specs.declared.tally.Tally.{Tally}
 use Rattle.mac_report.specs.declared.turn.Turn.{Turn}
 

@@ -3,11 +3,11 @@ use Rattle.std.proofs.Common.{◌≡◌, ℕ, Bool, true, false, List, [], ◌�
 use Rattle.std.specs.Prelude.{nat_lt}
 use Rattle.cfm_members.specs.Contents.{rest_from}
 use Rattle.cfm_members.specs.Search.{containers_in}
-use Rattle.pef_report.specs.declared.frames.Counts.{Counts}
+use Rattle.pef_rows.specs.declared.frames.Counts.{Counts}
 use Rattle.pef_report.proofs.Laws.{judges_right}
+use Rattle.mac_rows.specs.declared.output_format.OutputFormat.{OutputFormat}
 use Rattle.mac_report.specs.Containers.{IsRow, IsRowIf, RowIs, Walks, cost, errors_in, fresh_tally, inspected, lacking, skipped}
 use Rattle.mac_report.specs.Quiet.{AreQuiet, IsQuiet, QuietAreSound}
-use Rattle.mac_report.specs.declared.file.Form.{Form}
 use Rattle.mac_report.specs.declared.tally.Tally.{Tally}
 use Rattle.mac_report.specs.declared.turn.Turn.{Turn}
 
@@ -21,14 +21,14 @@ quiet-row bytes t at (lacking offset) is none = absurd (cc none)
 quiet-row bytes t at skipped is none = tt
 
 -- what is counted never falls
-none-before : (form : Form) (bytes : List ℕ) (places : List ℕ) (before after : Tally) (text : List ℕ) → Walks form bytes before places text after → after.errors ≡ 0 → before.errors ≡ 0
+none-before : (form : OutputFormat) (bytes : List ℕ) (places : List ℕ) (before after : Tally) (text : List ℕ) → Walks form bytes before places text after → after.errors ≡ 0 → before.errors ≡ 0
 none-before form bytes [] before after text walk none = (let same = ap (λ (t : Tally). t.errors) walk.1 in omega (arith, same, none))
 none-before form bytes (at ∷ places) before after text walk none =
     let later = none-before form bytes places walk.1 after walk.2 walk.4 none in
     let counted = ap (λ (t : Tally). t.errors) walk.3.counted in
     omega (arith, later, counted)
 
-all-quiet : (form : Form) (bytes : List ℕ) (places : List ℕ) (before after : Tally) (text : List ℕ) (walk : Walks form bytes before places text after) → after.errors ≡ 0 → AreQuiet form bytes before places text after walk
+all-quiet : (form : OutputFormat) (bytes : List ℕ) (places : List ℕ) (before after : Tally) (text : List ℕ) (walk : Walks form bytes before places text after) → after.errors ≡ 0 → AreQuiet form bytes before places text after walk
 all-quiet form bytes [] before after text walk none = tt
 all-quiet form bytes (at ∷ places) before after text walk none =
     let later = none-before form bytes places walk.1 after walk.2 walk.4 none in

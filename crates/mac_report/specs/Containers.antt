@@ -11,12 +11,12 @@ use Rattle.pef_inspect.specs.Limits.{most_packed, most_program_bytes, most_steps
 use Rattle.pef_inspect.specs.declared.limits.Limits.{Limits}
 use Rattle.pef_report.specs.Inspection as inspection
 use Rattle.pef_report.specs.Inspection.{Inspected, count_chosen, inspection_object, inspection_text}
-use Rattle.pef_report.specs.Objects.{separator}
-use Rattle.pef_report.specs.Tokens.{at_text}
-use Rattle.pef_report.specs.declared.frames.Counts.{Counts}
-pub use Rattle.mac_report.specs.Sums.{up_to}
-use Rattle.mac_report.specs.declared.file.Form.{Form}
-use Rattle.mac_report.specs.declared.file.Form.TheVariants.{Text, Json}
+use Rattle.pef_rows.specs.Objects.{separator}
+use Rattle.pef_rows.specs.Tokens.{at_text}
+use Rattle.pef_rows.specs.declared.frames.Counts.{Counts}
+use Rattle.mac_rows.specs.Sums.{up_to}
+use Rattle.mac_rows.specs.declared.output_format.OutputFormat.{OutputFormat}
+use Rattle.mac_rows.specs.declared.output_format.OutputFormat.TheVariants.{Text, Json}
 use Rattle.mac_report.specs.declared.tally.Tally.{Tally}
 use Rattle.mac_report.specs.declared.turn.Turn.{Turn}
 
@@ -56,7 +56,7 @@ IsRow bytes t at row = IsRowIf (nat_lt t.budget (cost (rest_from bytes at))) t.l
 abbrev pub inspected_object : Bool → Inspected → List ℕ
 inspected_object is_first i = separator is_first ++ inspection_object i
 
-abbrev pub inspected_text : Form → Bool → Inspected → List ℕ
+abbrev pub inspected_text : OutputFormat → Bool → Inspected → List ℕ
 inspected_text Text is_first i = inspection_text i
 inspected_text Json is_first i = inspected_object is_first i
 
@@ -69,12 +69,12 @@ lacking_object at =
     codes "{\"offset\":" ++ decimal at
     ++ codes ",\"header\":null,\"sections\":[],\"loader\":null,\"libraries\":[],\"imports\":[],\"relocations\":[],\"exports\":[],\"entries\":{\"main\":null,\"init\":null,\"term\":null},\"errors\":[{\"number\":99,\"name\":\"OutOfMemory\",\"part\":null,\"row\":null,\"field\":null,\"offset\":null}],\"notes\":[],\"verdict\":null}"
 
-abbrev pub lacking_text : Form → Bool → ℕ → List ℕ
+abbrev pub lacking_text : OutputFormat → Bool → ℕ → List ℕ
 lacking_text Text is_first at = lacking_line at
 lacking_text Json is_first at = separator is_first ++ lacking_object at
 
 -- what is printed of a container
-abbrev pub row_text : Form → Bool → RowIs → List ℕ
+abbrev pub row_text : OutputFormat → Bool → RowIs → List ℕ
 row_text form is_first (inspected i) = inspected_text form is_first i
 row_text form is_first (lacking at) = lacking_text form is_first at
 row_text form is_first skipped = []
@@ -115,14 +115,14 @@ abbrev pub tallied : Tally → List ℕ → RowIs → Tally
 tallied t rest row = record { turn = turn_after t.turn rest; errors = up_to (t.errors + errors_in row); notes = up_to (t.notes + notes_in row) }
 
 -- what one container adds to a text and to what is counted
-pub record Steps (form : Form) (bytes : List ℕ) (before : Tally) (at : ℕ) (text : List ℕ) (after : Tally) : Type 0 where
+pub record Steps (form : OutputFormat) (bytes : List ℕ) (before : Tally) (at : ℕ) (text : List ℕ) (after : Tally) : Type 0 where
   pub row : RowIs
   pub is : IsRow bytes before.turn at row
   pub printed : text ≡ row_text form (before.turn.containers == 0) row
   pub counted : after ≡ tallied before (rest_from bytes at) row
 
 -- what the containers at some places add
-abbrev pub Walks : Form → List ℕ → Tally → List ℕ → List ℕ → Tally → Type 0
+abbrev pub Walks : OutputFormat → List ℕ → Tally → List ℕ → List ℕ → Tally → Type 0
 Walks form bytes before [] text after = (text ≡ []) × (after ≡ before)
 Walks form bytes before (at ∷ places) text after =
     (here : List ℕ) × (between : Tally) × (others : List ℕ)

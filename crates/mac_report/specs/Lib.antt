@@ -1,16 +1,5 @@
 pub mod Containers
-pub mod DataFiles
-pub mod FileFindings
-pub mod FileNotes
-pub mod Faults
-pub mod Forks
-pub mod Founds
-pub mod Fragments
-pub mod MacParts
 pub mod Parts
 pub mod Quiet
-pub mod Records
 pub mod Reports
-pub mod ResourceRows
-pub mod Sums
 pub mod Views

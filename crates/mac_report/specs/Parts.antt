@@ -1,15 +1,15 @@
 -- The parts of a report in JSON: what comes before the containers, each container, and what comes after them. Also the beginning of
--- a container's object, and further rows of it, for those who show a file and don't want all rows at once.
+-- a container's object, and further rows of it, for programs that show a file and don't want all rows at once.
 use Rattle.std.specs.Prelude.{◌≡◌, ◌==◌, ℕ, List, [], ◌∷◌, ◌++◌, Option, option_map}
 use Rattle.cfm_members.specs.Contents.{rest_from}
 use Rattle.cfm_members.specs.Search.{containers_in}
 use Rattle.pef_report.specs.Inspection.{excerpt_object, rows_text}
-use Rattle.pef_report.specs.declared.frames.Counts.{Counts}
+use Rattle.pef_rows.specs.declared.frames.Counts.{Counts}
+use Rattle.mac_rows.specs.DataFiles.{DataFileIs}
+use Rattle.mac_rows.specs.Views.{data_file_seen}
+use Rattle.mac_rows.specs.declared.output_format.OutputFormat.TheVariants.{Json}
 use Rattle.mac_report.specs.Containers.{IsRow, RowIs, first_turn, inspected, lacking, lacking_object, row_text, skipped, turn_after}
-use Rattle.mac_report.specs.DataFiles.{DataFileIs}
 use Rattle.mac_report.specs.Reports.{IsWhole, found_of, json_end, json_head}
-use Rattle.mac_report.specs.Views.{data_file_seen}
-use Rattle.mac_report.specs.declared.file.Form.TheVariants.{Json}
 use Rattle.mac_report.specs.declared.parts.ReportPart.{ReportPart}
 use Rattle.mac_report.specs.declared.parts.ReportPart.TheVariants as part
 use Rattle.mac_report.specs.declared.turn.Turn.{Turn}

@@ -4,10 +4,11 @@ ghost use Rattle.pef_ports.specs.Sent.{Sends};
 ghost use Rattle.mac_report.specs.Containers.{Walks, fresh_tally};
 ghost use Rattle.mac_report.specs.declared.tally.Tally.{Tally as TallyIs};
 
-use crate::file::{FileReport, Form};
+use crate::file::FileReport;
 use crate::row::read_row;
 use crate::tally::Tally;
 use cfm_members::{Containers, Contents};
+use mac_rows::OutputFormat;
 use pef_ports::{Page, Sink, StreamFault};
 use std::alloc::Allocator;
 
@@ -31,7 +32,7 @@ fn print_contents<A: Allocator + Copy, W: Sink>(
     alloc: A,
     out: &mut W,
     page: &mut Page,
-    form: Form,
+    form: OutputFormat,
     contents: Contents<'_>,
 ) -> Result<Tally, StreamFault>
     ensures { (text : List ℕ) × (tally : TallyIs)

@@ -1,33 +1,26 @@
 ghost use Rattle.std.specs.Prelude.{◌≡◌, ◌++◌, IfOk, List, ℕ, codes, length, option_map};
-ghost use Rattle.mac_report.specs.MacParts.{wrapping_of};
-ghost use Rattle.pef_words.specs.Refusals.{result_map};
 ghost use Rattle.pef_ports.specs.Sent.{Sends};
-ghost use Rattle.pef_report.specs.declared.frames.Counts.{Counts as CountsAre};
-ghost use Rattle.pef_report.specs.Objects.{separator};
+ghost use Rattle.pef_rows.specs.declared.frames.Counts.{Counts as CountsAre};
+ghost use Rattle.pef_rows.specs.Objects.{separator};
+ghost use Rattle.mac_rows.specs.Faults.{faults_of};
+ghost use Rattle.mac_rows.specs.FileNotes.{notes_of};
+ghost use Rattle.mac_rows.specs.Unread.{unread_counts, unread_text};
+ghost use Rattle.mac_rows.specs.Views.{data_file_seen};
 ghost use Rattle.mac_report.specs.Containers.{total};
-ghost use Rattle.mac_report.specs.DataFiles.{scene_in, whole_scene};
-ghost use Rattle.mac_report.specs.Faults.{faults_of};
-ghost use Rattle.mac_report.specs.FileNotes.{notes_of};
-ghost use Rattle.mac_report.specs.Reports.{IsReport, IsWhole, beginning, end_text, first_line, fork_lines_of, fork_objects_of, head_text, json_end, json_head, kind_word, scene_text, skipped_note, skipped_object, skipped_text, text_end, text_head, unread_counts, unread_text};
-ghost use Rattle.mac_report.specs.Views.{data_file_seen, scene_seen, shown_seen, wrapping_seen};
+ghost use Rattle.mac_report.specs.Reports.{IsReport, IsWhole, beginning, end_text, first_line, head_text, json_end, json_head, kind_word, skipped_note, skipped_object, skipped_text, text_end, text_head};
+ghost use Rattle.mac_report.specs.Views.{shown_seen};
 
 use crate::containers::print_containers;
-use crate::data_file::{
-    DataFile, PairedHead, members_fork, print_paired_line, print_paired_object,
-};
-use crate::faults::find_faults;
-use crate::file_finding::{FileFinding, none_of, print_findings};
-use crate::file_notes::find_notes;
-use crate::fragments::print_fragments;
-use crate::record::{print_record_line, print_record_member};
-use crate::resource_row::print_resources;
-use crate::scene::{Found, Scene};
 use crate::tally::Tally;
-use crate::unread::{UNREAD_COUNTS, UnreadFile};
-use crate::wrapping::{Wrapping, resources_in};
-use cfm_members::{FileKind, readable};
+use cfm_members::FileKind;
+use mac_rows::{
+    DataFile, FileFinding, OutputFormat, PairedHead, UNREAD_COUNTS, UnreadFile, find_faults,
+    find_notes, none_of, print_findings, print_fork_lines, print_fork_objects, print_members,
+    print_paired_line, print_paired_object, print_record_line, print_record_member,
+    print_resources,
+};
 use pef_ports::{FileReason, Page, Sink, StreamFault, send};
-use pef_report::{
+use pef_rows::{
     Counts, Token, print_counts, print_file_line, print_file_object, print_separator, print_tokens,
 };
 use std::alloc::{AllocError, Allocator};
@@ -36,15 +29,6 @@ use std::alloc::{AllocError, Allocator};
 const SKIPPED_START: &[u8] =
     b"{\"number\":115,\"name\":\"ContainersUnverified\",\"part\":null,\"row\":null,\"field\":null,\"offset\":null,\"containers\":";
 
-/// How a report is printed.
-#[derive(Clone, Copy, Debug, PartialEq, Eq)]
-pub enum Form {
-    /// Lines of text.
-    Text,
-    /// An object of JSON on a line of its own.
-    Json,
-}
-
 /// What was found in a file besides its containers.
 #[derive(Drop)]
 pub(crate) struct FoundIn<A: Allocator> {
@@ -52,7 +36,7 @@ pub(crate) struct FoundIn<A: Allocator> {
     notes: Vec<FileFinding, A>,
 }
 
-/// What is shown of it.
+/// The errors and notes of a file besides those of its containers, as they are printed.
 #[derive(Clone, Copy)]
 pub(crate) struct Shown<'f> {
     pub errors: &'f [FileFinding],
@@ -74,7 +58,7 @@ impl<A: Allocator + Copy> FoundIn<A> {
         })
     }
 
-    /// Returns what is shown.
+    /// Returns the errors and notes as they are printed.
     pub(crate) fn shown(&self) -> Shown<'_>
         ensures { shown_seen result ≡ record { errors = self.now.errors.items; notes = self.now.notes.items } }
     {
@@ -97,7 +81,7 @@ impl<'f> Shown<'f> {
 /// The report on a file that was read.
 #[derive(Clone, Copy, Debug)]
 pub struct FileReport<'a> {
-    pub form: Form,
+    pub form: OutputFormat,
     pub path: &'a [u8],
     pub bytes: &'a [u8],
     /// The file that has the data fork, if this one has the resource fork alone. The offsets of containers in the data fork
@@ -176,8 +160,8 @@ impl<'a> FileReport<'a> {
         ensures { Sends result (W.stream out.old) (W.stream out.new) page.old.items page.new.items (head_text self.entry.form self.entry.path.now self.entry.bytes.now (option_map data_file_seen self.entry.data_file) (shown_seen found.entry)) }
     {
         match self.form {
-            Form::Text => self.print_text_head(out, page, found),
-            Form::Json => self.print_json_head(out, page),
+            OutputFormat::Text => self.print_text_head(out, page, found),
+            OutputFormat::Json => self.print_json_head(out, page),
         }
     }
 
@@ -193,10 +177,10 @@ impl<'a> FileReport<'a> {
         self.print_first_line(out, page)?;
         print_fork_lines(out, page, self.bytes)?;
         print_record_line(out, page, self.bytes)?;
-        print_resources(out, page, Form::Text, self.bytes)?;
-        print_members(out, page, Form::Text, self.bytes, self.data_file)?;
-        print_findings(out, page, Form::Text, found.errors)?;
-        print_findings(out, page, Form::Text, found.notes)
+        print_resources(out, page, OutputFormat::Text, self.bytes)?;
+        print_members(out, page, OutputFormat::Text, self.bytes, self.data_file)?;
+        print_findings(out, page, OutputFormat::Text, found.errors)?;
+        print_findings(out, page, OutputFormat::Text, found.notes)
     }
 
     /// Prints the first line.
@@ -231,9 +215,9 @@ impl<'a> FileReport<'a> {
         print_fork_objects(out, page, self.bytes)?;
         print_record_member(out, page, self.bytes)?;
         send(out, page, b",\"resources\":[")?;
-        print_resources(out, page, Form::Json, self.bytes)?;
+        print_resources(out, page, OutputFormat::Json, self.bytes)?;
         send(out, page, b"],\"fragments\":[")?;
-        print_members(out, page, Form::Json, self.bytes, self.data_file)?;
+        print_members(out, page, OutputFormat::Json, self.bytes, self.data_file)?;
         send(out, page, b"],\"containers\":[")
     }
 
@@ -258,96 +242,19 @@ impl<'a> FileReport<'a> {
     }
 }
 
-/// Prints a line for each fork of a file.
-fn print_fork_lines<W: Sink>(out: &mut W, page: &mut Page, bytes: &[u8]) -> Result<(), StreamFault>
-    ensures { Sends result (W.stream out.old) (W.stream out.new) page.old.items page.new.items (fork_lines_of (wrapping_of bytes.now)) }
-{
-    let wrapping = Wrapping::of(bytes);
-    wrapping.forks().print_lines(out, page)
-}
-
-/// Prints an object for each fork of a file.
-fn print_fork_objects<W: Sink>(
-    out: &mut W,
-    page: &mut Page,
-    bytes: &[u8],
-) -> Result<(), StreamFault>
-    ensures { Sends result (W.stream out.old) (W.stream out.new) page.old.items page.new.items (fork_objects_of (wrapping_of bytes.now)) }
-{
-    let wrapping = Wrapping::of(bytes);
-    wrapping.forks().print_objects(out, page)
-}
-
-/// Prints the members of the table of fragments of a file.
-fn print_members<W: Sink>(
-    out: &mut W,
-    page: &mut Page,
-    form: Form,
-    bytes: &[u8],
-    data_file: Option<DataFile<'_>>,
-) -> Result<(), StreamFault>
-    ensures { Sends result (W.stream out.old) (W.stream out.new) page.old.items page.new.items (scene_text form (scene_in (option_map data_file_seen data_file.entry) (wrapping_of bytes.now))) }
-{
-    let wrapping = Wrapping::of(bytes);
-    print_scene(out, page, form, scene_in(data_file, wrapping))
-}
-
-/// Returns the table of fragments of a file, if it can be read.
-pub(crate) fn scene_in<'a>(
-    data_file: Option<DataFile<'a>>,
-    wrapping: Wrapping<'a>,
-) -> Option<Scene<'a>>
-    ensures { option_map scene_seen result ≡ scene_in (option_map data_file_seen data_file.entry) (wrapping_seen wrapping.entry) }
-{
-    let part = readable(wrapping.resource_fork)?;
-    match resources_in(part) {
-        Some(Ok(fork)) => whole_scene(Scene::read(
-            members_fork(data_file, wrapping.data_fork),
-            part.offset as u64,
-            fork,
-        )),
-        Some(Err(_)) | None => None,
-    }
-}
-
-/// Returns a table of fragments without its error.
-fn whole_scene<'a>(scene: Option<Result<Scene<'a>, Found>>) -> Option<Scene<'a>>
-    ensures { option_map scene_seen result ≡ whole_scene (option_map (result_map scene_seen) scene.entry) }
-{
-    match scene {
-        Some(Ok(scene)) => Some(scene),
-        Some(Err(_)) | None => None,
-    }
-}
-
-/// Prints the members of a table of fragments, if there is one.
-fn print_scene<W: Sink>(
-    out: &mut W,
-    page: &mut Page,
-    form: Form,
-    scene: Option<Scene<'_>>,
-) -> Result<(), StreamFault>
-    ensures { Sends result (W.stream out.old) (W.stream out.new) page.old.items page.new.items (scene_text form (option_map scene_seen scene.entry)) }
-{
-    match scene {
-        Some(scene) => print_fragments(out, page, form, scene),
-        None => print_tokens(out, page, &[]),
-    }
-}
-
 /// Prints what comes after the containers.
 fn print_end<W: Sink>(
     out: &mut W,
     page: &mut Page,
-    form: Form,
+    form: OutputFormat,
     found: Shown<'_>,
     tally: Tally,
 ) -> Result<(), StreamFault>
     ensures { Sends result (W.stream out.old) (W.stream out.new) page.old.items page.new.items (end_text form (shown_seen found.entry) tally) }
 {
     match form {
-        Form::Text => print_text_end(out, page, tally.turn.skipped, found.total(tally)),
-        Form::Json => print_json_end(out, page, found, tally.turn.skipped),
+        OutputFormat::Text => print_text_end(out, page, tally.turn.skipped, found.total(tally)),
+        OutputFormat::Json => print_json_end(out, page, found, tally.turn.skipped),
     }
 }
 
@@ -374,9 +281,9 @@ pub(crate) fn print_json_end<W: Sink>(
     ensures { Sends result (W.stream out.old) (W.stream out.new) page.old.items page.new.items (json_end (shown_seen found.entry) skipped) }
 {
     send(out, page, b"],\"errors\":[")?;
-    print_findings(out, page, Form::Json, found.errors)?;
+    print_findings(out, page, OutputFormat::Json, found.errors)?;
     send(out, page, b"],\"notes\":[")?;
-    print_findings(out, page, Form::Json, found.notes)?;
+    print_findings(out, page, OutputFormat::Json, found.notes)?;
     print_skipped_note(out, page, none_of(found.notes), skipped)?;
     send(out, page, b"]}\n")
 }
@@ -400,7 +307,8 @@ fn print_skipped<W: Sink>(out: &mut W, page: &mut Page, skipped: u64) -> Result<
     )
 }
 
-/// Prints this note as an object of JSON, if there are such containers. A comma comes before it, unless it is the first note.
+/// Prints the note that some containers weren't inspected as an object of JSON, if there are such. A comma comes before it,
+/// unless it is the first note.
 #[tactic(auto, unfolding(crate::specs::Reports::skipped_note))]
 fn print_skipped_note<W: Sink>(
     out: &mut W,
@@ -416,7 +324,8 @@ fn print_skipped_note<W: Sink>(
     print_skipped_element(out, page, is_first, skipped)
 }
 
-/// Prints this object, after a comma unless it is the first note.
+/// Prints the object of the note that some containers weren't inspected, after a comma unless it is the
+/// first note.
 fn print_skipped_element<W: Sink>(
     out: &mut W,
     page: &mut Page,
@@ -429,7 +338,7 @@ fn print_skipped_element<W: Sink>(
     print_skipped_object(out, page, skipped)
 }
 
-/// Prints this object.
+/// Prints the object of the note that some containers weren't inspected.
 #[tactic(auto, unfolding(crate::specs::Reports::skipped_object))]
 fn print_skipped_object<W: Sink>(
     out: &mut W,

@@ -1,8 +1,8 @@
 //! A report in memory.
 ghost use Rattle.std.specs.Prelude.{◌≡◌, IfOk, option_map};
-ghost use Rattle.pef_report.specs.declared.frames.Counts.{Counts as CountsAre};
+ghost use Rattle.pef_rows.specs.declared.frames.Counts.{Counts as CountsAre};
+ghost use Rattle.mac_rows.specs.Views.{data_file_seen};
 ghost use Rattle.mac_report.specs.Reports.{IsReport};
-ghost use Rattle.mac_report.specs.Views.{data_file_seen};
 
 use crate::file::FileReport;
 use pef_ports::{Page, StreamFault, Text, flush};

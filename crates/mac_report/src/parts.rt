@@ -1,15 +1,15 @@
-//! The report on a file in parts, for those who show it.
+//! The report on a file in parts, for programs that show it part by part.
 ghost use Rattle.std.specs.Prelude.{◌≡◌, IfOk, List, OnOk, ℕ, option_map};
 ghost use Rattle.pef_ports.specs.Sent.{Prints};
+ghost use Rattle.mac_rows.specs.Views.{data_file_seen};
 ghost use Rattle.mac_report.specs.Parts.{IsContainerText, IsExcerpt, IsPartText};
 ghost use Rattle.mac_report.specs.Reports.{found_of, json_end};
-ghost use Rattle.mac_report.specs.Views.{data_file_seen};
 
-use crate::data_file::DataFile;
-use crate::file::{FileReport, Form, FoundIn, print_json_end};
+use crate::file::{FileReport, FoundIn, print_json_end};
 use crate::row::read_row;
 use crate::turn::Turn;
 use cfm_members::Contents;
+use mac_rows::{DataFile, OutputFormat};
 use pef_format::Part;
 use pef_ports::{Page, Sink, StreamFault, Text, flush};
 use pef_report::{RowRange, print_row_range};
@@ -32,8 +32,8 @@ pub enum ReportPart<'a> {
         place: usize,
         turn: Turn,
     },
-    /// The beginning of this object, as an object: at most so many rows of each kind, no instructions, and of the errors and notes
-    /// in their order the first so many.
+    /// The beginning of a container's object, as an object: at most so many rows of each kind, no instructions, and of the errors
+    /// and notes in their order the first so many.
     Excerpt {
         bytes: &'a [u8],
         place: usize,
@@ -91,7 +91,7 @@ impl<'a> ReportPart<'a> {
                 data_file,
             } => {
                 let report = FileReport {
-                    form: Form::Json,
+                    form: OutputFormat::Json,
                     path,
                     bytes,
                     data_file,
@@ -158,7 +158,12 @@ fn print_container<A: Allocator + Copy, W: Sink>(
 {
     let contents = Contents::of(container.bytes);
     let row = read_row(alloc, contents, container.place, container.turn);
-    row.print(out, page, Form::Json, container.turn.containers == 0)
+    row.print(
+        out,
+        page,
+        OutputFormat::Json,
+        container.turn.containers == 0,
+    )
 }
 
 /// Prints the beginning of a container.

@@ -2,17 +2,18 @@
 ghost use Rattle.std.specs.Prelude.{◌≡◌, ◌++◌};
 ghost use Rattle.pef_ports.specs.Sent.{Sends};
 ghost use Rattle.pef_report.specs.Views.{inspected};
-ghost use Rattle.pef_report.specs.Objects.{separator};
+ghost use Rattle.pef_rows.specs.Objects.{separator};
 ghost use Rattle.mac_report.specs.Containers.{IsInspected, IsRow, errors_in, inspected_object, inspected_text, lacking_line, lacking_object, lacking_text, notes_in, row_text};
 ghost use Rattle.mac_report.specs.Parts.{excerpt_text};
 ghost use Rattle.mac_report.specs.Views.{row_seen};
 
-use crate::file::Form;
 use crate::turn::Turn;
 use cfm_members::Contents;
+use mac_rows::OutputFormat;
 use pef_inspect::Limits;
 use pef_ports::{Page, Sink, StreamFault};
-use pef_report::{Inspection, Token, print_separator, print_tokens};
+use pef_report::Inspection;
+use pef_rows::{Token, print_separator, print_tokens};
 use std::alloc::{AllocError, Allocator};
 
 /// The rest of the object of a container whose inspection lacks memory.
@@ -62,7 +63,7 @@ impl<'a, A: Allocator + Copy> Row<'a, A> {
         &self,
         out: &mut W,
         page: &mut Page,
-        form: Form,
+        form: OutputFormat,
         is_first: bool,
     ) -> Result<(), StreamFault>
         ensures { Sends result (W.stream out.old) (W.stream out.new) page.old.items page.new.items (row_text form is_first (row_seen self.now)) }
@@ -116,15 +117,15 @@ impl<'a, A: Allocator + Copy> Row<'a, A> {
 fn print_inspected<A: Allocator + Copy, W: Sink>(
     out: &mut W,
     page: &mut Page,
-    form: Form,
+    form: OutputFormat,
     is_first: bool,
     inspection: &Inspection<'_, A>,
 ) -> Result<(), StreamFault>
     ensures { Sends result (W.stream out.old) (W.stream out.new) page.old.items page.new.items (inspected_text form is_first (inspected inspection.now)) }
 {
     match form {
-        Form::Text => inspection.print(out, page),
-        Form::Json => print_inspected_object(out, page, is_first, inspection),
+        OutputFormat::Text => inspection.print(out, page),
+        OutputFormat::Json => print_inspected_object(out, page, is_first, inspection),
     }
 }
 
@@ -145,19 +146,19 @@ fn print_inspected_object<A: Allocator + Copy, W: Sink>(
 fn print_lacking<W: Sink>(
     out: &mut W,
     page: &mut Page,
-    form: Form,
+    form: OutputFormat,
     is_first: bool,
     at: u64,
 ) -> Result<(), StreamFault>
     ensures { Sends result (W.stream out.old) (W.stream out.new) page.old.items page.new.items (lacking_text form is_first at) }
 {
     match form {
-        Form::Text => print_lacking_line(out, page, at),
-        Form::Json => print_lacking_object(out, page, is_first, at),
+        OutputFormat::Text => print_lacking_line(out, page, at),
+        OutputFormat::Json => print_lacking_object(out, page, is_first, at),
     }
 }
 
-/// Prints this error as a line.
+/// Prints the error of a container whose inspection lacks memory, as a line.
 #[tactic(auto, unfolding(crate::specs::Containers::lacking_line))]
 fn print_lacking_line<W: Sink>(out: &mut W, page: &mut Page, at: u64) -> Result<(), StreamFault>
     ensures { Sends result (W.stream out.old) (W.stream out.new) page.old.items page.new.items (lacking_line at) }
@@ -173,7 +174,7 @@ fn print_lacking_line<W: Sink>(out: &mut W, page: &mut Page, at: u64) -> Result<
     )
 }
 
-/// Prints the object of a container whose only row is this error.
+/// Prints the object of a container whose only row is the error that its inspection lacks memory.
 fn print_lacking_object<W: Sink>(
     out: &mut W,
     page: &mut Page,
@@ -186,7 +187,7 @@ fn print_lacking_object<W: Sink>(
     print_lacking_fields(out, page, at)
 }
 
-/// Prints this object.
+/// Prints the fields of the object of a container whose inspection lacks memory.
 #[tactic(auto, unfolding(crate::specs::Containers::lacking_object))]
 fn print_lacking_fields<W: Sink>(out: &mut W, page: &mut Page, at: u64) -> Result<(), StreamFault>
     ensures { Sends result (W.stream out.old) (W.stream out.new) page.old.items page.new.items (lacking_object at) }

@@ -4,7 +4,7 @@ ghost use Rattle.mac_report.specs.Views.{row_seen};
 
 use crate::row::Row;
 use crate::turn::Turn;
-use pef_report::Counts;
+use pef_rows::Counts;
 use std::alloc::Allocator;
 
 /// What was counted of the containers of a file so far. The counts stay at the greatest number of 64 bits.

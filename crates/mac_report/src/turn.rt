@@ -101,7 +101,7 @@ fn cost(rest: &[u8]) -> u64
     headers_cost(rest) + loader_length(rest)
 }
 
-/// Returns what it takes for the headers.
+/// Returns what the inspection takes from the budget for the headers of the container and its sections.
 #[tactic(auto, unfolding(crate::specs::Containers::headers_cost))]
 fn headers_cost(rest: &[u8]) -> u64
     ensures value { result ≡ headers_cost rest.now }

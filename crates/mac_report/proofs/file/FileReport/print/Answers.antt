@@ -1,6 +1,6 @@
 -- An allocation may fail before the report.
 use Rattle.std.proofs.Common.{codes, inr, refl}
-use Rattle.mac_report.specs.Reports.{unread_counts, unread_text}
+use Rattle.mac_rows.specs.Unread.{unread_counts, unread_text}
 use Rattle.mac_report.proofs.file.FileReport.print.Goals as goal
 
 pub returns-in-Err : goal.returns-in-Err

@@ -3,9 +3,10 @@ use Rattle.std.proofs.Common.{◌++◌, ◌∙◌, ap, length, option_map, refl,
 use Rattle.cfm_members.specs.Search.{containers_in}
 use Rattle.pef_ports.specs.Sent.{Prints, StopsShort}
 use Rattle.pef_ports.proofs.Laws.Sending.{Prints-then, Sends-short, StopsShort-longer, StopsShort-then}
+use Rattle.mac_rows.specs.Views.{data_file_seen}
 use Rattle.mac_report.specs.Containers.{fresh_tally, total}
 use Rattle.mac_report.specs.Reports.{IsWhole, end_text, head_text}
-use Rattle.mac_report.specs.Views.{data_file_seen, shown_seen}
+use Rattle.mac_report.specs.Views.{shown_seen}
 use Rattle.mac_report.specs.declared.tally.Tally.{Tally}
 use Rattle.mac_report.proofs.ContainerLemmas.{no_value, some_walk}
 use Rattle.mac_report.proofs.file.FileReport.print_whole.Goals as goal

@@ -1,6 +1,0 @@
-use Rattle.mac_report.specs.Fragments.{fragment_place}
-use Rattle.mac_report.proofs.fragments.Fragment.print_place.Goals as goal
-
-pub returns : goal.returns
-unfolding fragment_place
-returns g c = rw (c.from.ensures, c.from-2.ensures, c.from-3.ensures, c.name_of.ensures, c.number_or_null.ensures) at c.print_tokens.ensures

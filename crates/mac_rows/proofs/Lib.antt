@@ -1,0 +1,2 @@
+mod FragmentLemmas
+mod ResourceLemmas

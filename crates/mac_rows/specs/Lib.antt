@@ -1,0 +1,13 @@
+pub mod DataFiles
+pub mod Faults
+pub mod FileFindings
+pub mod FileNotes
+pub mod Forks
+pub mod Founds
+pub mod Fragments
+pub mod MacParts
+pub mod Records
+pub mod ResourceRows
+pub mod Sums
+pub mod Unread
+pub mod Views
