@@ -1,9 +1,5 @@
-mod Filling
-mod KeptLemmas
-mod MacFilling
-mod MissingLemmas
-mod NumberLemmas
-mod PartLemmas
+mod ContainerProofs
+mod ContextProofs
 mod Pointers
+mod RowLemmas
 mod WalkSteps
-mod WrittenLemmas

@@ -9,8 +9,8 @@ use Rattle.std.specs.declared.alloc.Global.{Global}
 use Rattle.std.specs.contracts.impls.GlobalAllocator.TheImpl.{ghosts}
 use Rattle.cfm_prepare.specs.contracts.context.Context as context
 use Rattle.cfm_prepare.specs.Contexts.{ContextState}
-use Rattle.pef_c.specs.contracts.unread.Unread as unread
-use Rattle.pef_c.specs.declared.unread.Unread.{Unread}
+use Rattle.pef_c.specs.contracts.reports.unread.Unread as unread
+use Rattle.pef_c.specs.declared.reports.unread.Unread.{Unread}
 
 -- a value on the heap, with the right to free its block; or nothing
 abbrev pub boxed : (R : RattleType) → Ptr → Option R.Denot → Fml

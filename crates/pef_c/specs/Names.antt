@@ -15,7 +15,7 @@ library_name number =
     else if number == 206 then Some (codes "BadOptions")
     else None
 
--- their help
+-- the help of this library's own numbers
 unfoldable pub library_help : ℕ → Option (List ℕ)
 library_help number =
     if number == 200 then Some (codes "The buffer for the result is too small. Call again with a buffer of the length that was stored.")

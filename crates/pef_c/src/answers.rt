@@ -1,8 +1,7 @@
 //! The numbers that calls return, and copying into the caller's buffer.
 ghost use Rattle.std.specs.Prelude.{◌≡◌, ◌==◌, false};
 ghost use Rattle.std.specs.Option.{option_copied};
-ghost use Rattle.pef_c.specs.Buffers.{IsCopied};
-ghost use Rattle.pef_c.specs.Reading.{CopiesOut};
+ghost use Rattle.pef_c.specs.Buffers.{CopiesOut, IsCopied};
 ghost use Rattle.pef_listing.specs.Faults as listing;
 ghost use Rattle.pef_loader.specs.Faults as loader;
 ghost use Rattle.pef_pidata.specs.Faults as pidata;
@@ -30,8 +29,8 @@ pub(crate) const NOT_OPEN: u32 = 202;
 /// The options have another size than this library's struct.
 pub(crate) const BAD_OPTIONS: u32 = 206;
 
-/// Returns the bytes that C passed. If there are none, C may have passed a null pointer, which no slice has: then the
-/// slice of no bytes.
+/// Returns the bytes that C passed, or the empty slice if there are none: C may then have passed a null pointer, which no slice
+/// has.
 pub(crate) fn given<'a>(bytes: &'a [u8]) -> &'a [u8]
     ensures { result.now ≡ bytes.entry.now }
 {

@@ -28,7 +28,7 @@ pub struct PefPlace {
 #[derive(Clone, Copy, Debug, PartialEq, Eq)]
 pub struct PefFinding {
     pub place: PefPlace,
-    /// The offset of a word in its section, or a count of bytes. 0 if the error or the note is about neither.
+    /// The offset of a word in its section, a number of bytes, or a number of sections. 0 for others.
     pub detail: u64,
     pub number: u32,
     pub is_error: bool,

@@ -1,5 +1,7 @@
 //! Laws: the number of each refusal and of each note has its name. The functions do nothing.
 ghost use Rattle.std.specs.Prelude.{◌≡◌, Some};
+ghost use Rattle.cfm_memory.specs.Faults.{granule_fault_name, granule_fault_number};
+ghost use Rattle.cfm_prepare.specs.Faults.{add_fault_name, add_fault_number, close_fault_name, close_fault_number};
 ghost use Rattle.pef_inspect.specs.Findings.{finding_name, finding_number};
 ghost use Rattle.pef_listing.specs.Faults as listing;
 ghost use Rattle.pef_loader.specs.Faults as loader;
@@ -8,6 +10,8 @@ ghost use Rattle.pef_script.specs.Text.Faults as script;
 ghost use Rattle.pef_views.specs.Faults as views;
 ghost use Rattle.pef_c.specs.Names.{name_of};
 
+use cfm_memory::GranuleFault;
+use cfm_prepare::{AddFault, CloseFault};
 use pef_inspect::Finding;
 use pef_listing::ListFault;
 use pef_loader::LoaderFault;
@@ -49,4 +53,22 @@ pub fn script_names(fault: LineFault)
 #[tactic(auto, unfolding(pef_refusals::specs::Names::container_name, pef_refusals::specs::Names::loader_name, pef_refusals::specs::Names::packed_name, pef_refusals::specs::Names::relocation_name, pef_refusals::specs::Names::port_name, pef_refusals::specs::Names::note_name))]
 pub fn finding_names(finding: Finding)
     ensures { name_of (finding_number finding) ≡ Some (finding_name finding) }
+{}
+
+/// The number of a fragment's refusal by a context has its name.
+#[tactic(auto, unfolding(pef_refusals::specs::Names::port_name, crate::specs::Names::library_name))]
+pub fn add_names(fault: AddFault)
+    ensures { name_of (add_fault_number fault) ≡ Some (add_fault_name fault) }
+{}
+
+/// The number of a refused closing has its name.
+#[tactic(auto, unfolding(pef_refusals::specs::Names::closure_name))]
+pub fn close_names(fault: CloseFault)
+    ensures { name_of (close_fault_number fault) ≡ Some (close_fault_name fault) }
+{}
+
+/// The number of what is no granule has its name.
+#[tactic(auto, unfolding(crate::specs::Names::library_name))]
+pub fn granule_names(fault: GranuleFault)
+    ensures { name_of (granule_fault_number fault) ≡ Some (granule_fault_name fault) }
 {}

@@ -1,8 +1,0 @@
--- The loader section that was read is the one whose header is given.
-use Rattle.std.proofs.Common.{◌∙◌, ap}
-use Rattle.pef_loader.specs.PartialViews.{partly_loaded}
-use Rattle.pef_c.specs.Loaders.{loader_given}
-use Rattle.pef_c.proofs.partial.pef_partial_loader.Goals as goal
-
-pub returns : goal.returns
-returns c = (partly_loaded c.in-Ok.loader, c.in-Ok.ensures.reads, c.loader_given.ensures ∙ ap loader_given c.header-header.ensures)

@@ -1,0 +1,3 @@
+pub mod Forks
+pub mod Parts
+pub mod Rows

@@ -1,9 +1,0 @@
--- Places that are filled with findings, one after the other.
-use Rattle.std.specs.Prelude.{List, ◌++◌, drop}
-use Rattle.pef_c.specs.Told.{told_items}
-use Rattle.pef_c.specs.declared.findings.Filling.{Filling}
-use Rattle.pef_c.specs.declared.structs.PefFinding.{PefFinding}
-
--- what was in the places before any was filled
-abbrev pub start_of : Filling → List PefFinding
-start_of f = told_items f.were ++ drop f.count f.places.now

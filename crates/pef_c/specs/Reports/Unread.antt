@@ -1,0 +1,13 @@
+-- What is left of a text that is read part by part.
+use Rattle.std.specs.Prelude.{ℕ, List, drop}
+use Rattle.pef_listing.specs.Left.{text_left}
+use Rattle.pef_c.specs.declared.reports.unread.MadeBytes.{MadeBytes}
+use Rattle.pef_c.specs.declared.reports.unread.Unread.{Unread}
+use Rattle.pef_c.specs.declared.reports.unread.Unread.TheVariants.{Lines, Bytes}
+
+abbrev pub made_left : MadeBytes → List ℕ
+made_left m = drop m.read m.bytes.items
+
+abbrev pub unread_text : Unread → List ℕ
+unread_text (Lines reader) = text_left reader
+unread_text (Bytes made) = made_left made

@@ -1,0 +1,105 @@
+//! What a relocation program adds to which words. The container is read anew, and nothing is allocated.
+ghost use Rattle.std.specs.Prelude.{◌≡◌};
+ghost use Rattle.pef_loader.specs.Loader.{reloc_of};
+ghost use Rattle.pef_loader.specs.Views.{loaded};
+ghost use Rattle.pef_reloc.specs.Traces.{addition_seen};
+ghost use Rattle.pef_reloc.specs.Unrolled.{program_fault};
+ghost use Rattle.pef_c.specs.Containers.Fixups.{FixupsAnswer, HeaderAnswer, ProgramAnswer, fixup_row, fixup_shown};
+
+use crate::answers::NOT_THERE;
+use crate::containers::loader::read_tables;
+use crate::fill::{Rows, fill_rows};
+use crate::structs::PefFixup;
+use pef_loader::Loader;
+use pef_reloc::{Addition, Fixups, Program, Source};
+
+/// A section or an import is added.
+const SECTION: u32 = 1;
+
+const IMPORT: u32 = 2;
+
+/// Reads the additions of a relocation header's program, from number `from` on, into the first places, and counts them.
+///
+/// Returns 0, or the number of the first refusal, or 201 if there is no such header.
+#[unsafe(no_mangle)]
+pub extern "C" fn pef_fixups(
+    container: &[u8],
+    header: usize,
+    from: usize,
+    places: &mut [PefFixup],
+    count: &mut usize,
+) -> u32
+    ensures { FixupsAnswer container.now header from places.old places.new count.old count.new result }
+{
+    let loader = match read_tables(container) {
+        Ok(loader) => loader,
+        Err(number) => return number,
+    };
+    read_header(loader, header, from, places, count)
+}
+
+/// Reads the additions of a relocation header's program.
+fn read_header(
+    loader: Loader<'_>,
+    header: usize,
+    from: usize,
+    places: &mut [PefFixup],
+    count: &mut usize,
+) -> u32
+    ensures { HeaderAnswer (reloc_of (loaded loader.entry) header) from places.old places.new count.old count.new result }
+{
+    match loader.reloc(header) {
+        Some((_, instructions)) => read_program(instructions, from, places, count),
+        None => NOT_THERE,
+    }
+}
+
+/// Reads the additions of a program.
+fn read_program(instructions: &[u8], from: usize, places: &mut [PefFixup], count: &mut usize) -> u32
+    ensures { ProgramAnswer (program_fault instructions.now) instructions.now from places.old places.new count.old count.new result }
+{
+    match Program::read(instructions) {
+        Ok(program) => {
+            *count = fill_rows(&mut program.fixups(), from, places);
+            0
+        }
+        Err(fault) => fault.number(),
+    }
+}
+
+impl<'a> Rows<PefFixup> for Fixups<'a> {
+    ghost use Rattle.std.specs.Prelude.{map};
+    ghost use Rattle.pef_reloc.specs.Left.{fixups_left};
+    ghost use Rattle.pef_c.specs.Containers.Fixups.{FixupRow, fixup_row, fixup_shown};
+
+    ghost Held = { FixupRow };
+
+    ghost shown = { fixup_shown };
+
+    ghost left = { λ r. map fixup_row (fixups_left r) };
+
+    fn take_row(&mut self) -> Option<PefFixup> {
+        match self.next() {
+            Some(addition) => Some(fixup_given(addition)),
+            None => None,
+        }
+    }
+}
+
+/// Returns an addition as C sees it.
+fn fixup_given(addition: Addition) -> PefFixup
+    ensures { fixup_shown result ≡ fixup_row (addition_seen addition) }
+{
+    match addition.source {
+        Source::Section(section) => PefFixup {
+            offset: addition.offset,
+            number: u64::from(section),
+            kind: SECTION,
+        },
+        Source::Import(import) => PefFixup {
+            offset: addition.offset,
+            number: import,
+            kind: IMPORT,
+        },
+    }
+}

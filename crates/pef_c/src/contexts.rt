@@ -1,0 +1,21 @@
+//! Contexts: fragments that are prepared in memory.
+
+mod connections;
+mod context;
+mod fragments;
+mod handle;
+mod missing;
+mod options;
+mod refusal_names;
+
+pub use connections::{pef_export_address, pef_import_target, pef_new_fragments, pef_released_by};
+pub use context::{
+    pef_add, pef_close, pef_free, pef_open, pef_prepare, pef_prepare_with_place, pef_reserve,
+};
+pub use fragments::{
+    pef_fragment_bytes, pef_fragment_entries, pef_fragment_name, pef_fragment_section,
+    pef_fragment_sections, pef_fragment_symbol, pef_fragments, pef_init_order, pef_is_present,
+};
+pub use handle::PefContext;
+pub use missing::pef_missing;
+pub use options::{PefOptions, pef_open_with, pef_version};
