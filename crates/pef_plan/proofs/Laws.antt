@@ -8,3 +8,5 @@ pub use Rattle.pef_plan.proofs.NameFacts.{least-names}
 pub use Rattle.pef_plan.proofs.Existence.{some_certificate}
 -- also for each least program
 pub use Rattle.pef_plan.proofs.Existence.{program_certificate}
+-- there is one planned program for some fixups, and it is least
+pub use Rattle.pef_plan.proofs.PlannedLemmas.{one_planned, planned_least}

@@ -2,6 +2,10 @@ pub mod Laws
 mod Existence
 mod FailedTests
 mod FillLemmas
+mod FirstLemmas
+mod SiftLemmas
+mod PickLemmas
+mod PlannedLemmas
 mod Leading
 mod ImportLemmas
 mod LineLemmas

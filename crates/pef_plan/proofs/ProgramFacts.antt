@@ -69,7 +69,7 @@ all-before : (P : Fixup → Type 0) (made left : List Fixup) → AllByRecursion 
 all-before P [] left all = tt
 all-before P (f ∷ made) left all = (all.0, all-before P made left all.1)
 
-tracked_planned : (k : SolvedSuffix) (p : PlanState) → Tracked k p → Planned (labels_tabled k) p.import_index p.left.now
+pub tracked_planned : (k : SolvedSuffix) (p : PlanState) → Tracked k p → Planned (labels_tabled k) p.import_index p.left.now
 tracked_planned k p t = record { world = tracked_world k p t; reached = t.reached; fit = t.fit }
 
 -- the place after a step has tables as well
@@ -179,7 +179,7 @@ read_start k p fit right t index in_place =
       near = omega (arith, most, at);
     }
 
-none_of : (fs : List Fixup) → length fs ≡ 0 → fs ≡ []
+pub none_of : (fs : List Fixup) → length fs ≡ 0 → fs ≡ []
 none_of [] e = refl
 none_of (f ∷ fs) e = absurd (omega (arith, e))
 

@@ -77,7 +77,7 @@ least_low x [] = omega arith
 least_low x (None ∷ os) = least_low x os
 least_low x (Some y ∷ os) = let low = least_low (min x y) os in omega (arith, low)
 
-moved_far : (ahead label : ℕ) (offer : Option ℕ) → moved_value ahead label offer ≤ 2 + label
+pub moved_far : (ahead label : ℕ) (offer : Option ℕ) → moved_value ahead label offer ≤ 2 + label
 moved_far ahead label offer = least_low (2 + label) (when (nat_le 1 ahead && nat_le ahead 4096) (Some (1 + label)) ∷ when (nat_le 4 ahead && nat_le ahead 1020 && ahead % 4 == 0) offer ∷ when (nat_le 1 ahead && nat_le ahead 5116) (plus 1 offer) ∷ [])
 
 late_low : (near_by skips_by : Bool) (label v : ℕ) → least_of (2 + label) (when near_by (Some (1 + label)) ∷ when skips_by (Some v) ∷ when true (plus 1 (Some v)) ∷ []) ≤ 1 + v

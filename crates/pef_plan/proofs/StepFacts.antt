@@ -1,5 +1,6 @@
 -- Steps from a place: the values at a fixup, and the proof that one of the steps that are tried leads on.
-use Rattle.std.proofs.Common.{◌≡◌, ℕ, ◌+◌, ◌<◌, ◌≤◌, ◌⊎◌, inl, inr, true, List, [], ◌∷◌, ◌++◌, length, slice_index, refl, ap, ap₂, sym, ◌∙◌, subst, arith, length-append}
+use Rattle.std.proofs.Common.{◌≡◌, ℕ, zero, suc, ◌+◌, ◌<◌, ◌≤◌, ◌⊎◌, inl, inr, true, List, [], ◌∷◌, ◌++◌, length, slice_index, refl, ap, ap₂, sym, ◌∙◌, subst, arith, length-append}
+use Rattle.std.specs.Prelude.{slice_index_or}
 use Rattle.pef_reloc.specs.declared.fixup.Fixup.{Fixup}
 use Rattle.pef_reloc.specs.declared.instr.Instr.{Instr}
 use Rattle.pef_reloc.specs.declared.instr.Instr.TheVariants.{BySectDWithSkip, BySectC, BySectD, TVector12, TVector8, VTable8, ImportRun, SmByImport, SmSetSectC, SmSetSectD, SmBySection, IncrPosition, SmRepeat, SetPosition, LgByImport, LgRepeat, LgBySection, LgSetSectC, LgSetSectD}
@@ -9,7 +10,7 @@ use Rattle.pef_cert.specs.Labels.{Labels, class_of}
 use Rattle.pef_cert.specs.Extension.{extension, extension_at}
 use Rattle.pef_cert.specs.Valid.{is_among}
 use Rattle.pef_cert.specs.LabelTests.{base_test}
-use Rattle.pef_cert.proofs.Laws.{NumberOf, World, class_of-below, class_of-index, class_of-other, extension-here, is_among-index, label-extension, tested, world-first}
+use Rattle.pef_cert.proofs.Laws.{NumberOf, World, class_of-below, class_of-index, class_of-other, class_of-same, extension-here, is_among-index, label-extension, tested, world-first}
 use Rattle.pef_plan.specs.declared.runs.suffix.SolvedSuffix.{SolvedSuffix}
 use Rattle.pef_plan.specs.declared.runs.state.PlanState.{PlanState}
 use Rattle.pef_plan.specs.declared.runs.state.OpenState.{OpenState}
@@ -30,6 +31,29 @@ section_there rs class s under = (class_of-index rs class s.rising under, s.belo
 
 pub section_free : (rs : List ℕ) → Sections rs → class_of rs most_sections ≡ length rs
 section_free rs s = class_of-other rs most_sections (false_from_ne_true (is_among rs most_sections) (λ among. let low = s.below most_sections among in omega (arith, low)))
+
+-- the number of the section for each class
+pub number_inside : (rs : List ℕ) (class : ℕ) → class < length rs → slice_index rs class ≡ slice_index_or rs class most_sections
+number_inside [] class under = absurd (omega (arith, under))
+number_inside (r ∷ rs) zero under = refl
+number_inside (r ∷ rs) (suc class) under = number_inside rs class (omega (arith, under))
+
+pub number_past : (rs : List ℕ) (class : ℕ) → length rs ≤ class → most_sections ≡ slice_index_or rs class most_sections
+number_past [] class past = refl
+number_past (r ∷ rs) zero past = absurd (omega (arith, past))
+number_past (r ∷ rs) (suc class) past = number_past rs class (omega (arith, past))
+
+pub number_is : (rs : List ℕ) (class : ℕ) → Sections rs → class < length rs + 1 → class_of rs (slice_index_or rs class most_sections) ≡ class
+number_is rs class s under =
+    elim (below_or class (length rs) under) [
+      | inl inside ↦ ap (class_of rs) (sym (number_inside rs class inside)) ∙ (section_there rs class s inside).0
+      | inr last ↦ ap (class_of rs) (sym (number_past rs class (omega (arith, last)))) ∙ (section_free rs s ∙ sym last)
+    ]
+
+-- the class of a section that is among the registers has it
+pub number_of_class : (rs : List ℕ) (section : ℕ) → Sections rs → class_of rs section < length rs → slice_index_or rs (class_of rs section) most_sections ≡ section
+number_of_class rs section s under =
+    class_of-same rs (slice_index_or rs (class_of rs section) most_sections) section (number_is rs (class_of rs section) s (omega (arith, under))) under
 
 pub section_is : (rs : List ℕ) (class : ℕ) → Sections rs → class < length rs → class_of rs (slice_index rs class) ≡ class
 section_is rs class s under = (section_there rs class s under).0

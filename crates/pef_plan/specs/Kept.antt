@@ -1,3 +1,4 @@
+pub mod Firsts
 pub mod Met
 pub mod Near
 pub mod Rows

@@ -2,9 +2,12 @@ ghost use Rattle.std.specs.Prelude.{◌≡◌, ◌+◌, ◌*◌, ◌<◌, ◌≤
 ghost use Rattle.pef_cert.specs.Extension.{extension};
 ghost use Rattle.pef_cert.specs.Labels.{Labels};
 ghost use Rattle.pef_cert.specs.LabelTests.{base_test, import_cost};
+ghost use Rattle.pef_plan.specs.Kept.Firsts.{SiftedOf};
+ghost use Rattle.pef_plan.specs.Planned.{additions_in_order, import_once};
 ghost use Rattle.pef_plan.specs.Runs.Places.{Chosen, HereOf};
 ghost use Rattle.pef_plan.specs.Runs.Tables.{Agrees};
 ghost use Rattle.pef_reloc.specs.declared.fixup.Base.TheVariants.{Import, Section};
+ghost use Rattle.pef_reloc.specs.declared.instr.Instr.TheVariants.{SmBySection};
 
 use crate::runs::{Choice, OpenState, PlanState, Run, SolvedSuffix, Sought, Step};
 use crate::section_runs::{Classed, best_in_c, best_in_d};
@@ -35,6 +38,7 @@ pub(crate) fn direct<'a>(known: SolvedSuffix<'a>, here: OpenState<'a>, label: u6
     requires here { HereOf known here }
     requires at { here.place.position ≡ here.first.offset }
     ensures chosen { Chosen known.entry here.entry result }
+    ensures first { SiftedOf known.entry here.entry label (additions_in_order here.entry.first.base) result }
     ensures least { (l : Labels) (value : ℕ) → Agrees l known.entry here.entry.others.now → value ≤ result.value → label < result.value → base_test l value here.entry.place.import_index here.entry.first here.entry.others.now here.entry.place.c here.entry.place.d here.entry.first.base ≡ true }
     ensures small { result.value ≤ 4 * length here.entry.others.now + 4 }
 {
@@ -54,6 +58,7 @@ fn direct_section<'a>(
     requires at { here.place.position ≡ here.first.offset }
     requires base { here.first.base ≡ Section section }
     ensures chosen { Chosen known.entry here.entry result }
+    ensures first { SiftedOf known.entry here.entry label (additions_in_order (Section section)) result }
     ensures least { (l : Labels) (value : ℕ) → Agrees l known.entry here.entry.others.now → value ≤ result.value → label < result.value → base_test l value here.entry.place.import_index here.entry.first here.entry.others.now here.entry.place.c here.entry.place.d (Section section) ≡ true }
     ensures small { result.value ≤ 4 * length here.entry.others.now + 4 }
 {
@@ -74,6 +79,7 @@ fn single_section<'a>(known: SolvedSuffix<'a>, here: OpenState<'a>, section: u32
     requires at { here.place.position ≡ here.first.offset }
     requires base { here.first.base ≡ Section section }
     ensures chosen { Chosen known.entry here.entry result }
+    ensures instr { result.step.instr ≡ SmBySection section }
     ensures value { (l : Labels) → Agrees l known.entry here.entry.others.now → result.value ≡ 1 + extension l here.entry.others.now (here.entry.first.offset + 4) here.entry.place.c here.entry.place.d }
     ensures small { result.value ≤ 4 * length here.entry.others.now + 4 }
 {
@@ -106,6 +112,7 @@ fn direct_import<'a>(
     requires at { here.place.position ≡ here.first.offset }
     requires base { here.first.base ≡ Import import }
     ensures chosen { Chosen known.entry here.entry result }
+    ensures first { SiftedOf known.entry here.entry label (additions_in_order (Import import)) result }
     ensures least { (l : Labels) (value : ℕ) → Agrees l known.entry here.entry.others.now → value ≤ result.value → label < result.value → base_test l value here.entry.place.import_index here.entry.first here.entry.others.now here.entry.place.c here.entry.place.d (Import import) ≡ true }
     ensures small { result.value ≤ 4 * length here.entry.others.now + 4 }
 {
@@ -123,6 +130,7 @@ fn single_import<'a>(known: SolvedSuffix<'a>, here: OpenState<'a>, import: u32) 
     requires at { here.place.position ≡ here.first.offset }
     requires base { here.first.base ≡ Import import }
     ensures chosen { Chosen known.entry here.entry result }
+    ensures instr { result.step.instr ≡ import_once import }
     ensures value { (l : Labels) → Agrees l known.entry here.entry.others.now → result.value ≡ import_cost import + extension l here.entry.others.now (here.entry.first.offset + 4) here.entry.place.c here.entry.place.d }
     ensures small { result.value ≤ 4 * length here.entry.others.now + 4 }
 {

@@ -20,6 +20,6 @@ pub use fault::PlanFault;
 pub use planner::{counted_plan, least_program, plan};
 pub use theorems::{
     certificates_exist, least_programs_are_short, least_programs_name_what_is_used,
-    reached_labels_are_least,
+    planned_programs_are_one, reached_labels_are_least,
 };
 pub use windows::Looks;

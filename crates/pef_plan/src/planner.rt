@@ -3,6 +3,7 @@ ghost use Rattle.pef_cert.specs.Valid.{RegistersOf, Valid, labels_of};
 ghost use Rattle.pef_plan.specs.declared.fault.PlanFault.TheVariants.{OutOfMemory};
 ghost use Rattle.pef_plan.specs.Exact.{Exact};
 ghost use Rattle.pef_plan.specs.Kept.Tables.{TablesOf};
+ghost use Rattle.pef_plan.specs.Planned.{Planned};
 ghost use Rattle.pef_reloc.specs.Fixups.{fixups_fit};
 ghost use Rattle.pef_reloc.specs.Steps.{Least};
 
@@ -18,7 +19,7 @@ use std::alloc::{AllocError, Global};
 use std::cell::Cell;
 
 /// Returns a program of the fewest halfwords that makes the fixups of a section. It is the one that [`plan`]
-/// returns, and takes far less memory: one byte for each label.
+/// returns: there is no other planned program. It takes far less memory: one byte for each label.
 ///
 /// # Errors
 ///
@@ -26,6 +27,7 @@ use std::cell::Cell;
 pub fn least_program(alloc: Global, fixups: &[Fixup]) -> Result<Vec<Instr>, PlanFault>
     requires fit { fixups_fit fixups.now ≡ true }
     ensures least { IfOk result (λ program. Least fixups.now program.items) }
+    ensures planned { IfOk result (λ program. Planned fixups.now program.items) }
     ensures fault { IfErr result (λ fault. fault ≡ OutOfMemory) }
 {
     let count = Cell::new(0);
@@ -42,6 +44,7 @@ pub fn plan(alloc: Global, section: u32, fixups: &[Fixup]) -> Result<Certificate
     requires fit { fixups_fit fixups.now ≡ true }
     ensures section { IfOk result (λ certificate. certificate.section ≡ section) }
     ensures valid { IfOk result (λ certificate. Valid fixups.now certificate) }
+    ensures planned { IfOk result (λ certificate. Planned fixups.now certificate.program) }
     ensures exact { IfOk result (λ certificate. Exact (labels_of certificate (length fixups.now)) fixups.now) }
     ensures fault { IfErr result (λ fault. fault ≡ OutOfMemory) }
 {
@@ -63,6 +66,7 @@ pub fn counted_plan(
     requires fit { fixups_fit fixups.now ≡ true }
     ensures section { IfOk result (λ certificate. certificate.section ≡ section) }
     ensures valid { IfOk result (λ certificate. Valid fixups.now certificate) }
+    ensures planned { IfOk result (λ certificate. Planned fixups.now certificate.program) }
     ensures exact { IfOk result (λ certificate. Exact (labels_of certificate (length fixups.now)) fixups.now) }
     ensures fault { IfErr result (λ fault. fault ≡ OutOfMemory) }
 {
@@ -94,6 +98,7 @@ fn solve(alloc: Global, fixups: &[Fixup], looks: Looks<'_>) -> Result<Solved, Al
     ensures registers { IfOk result (λ s. RegistersOf fixups.now s.registers.items) }
     ensures tables { IfOk result (λ s. TablesOf s.registers.items s.tables.labels s.tables.skips 0 fixups.now) }
     ensures least { IfOk result (λ s. Least fixups.now s.program.items) }
+    ensures planned { IfOk result (λ s. Planned fixups.now s.program.items) }
 {
     let registers = registers_of(alloc, fixups)?;
     let tables = fill(alloc, fixups, &registers, looks)?;

@@ -1,7 +1,9 @@
 ghost use Rattle.std.specs.Prelude.{◌≡◌, IfOk, true};
 ghost use Rattle.pef_cert.specs.Valid.{RegistersOf};
+ghost use Rattle.pef_plan.specs.Kept.Firsts.{Picks};
 ghost use Rattle.pef_plan.specs.Kept.Steps.{FallsOn, TrackedHere};
 ghost use Rattle.pef_plan.specs.Kept.Tables.{TablesOf};
+ghost use Rattle.pef_plan.specs.Planned.{Planned};
 ghost use Rattle.pef_reloc.specs.Fixups.{fixups_fit};
 ghost use Rattle.pef_reloc.specs.Steps.{Least};
 
@@ -20,7 +22,8 @@ pub(crate) fn read_program<'a>(
     requires fit { fixups_fit fixups.now ≡ true }
     requires registers { RegistersOf fixups.now known.registers.now }
     requires tables { TablesOf known.registers.now known.labels.now known.skips.now 0 fixups.now }
-    ensures { IfOk result (λ program. Least fixups.entry.now program.items) }
+    ensures least { IfOk result (λ program. Least fixups.entry.now program.items) }
+    ensures planned { IfOk result (λ program. Planned fixups.entry.now program.items) }
 {
     let mut program = Vec::new(alloc);
     let mut place = PlanState {
@@ -47,7 +50,8 @@ pub(crate) fn read_program<'a>(
 /// Returns the next step of a least program.
 fn next_step<'a>(known: SolvedSuffix<'a>, here: OpenState<'a>) -> Step<'a>
     requires here { TrackedHere known here }
-    ensures { FallsOn known.entry here.entry.place result }
+    ensures falls { FallsOn known.entry here.entry.place result }
+    ensures first { Picks known.entry here.entry.place result }
 {
     if here.place.position == u64::from(here.first.offset) {
         step_at(known, here)

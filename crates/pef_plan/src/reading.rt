@@ -1,4 +1,5 @@
 ghost use Rattle.std.specs.Prelude.{◌≡◌, ◌≢◌, ◌-◌, ◌/◌};
+ghost use Rattle.pef_plan.specs.Kept.Firsts.{NoMove, Picks};
 ghost use Rattle.pef_plan.specs.Kept.Steps.{FallsOn, SkipsTo, TrackedHere};
 ghost use Rattle.pef_reloc.specs.declared.fixup.Base.TheVariants.{Section};
 
@@ -13,7 +14,8 @@ use pef_reloc::Base;
 pub(crate) fn step_at<'a>(known: SolvedSuffix<'a>, here: OpenState<'a>) -> Step<'a>
     requires here { TrackedHere known here }
     requires at { here.place.position ≡ here.first.offset }
-    ensures { FallsOn known.entry here.entry.place result }
+    ensures falls { FallsOn known.entry here.entry.place result }
+    ensures first { Picks known.entry here.entry.place result }
 {
     let PlanState { left, c, d, .. } = here.place;
     let label = known.label(left.len(), c, d);
@@ -36,7 +38,8 @@ pub(crate) fn step_at<'a>(known: SolvedSuffix<'a>, here: OpenState<'a>) -> Step<
 pub(crate) fn step_to<'a>(known: SolvedSuffix<'a>, here: OpenState<'a>) -> Step<'a>
     requires here { TrackedHere known here }
     requires away { here.place.position ≢ here.first.offset }
-    ensures { FallsOn known.entry here.entry.place result }
+    ensures falls { FallsOn known.entry here.entry.place result }
+    ensures first { Picks known.entry here.entry.place result }
 {
     let place = here.place;
     let ahead = u64::from(here.first.offset).saturating_sub(place.position);
@@ -60,7 +63,8 @@ fn skip_to<'a>(known: SolvedSuffix<'a>, here: OpenState<'a>, ahead: u64) -> Step
     requires away { here.place.position ≢ here.first.offset }
     requires ahead { ahead ≡ here.first.offset - here.place.position }
     requires near { SkipsTo known here }
-    ensures { FallsOn known.entry here.entry.place result }
+    ensures falls { FallsOn known.entry here.entry.place result }
+    ensures first { NoMove known.entry here.entry → Picks known.entry here.entry.place result }
 {
     match here.first.base {
         Base::Section(section) => skip_words(known, here, ahead / WORD, section),
@@ -80,7 +84,8 @@ fn skip_words<'a>(
     requires words { words ≡ (here.first.offset - here.place.position) / 4 }
     requires near { SkipsTo known here }
     requires base { here.first.base ≡ Section section }
-    ensures { FallsOn known.entry here.entry.place result }
+    ensures falls { FallsOn known.entry here.entry.place result }
+    ensures first { NoMove known.entry here.entry → Picks known.entry here.entry.place result }
 {
     let class = class_of(known.registers, section);
     if class != here.place.d {

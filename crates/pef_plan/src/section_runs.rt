@@ -1,13 +1,15 @@
-ghost use Rattle.std.specs.Prelude.{◌≡◌, ◌==◌, ◌+◌, ◌*◌, ◌<◌, ◌≤◌, ◌∷◌, ℕ, length, true};
+ghost use Rattle.std.specs.Prelude.{◌≡◌, ◌==◌, ◌+◌, ◌++◌, ◌*◌, ◌<◌, ◌≤◌, ◌∷◌, ℕ, List, length, true};
 ghost use Rattle.pef_cert.specs.Labels.{Labels, class_of};
 ghost use Rattle.pef_plan.specs.declared.runs.state.OpenState.{OpenState};
 ghost use Rattle.pef_plan.specs.declared.runs.suffix.SolvedSuffix.{SolvedSuffix};
 ghost use Rattle.pef_plan.specs.Runs.Ends.{EndsAt};
 ghost use Rattle.pef_plan.specs.Runs.Runs.{Ends, Holds, NextBase, RunBegins, RunOf};
 ghost use Rattle.pef_plan.specs.Runs.Places.{Chosen, HereOf, Led, bound_of};
+ghost use Rattle.pef_plan.specs.Kept.Firsts.{SiftedOf, run_list, with_c, with_d, with_pairs};
 ghost use Rattle.pef_plan.specs.Kept.Met.{MetInC, MetInD, PairsMet};
 ghost use Rattle.pef_plan.specs.Runs.Tables.{Agrees};
 ghost use Rattle.pef_reloc.specs.declared.fixup.Base.TheVariants.{Section};
+ghost use Rattle.pef_reloc.specs.declared.instr.Instr.{Instr};
 
 use crate::runs::{OpenState, Run, RunEnds, SolvedSuffix, Sought};
 use pef_cert::has_class;
@@ -25,6 +27,9 @@ pub(crate) trait Best<'a>: Copy {
     /// The instruction leads on from a state.
     ghost leads: { SolvedSuffix → OpenState → Self → Type 0 };
 
+    /// The instruction is the first of those that were tried to reach the label, or none of them reaches it.
+    ghost sifted: { SolvedSuffix → OpenState → List Instr → Self → Type 0 };
+
     /// Returns the better of the instruction and a run that begins at the fixup.
     fn or_run(self, known: SolvedSuffix<'a>, here: OpenState<'a>, run: Run) -> Self
         requires here { HereOf known here }
@@ -35,6 +40,7 @@ pub(crate) trait Best<'a>: Copy {
         ensures leads { leads known.entry here.entry result }
         ensures label { label result ≡ label self }
         ensures better { bound result ≤ bound self }
+        ensures first { (before : List Instr) → sifted known.entry here.entry before self → sifted known.entry here.entry (before ++ run_list run) result }
         ensures ends { (l : Labels) (n : ℕ) → Agrees l known.entry here.entry.others.now → n ≤ bound result → Ends l run here.entry here.entry.place.position n };
 }
 
@@ -46,6 +52,9 @@ impl<'a> Best<'a> for Sought<'a> {
 
     ghost leads = { λ k h x. Chosen k h x.choice × (x.choice.value ≤ 4 * length h.others.now + 4) };
 
+    ghost sifted = { λ k h tried x. SiftedOf k h x.label tried x.choice };
+
+    #[tactic(auto, using(crate::proofs::SiftLemmas::sift_run))]
     fn or_run(self, known: SolvedSuffix<'a>, here: OpenState<'a>, run: Run) -> Self {
         let choice = known.best_of_run(here, run, here.place.position, self);
         Sought { choice, ..self }
@@ -66,6 +75,8 @@ impl<'a> Best<'a> for LowValue<'_> {
     ghost label = { λ _. 0 };
 
     ghost leads = { λ k h x. EndsAt k h.others.now (h.first ∷ h.others.now) x.ends.now × Led k h x.value };
+
+    ghost sifted = { λ _ _ _ _. Unit {0} };
 
     #[inline(always)]
     fn or_run(self, known: SolvedSuffix<'a>, here: OpenState<'a>, run: Run) -> Self {
@@ -98,6 +109,7 @@ pub(crate) fn best_in_c<'a, B: Best<'a>>(
     ensures leads { B.leads known.entry here.entry result }
     ensures label { B.label result ≡ B.label first }
     ensures better { B.bound result ≤ B.bound first }
+    ensures first { (before : List Instr) → B.sifted known.entry here.entry before first → B.sifted known.entry here.entry (with_c known.entry here.entry of.section of.class before) result }
     ensures least { (l : Labels) (n : ℕ) → Agrees l known.entry here.entry.others.now → n ≤ B.bound result → (class_of l.registers of.section == here.entry.place.c) ≡ true → MetInC l here.entry of.section n }
 {
     let Classed { section, class } = of;
@@ -131,6 +143,7 @@ pub(crate) fn best_in_d<'a, B: Best<'a>>(
     ensures leads { B.leads known.entry here.entry result }
     ensures label { B.label result ≡ B.label first }
     ensures better { B.bound result ≤ B.bound first }
+    ensures first { (before : List Instr) → B.sifted known.entry here.entry before first → B.sifted known.entry here.entry (with_d known.entry here.entry of.section of.class before) result }
     ensures least { (l : Labels) (n : ℕ) → Agrees l known.entry here.entry.others.now → n ≤ B.bound result → (class_of l.registers of.section == here.entry.place.d) ≡ true → MetInD l here.entry of.section n }
 {
     let Classed { section, class } = of;
@@ -159,6 +172,7 @@ pub(crate) fn best_of_pairs<'a, B: Best<'a>>(
     ensures leads { B.leads known.entry here.entry result }
     ensures label { B.label result ≡ B.label best }
     ensures better { B.bound result ≤ B.bound best }
+    ensures first { (before : List Instr) → B.sifted known.entry here.entry before best → B.sifted known.entry here.entry (with_pairs known.entry.registers.now here.entry.place.d sections.0 (Section sections.1) before) result }
     ensures least { (l : Labels) (n : ℕ) → Agrees l known.entry here.entry.others.now → n ≤ B.bound result → PairsMet l here.entry sections.0 sections.1 n }
 {
     let (first, second) = sections;

@@ -3,10 +3,12 @@ ghost use Rattle.pef_cert.specs.Extension.{extension, skips_at};
 ghost use Rattle.pef_cert.specs.Labels.{Labels, class_of};
 ghost use Rattle.pef_plan.specs.Runs.Ends.{EndsAt};
 ghost use Rattle.pef_plan.specs.Runs.Places.{AtOf, Chosen, HereOf};
+ghost use Rattle.pef_plan.specs.Kept.Firsts.{FirstSkip};
 ghost use Rattle.pef_plan.specs.Kept.Rows.{SkipsOf};
 ghost use Rattle.pef_plan.specs.Runs.Runs.{Holds};
 ghost use Rattle.pef_plan.specs.Runs.Tables.{Agrees};
 ghost use Rattle.pef_reloc.specs.declared.fixup.Base.TheVariants.{Section};
+ghost use Rattle.pef_reloc.specs.declared.instr.Instr.TheVariants.{BySectDWithSkip};
 
 use crate::direct::place_after;
 use crate::runs::{Choice, FixupState, OpenState, Run, RunEnds, SolvedSuffix, Sought, Step};
@@ -65,6 +67,7 @@ pub(crate) fn best_skip<'a>(
     requires words { words ≤ 255 }
     requires from { here.first.offset ≡ here.place.position + 4 * words }
     ensures chosen { Chosen known.entry here.entry result }
+    ensures first { FirstSkip known.entry here.entry words result }
     ensures is { (l : Labels) → Agrees l known.entry here.entry.others.now → skips_at l here.entry.first here.entry.others.now here.entry.place.c here.entry.place.d ≡ Some result.value }
     ensures small { result.value ≤ 4 * length here.entry.others.now + 4 }
 {
@@ -87,6 +90,7 @@ fn single_skip<'a>(
     requires words { words ≤ 255 }
     requires from { here.first.offset ≡ here.place.position + 4 * words }
     ensures chosen { Chosen known.entry here.entry result }
+    ensures instr { result.step.instr ≡ BySectDWithSkip words 1 }
     ensures value { (l : Labels) → Agrees l known.entry here.entry.others.now → result.value ≡ 1 + extension l here.entry.others.now (here.entry.first.offset + 4) here.entry.place.c here.entry.place.d }
     ensures small { result.value ≤ 4 * length here.entry.others.now + 4 }
 {

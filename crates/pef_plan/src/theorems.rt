@@ -6,6 +6,7 @@ ghost use Rattle.pef_cert.specs.Feasible.{Feasible};
 ghost use Rattle.pef_cert.specs.Labels.{Labels};
 ghost use Rattle.pef_cert.specs.Valid.{RegistersOf, Valid, labels_of};
 ghost use Rattle.pef_plan.specs.Exact.{Exact, LeastFrom};
+ghost use Rattle.pef_plan.specs.Planned.{Planned};
 ghost use Rattle.pef_plan.specs.Reached.{ReachedFrom};
 ghost use Rattle.pef_reloc.specs.Deliveries.{StandsAfter, names_used};
 ghost use Rattle.pef_reloc.specs.Fixups.{fixups_fit};
@@ -19,6 +20,12 @@ ghost use Rattle.pef_reloc.specs.declared.instr.Instr.{Instr};
 pub fn reached_labels_are_least()
     ensures labels { (l : Labels) (fixups : List Fixup) → fixups_fit fixups ≡ true → RegistersOf fixups l.registers → Feasible l fixups → ReachedFrom l 0 fixups → Exact l fixups }
     ensures states { (l : Labels) (fixups made rest : List Fixup) (s : State) → fixups_fit fixups ≡ true → RegistersOf fixups l.registers → Feasible l fixups → ReachedFrom l 0 fixups → fixups ≡ made ++ rest → StandsAfter made s → LeastFrom s rest (extension_at l rest s) }
+{}
+
+/// Proves that there is at most one planned program for some fixups, and that it is a least one.
+pub fn planned_programs_are_one()
+    ensures one { (fixups : List Fixup) (program others : List Instr) → Planned fixups program → Planned fixups others → program ≡ others }
+    ensures least { (fixups : List Fixup) (program : List Instr) → Planned fixups program → Least fixups program }
 {}
 
 /// Proves that a least program has at most four halfwords for each fixup.

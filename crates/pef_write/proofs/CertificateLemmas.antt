@@ -6,6 +6,7 @@ use Rattle.std.proofs.lemmas.List.{length-take-le, map-append, take_more}
 use Rattle.pef_cert.specs.Certified.{Certified}
 use Rattle.pef_cert.proofs.Laws.{valid-least}
 use Rattle.pef_plan.proofs.Laws.{least-names, least-short, program_certificate}
+use Rattle.pef_plan.specs.Planned.{Planned}
 use Rattle.pef_reloc.specs.declared.fixup.Base.{Base}
 use Rattle.pef_reloc.specs.declared.fixup.Base.TheVariants.{Section, Import}
 use Rattle.pef_reloc.specs.declared.fixup.Fixup.{Fixup}
@@ -17,7 +18,7 @@ use Rattle.pef_reloc.specs.Steps.{Least, all_below, named_sections, names_below}
 use Rattle.pef_script.specs.Script.{DescribedSection}
 use Rattle.pef_script.specs.WellFormed.{BaseThere, SectionHolds}
 use Rattle.pef_words.proofs.Laws.Lists.{all-at}
-use Rattle.pef_write.specs.Linked.{AreCertified, AreProgramsFor, IsCertified, IsProgramFor}
+use Rattle.pef_write.specs.Linked.{AreCertified, ArePlanned, AreProgramsFor, IsCertified, IsProgramFor}
 use Rattle.pef_write.specs.Kept.Encoded.{AreEncodedFor}
 
 -- a section that fixups use exists
@@ -100,12 +101,26 @@ certified_more sections k s d done c under found is are =
     let own : IsCertified (0 + length (take k sections)) s.fixups c = subst (λ n. IsCertified n s.fixups c) at is in
     subst (λ ss. AreCertified 0 ss (done ++ c ∷ [])) (sym taken) (certified_after 0 (take k sections) done s c are own)
 
+-- planned programs so far, and one more
+planned_after : (sections : List DescribedSection) (certificates : List Certified) (s : DescribedSection) (c : Certified) → ArePlanned sections certificates → Planned s.fixups c.program → ArePlanned (sections ++ s ∷ []) (certificates ++ c ∷ [])
+planned_after [] [] s c are is = (is, tt)
+planned_after [] (d ∷ certificates) s c are is = absurd are
+planned_after (t ∷ sections) [] s c are is = absurd are
+planned_after (t ∷ sections) (d ∷ certificates) s c are is = (are.0, planned_after sections certificates s c are.1 is)
+
+pub planned_more : (sections : List DescribedSection) (k : ℕ) (s d : DescribedSection) (done : List Certified) (c : Certified) → k < length sections → s ≡ get_or sections k d → Planned s.fixups c.program
+    → ArePlanned (take k sections) done → ArePlanned (take (k + 1) sections) (done ++ c ∷ [])
+planned_more sections k s d done c under found is are =
+    let taken : take (k + 1) sections ≡ take k sections ++ s ∷ [] = take_more sections k d under ∙ ap (λ x. take k sections ++ x ∷ []) (sym found) in
+    subst (λ ss. ArePlanned ss (done ++ c ∷ [])) (sym taken) (planned_after (take k sections) done s c are is)
+
 -- .. with their programs, and one more
-pub encoded_more : (sections : List DescribedSection) (k : ℕ) (s d : DescribedSection) (certificates with : List Certified) (done now : List (List ℕ)) (lengths after : List ℕ) (c : Certified) → k < length sections → s ≡ get_or sections k d → IsCertified k s.fixups c
+pub encoded_more : (sections : List DescribedSection) (k : ℕ) (s d : DescribedSection) (certificates with : List Certified) (done now : List (List ℕ)) (lengths after : List ℕ) (c : Certified) → k < length sections → s ≡ get_or sections k d → IsCertified k s.fixups c → Planned s.fixups c.program
     → with ≡ certificates ++ c ∷ [] → now ≡ done ++ spelled c.program ∷ [] → after ≡ lengths ++ program_length c.program ∷ [] → AreEncodedFor (take k sections) certificates done lengths → AreEncodedFor (take (k + 1) sections) with now after
-encoded_more sections k s d certificates with done now lengths after c under found is pushed spelt counted e =
+encoded_more sections k s d certificates with done now lengths after c under found is planned pushed spelt counted e =
     subst (λ cs. AreEncodedFor (take (k + 1) sections) cs now after) (sym pushed) (record {
       certified = certified_more sections k s d certificates c under found is e.certified;
+      planned = planned_more sections k s d certificates c under found planned e.planned;
       programs_are = spelt ∙ ap (λ ps. ps ++ spelled c.program ∷ []) e.programs_are ∙ sym (map-append (λ (c : Certified). spelled c.program) certificates (c ∷ []));
       lengths_are = counted ∙ ap (λ ns. ns ++ program_length c.program ∷ []) e.lengths_are ∙ sym (map-append (λ (c : Certified). program_length c.program) certificates (c ∷ []));
     })

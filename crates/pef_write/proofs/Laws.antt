@@ -8,3 +8,5 @@ pub use Rattle.pef_write.proofs.LinkedPrograms.{section_programs}
 pub use Rattle.pef_write.proofs.LeastLemmas.{least_program}
 -- for every script there is one
 pub use Rattle.pef_write.proofs.LinkExists.{some_link}
+-- for a script there is one that `link` gives, and certificates that it may give have the programs of this container
+pub use Rattle.pef_write.proofs.OneLink.{one_container, own_certificates}

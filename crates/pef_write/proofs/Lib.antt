@@ -18,6 +18,7 @@ mod LinkedLaws
 mod LinkedPrograms
 mod LinkExists
 mod LinkLemmas
+mod OneLink
 mod RelocationSteps
 mod EntrySteps
 mod PieceLemmas

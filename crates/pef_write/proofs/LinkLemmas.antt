@@ -6,7 +6,7 @@ use Rattle.pef_reloc.specs.declared.instr.Instr.{Instr}
 use Rattle.pef_reloc.specs.Instrs.{program_length, spelled}
 use Rattle.pef_script.specs.Script.{DescribedScript}
 use Rattle.pef_script.specs.WellFormed.{ScriptHolds}
-use Rattle.pef_write.specs.Linked.{AreCertified, AreLinkCertificates, AreProgramsFor, IsCertifiedLink, IsLinkedContainer, LinkedContainer, linked_bytes, linked_loader, linked_tables, script_tables}
+use Rattle.pef_write.specs.Linked.{AreCertified, AreLinkCertificates, ArePlanned, AreProgramsFor, IsCertifiedLink, IsLinkedContainer, LinkedContainer, linked_bytes, linked_loader, linked_tables, script_tables}
 use Rattle.pef_write.specs.Kept.Encoded.{AreEncoded, AreEncodedFor, HasRoom, container_with, nonempty_from}
 use Rattle.pef_write.proofs.CertificateLemmas.{certified_programs}
 use Rattle.pef_write.proofs.Fitting.{sections_fit, sizes_of}
@@ -61,6 +61,7 @@ module _ (s : DescribedScript) (certificates : List Certified) (programs : List 
       programs_are = refl;
     };
     certificates = refl;
+    planned = e.each.planned;
   }
 
   pub is_linked_container : {E : Type 0} (result : Result LinkedContainer E) → IfOk result (λ l. l.bytes ≡ container_with s programs) → IfOk result (λ l. l.lengths ≡ lengths) → IfOk result (λ l. IsLinkedContainer s l)
@@ -68,11 +69,11 @@ module _ (s : DescribedScript) (certificates : List Certified) (programs : List 
   is_linked_container (Err why) bytes are = tt
 
 -- certificates of all sections of a script are those of a container
-pub are_link_certificates : (s : DescribedScript) (certificates : List Certified) → ScriptHolds s → AreCertified 0 s.sections certificates → AreLinkCertificates s certificates
-are_link_certificates s certificates holds are =
+pub are_link_certificates : (s : DescribedScript) (certificates : List Certified) → ScriptHolds s → AreCertified 0 s.sections certificates → ArePlanned s.sections certificates → AreLinkCertificates s certificates
+are_link_certificates s certificates holds are planned =
     let programs : List (List ℕ) = map (λ c. spelled c.program) certificates in
     let lengths : List ℕ = map (λ c. program_length c.program) certificates in
-    let each : AreEncodedFor s.sections certificates programs lengths = record { certified = are; programs_are = refl; lengths_are = refl } in
+    let each : AreEncodedFor s.sections certificates programs lengths = record { certified = are; planned = planned; programs_are = refl; lengths_are = refl } in
     let container : LinkedContainer = record { bytes = container_with s programs; lengths = lengths } in
     record {
       container = container;

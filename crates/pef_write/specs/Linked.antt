@@ -10,6 +10,7 @@ use Rattle.pef_format.specs.Exports.{Export}
 use Rattle.pef_format.specs.Symbols.{Import, options_code}
 use Rattle.pef_loader.specs.Library.{Library}
 use Rattle.pef_plan.specs.Exact.{Exact}
+use Rattle.pef_plan.specs.Planned.{Planned}
 use Rattle.pef_reloc.specs.declared.fixup.Fixup.{Fixup}
 use Rattle.pef_reloc.specs.declared.instr.Instr.{Instr}
 use Rattle.pef_reloc.specs.Instrs.{program_length, spelled}
@@ -46,6 +47,13 @@ AreCertified k [] [] = Unit {0}
 AreCertified k [] (c ∷ certificates) = ⊥
 AreCertified k (s ∷ sections) [] = ⊥
 AreCertified k (s ∷ sections) (c ∷ certificates) = IsCertified k s.fixups c × AreCertified (k + 1) sections certificates
+
+-- certificates have the planned programs of some sections
+abbrev pub ArePlanned : List DescribedSection → List Certified → Type 0
+ArePlanned [] [] = Unit {0}
+ArePlanned [] (c ∷ certificates) = ⊥
+ArePlanned (s ∷ sections) [] = ⊥
+ArePlanned (s ∷ sections) (c ∷ certificates) = Planned s.fixups c.program × ArePlanned sections certificates
 
 -- library k with its imports: how many it has, and how many the libraries before it have
 abbrev pub linked_library : List Import → ℕ → DescribedLibrary → Library
@@ -97,7 +105,7 @@ script_tables s programs = record {
   exports = exports_at s.exports (built (export_names s)).order;
 }
 
--- the same, with programs for the sections
+-- the tables of a script, with programs for its sections
 abbrev pub linked_tables : DescribedScript → List (List Instr) → LoaderTables
 linked_tables s programs = script_tables s (programs_from 0 s.sections programs)
 
@@ -131,12 +139,14 @@ pub record CertifiedContainer : Type 0 where
   pub container : LinkedContainer
   pub certificates : List Certified
 
--- what `link` gives for a script: a linked container, and the certificates that have its programs
+-- what `link` gives for a script: a linked container, and the certificates that have its programs, which are the planned
+-- ones
 pub record IsCertifiedLink (script : DescribedScript) (l : CertifiedContainer) : Type 0 where
   pub linked : IsLinked script l.container
   pub certificates : l.certificates ≡ linked.certificates
+  pub planned : ArePlanned script.sections l.certificates
 
--- a container that `link` may give, with these certificates
+-- the container that `link` gives, with certificates that it may give
 pub record IsLinkedContainer (script : DescribedScript) (l : LinkedContainer) : Type 0 where
   pub certificates : List Certified
   pub certified : IsCertifiedLink script (record { container = l; certificates = certificates })

@@ -25,4 +25,5 @@ pub use fault::LinkFault;
 pub use linking::{Linked, LinkedContainer, link, link_certificates, link_container};
 pub use theorems::{
     every_script_links, linked_containers, linked_programs, linked_programs_are_least,
+    scripts_have_one_link,
 };

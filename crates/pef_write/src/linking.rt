@@ -129,7 +129,7 @@ pub fn link(alloc: Global, script: &Script<'_>) -> Result<Linked, LinkFault>
     })
 }
 
-/// Links a script: returns a container that [`link`] may return, without the certificates.
+/// Links a script: returns the container that [`link`] returns, without the certificates.
 ///
 /// # Errors
 ///
@@ -141,7 +141,8 @@ pub fn link_container(alloc: Global, script: &Script<'_>) -> Result<LinkedContai
     encoded_container(alloc, script, encoded)
 }
 
-/// Links a script: returns the certificates that [`link`] may return, in little memory, without the container.
+/// Links a script: returns certificates that [`link`] may return, in little memory, without the container. They have the
+/// programs of the container.
 ///
 /// # Errors
 ///

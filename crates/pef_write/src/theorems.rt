@@ -1,9 +1,10 @@
 //! Laws of linked containers, for the proofs of crates that read them. The functions do nothing.
-ghost use Rattle.std.specs.Prelude.{◌≡◌, ℕ, Some, slice_get};
+ghost use Rattle.std.specs.Prelude.{◌≡◌, ℕ, List, Some, slice_get};
+ghost use Rattle.pef_cert.specs.Certified.{Certified};
 ghost use Rattle.pef_script.specs.Script.{DescribedScript, DescribedSection};
 ghost use Rattle.pef_script.specs.WellFormed.{ScriptHolds};
 ghost use Rattle.pef_write.specs.LeastPrograms.{HasLeastProgram};
-ghost use Rattle.pef_write.specs.Linked.{IsLinked, LinkedContainer, programs_from};
+ghost use Rattle.pef_write.specs.Linked.{AreLinkCertificates, IsCertifiedLink, IsLinked, IsLinkedContainer, LinkedContainer, programs_from};
 ghost use Rattle.pef_write.specs.Loaders.{ProgramEntry};
 ghost use Rattle.pef_write.specs.ReadBack.{IsReadBack, IsSectionProgram};
 
@@ -26,7 +27,14 @@ pub fn linked_programs_are_least()
     ensures { (s : DescribedScript) (l : LinkedContainer) (linked : IsLinked s l) (k : ℕ) (section : DescribedSection) → slice_get s.sections k ≡ Some section → HasLeastProgram s l linked k section }
 {}
 
-/// For every script that keeps the limits there is a linked container, which `link` may give.
+/// For a script there is one container that `link` and `link_container` may give. The certificates that `link_certificates`
+/// gives have the programs of this container.
+pub fn scripts_have_one_link()
+    ensures container { (s : DescribedScript) (a b : LinkedContainer) → IsLinkedContainer s a → IsLinkedContainer s b → a ≡ b }
+    ensures certificates { (s : DescribedScript) (l : LinkedContainer) (certificates : List Certified) → IsLinkedContainer s l → AreLinkCertificates s certificates → IsCertifiedLink s (record { container = l; certificates = certificates }) }
+{}
+
+/// For every script that keeps the limits there is a linked container with least programs.
 pub fn every_script_links()
     ensures { (s : DescribedScript) → ScriptHolds s → (l : LinkedContainer) × IsLinked s l }
 {}

@@ -9,22 +9,15 @@ use Rattle.pef_cert.specs.Extension.{extension, extension_at}
 use Rattle.pef_plan.specs.declared.runs.suffix.SolvedSuffix.{SolvedSuffix}
 use Rattle.pef_plan.specs.declared.runs.state.PlanState.{PlanState}
 use Rattle.pef_plan.specs.declared.runs.state.OpenState.{OpenState}
-use Rattle.pef_plan.specs.declared.runs.state.Choice.{Choice}
 use Rattle.pef_plan.specs.declared.runs.run.Run.{Run}
 use Rattle.pef_plan.specs.declared.runs.run.Run.TheVariants.{WordsOfC, WordsOfD, Spaced, Pairs, SpacedPairs, Skip}
 use Rattle.pef_plan.specs.Runs.Ends.{Begins, Brought, BroughtMaybe, EndRows, GoesOnMaybe}
 use Rattle.pef_plan.specs.Runs.Runs.{EndAmong, EndsFrom, RunOf, imports, limit, run_instr, stride, unit, units}
 use Rattle.pef_plan.specs.Runs.Leads.{LeadsWithin}
-use Rattle.pef_plan.specs.Runs.Places.{Chosen, InPlace, Led, extension_in}
+use Rattle.pef_plan.specs.Runs.Places.{InPlace, Led}
 use Rattle.pef_plan.specs.Runs.Tables.{Agrees}
 use Rattle.pef_plan.specs.Windows.Windows.{AtMostEach, BestOf, IsOne, WindowOf, Windowed, rows_brought, rows_moved}
 use Rattle.pef_plan.proofs.RunsProofs.RunFacts.{no_ends, run-adds, run-flat, run-next, run-one, units-more, units-none, units_c, units_d, units_far, units_pairs, units_skip, units_spaced}
-
--- the extension at a state in a place
-pub extension-there : (l : Labels) (registers : List ℕ) (q : PlanState) (s : State) → l.registers ≡ registers → InPlace registers q s → extension_at l q.left.now s ≡ extension_in l q
-extension-there l registers q s same at =
-    ap (λ p. extension l q.left.now p (class_of l.registers s.c) (class_of l.registers s.d)) at.position
-    ∙ ap₂ (λ c d. extension l q.left.now q.position c d) (ap (λ rs. class_of rs s.c) same ∙ at.c) (ap (λ rs. class_of rs s.d) same ∙ at.d)
 
 -- the same with fewer ends
 end_rows-take : (l : Labels) (r : Run) (n k : ℕ) (fixups : List Fixup) (p m c d i : ℕ) (rows : List (List ℕ)) → EndRows l r n fixups p m c d i rows → k ≤ n → EndRows l r k fixups p m c d i (take k rows)

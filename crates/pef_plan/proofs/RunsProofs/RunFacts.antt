@@ -11,16 +11,17 @@ use Rattle.pef_reloc.specs.Steps.{State, added, additions, next_state, numbered,
 use Rattle.pef_cert.specs.Labels.{Labels, class_of}
 use Rattle.pef_cert.specs.Extension.{extension}
 use Rattle.pef_cert.proofs.Laws.{class_of-same}
-use Rattle.pef_words.proofs.Laws.Numbers.{counts_fit}
+use Rattle.pef_words.proofs.Laws.Numbers.{below_or, counts_fit}
 use Rattle.pef_plan.specs.declared.runs.suffix.SolvedSuffix.{SolvedSuffix}
 use Rattle.pef_plan.specs.declared.runs.state.PlanState.{PlanState}
 use Rattle.pef_plan.specs.declared.runs.state.OpenState.{OpenState}
 use Rattle.pef_plan.specs.declared.runs.state.Step.{Step}
 use Rattle.pef_plan.specs.declared.runs.state.Choice.{Choice}
+use Rattle.pef_plan.specs.declared.runs.state.Sought.{Sought}
 use Rattle.pef_plan.specs.declared.runs.run.Run.{Run}
 use Rattle.pef_plan.specs.declared.runs.run.Run.TheVariants.{WordsOfC, WordsOfD, Spaced, Pairs, SpacedPairs, Imports, Skip}
 use Rattle.pef_plan.specs.Runs.Places.{Chosen, GoesOn, HereOf, InPlace, extension_in}
-use Rattle.pef_plan.specs.Runs.Kept.Runs.{Along, Next, SoFar}
+use Rattle.pef_plan.specs.Runs.Kept.Runs.{Along, FirstEnd, Next, SoFar}
 use Rattle.pef_plan.specs.Runs.Runs.{EndOf, Ends, EndsFrom, Holds, RunOf, imports, limit, run_instr, stride, unit, units}
 use Rattle.pef_plan.specs.Runs.Tables.{Agrees, Shaped}
 use Rattle.pef_plan.proofs.RunsProofs.KnownLemmas.{agrees-left, shaped_fewer}
@@ -236,13 +237,35 @@ end-of l r h from n q value a under is =
       is = is ∙ (ap (λ x. 1 + extension l q.left.now x q.c q.d) (a.position ∙ ap (λ m. from + stride r * m) count) ∙ ap₂ (λ x y. 1 + extension l q.left.now (from + stride r * suc n) x y) a.c a.d);
     }
 
+-- the first ends, and one more
+passed-next : (l : Labels) (r : Run) (h : OpenState) (value from n : ℕ) (q : PlanState) → Along r h.place from (n + 1) q → value ≤ 1 + extension_in l q → EndsFrom l r value n h.place.left.now from h.place.import_index h.place.c h.place.d → EndsFrom l r value (n + 1) h.place.left.now from h.place.import_index h.place.c h.place.d
+passed-next l r h value from n q a low passed j left under is = go (below_or j n under)
+  where
+    go : (j < n) ⊎ (j ≡ n) → value ≤ 1 + extension l left (from + stride r * suc j) h.place.c h.place.d
+    go (inl before) = passed j left before is
+    go (inr last) =
+        let count : suc j ≡ n + 1 = omega (arith, last) in
+        let u : List Fixup = units r (n + 1) from h.place.import_index in
+        let whole : u ++ q.left.now ≡ u ++ left = sym (along-parts r h.place q from (n + 1) a) ∙ (is ∙ ap (λ m. units r m from h.place.import_index ++ left) count) in
+        let rest : q.left.now ≡ left = append_cancel_left u q.left.now left whole in
+        let end : q.position ≡ from + stride r * suc j = a.position ∙ ap (λ m. from + stride r * m) (sym count) in
+        let same = ap (λ fs. extension l fs q.position q.c q.d) rest ∙ (ap (λ x. extension l left x q.c q.d) end ∙ ap₂ (λ x y. extension l left (from + stride r * suc j) x y) a.c a.d) in
+        omega (arith, low, same)
+
+-- a bar that is lower
+ends-weaker : (l : Labels) (r : Run) (value bar n p m c d : ℕ) (fixups : List Fixup) → value ≤ bar → EndsFrom l r bar n fixups p m c d → EndsFrom l r value n fixups p m c d
+ends-weaker l r value bar n p m c d fixups low ends j left under is = let high = ends j left under is in omega (arith, low, high)
+
 -- one more end
-pub so_far-next : (k : SolvedSuffix) (h : OpenState) (r : Run) (from n : ℕ) (p q : PlanState) (first best better : Choice) → SoFar k h r from n p first best → n < limit r → Next r p q → Chosen k h better → better.value ≤ best.value → ((l : Labels) → Agrees l k h.others.now → better.value ≤ 1 + extension_in l q) → ((l : Labels) → Agrees l k h.others.now → (better.value ≡ best.value) ⊎ (better.value ≡ 1 + extension_in l q)) → SoFar k h r from (n + 1) q first better
-so_far-next k h r from n p q first best better s under next chosen lower low either = record {
+so_far-next : (k : SolvedSuffix) (h : OpenState) (r : Run) (from n : ℕ) (p q : PlanState) (first : Sought) (best better : Choice) → SoFar k h r from n p first best → n < limit r → Next r p q → Chosen k h better → better.value ≤ best.value → ((l : Labels) → Agrees l k h.others.now → better.value ≤ 1 + extension_in l q) → ((l : Labels) → Agrees l k h.others.now → (better.value ≡ best.value) ⊎ (better.value ≡ 1 + extension_in l q)) → FirstEnd k h r from first better → SoFar k h r from (n + 1) q first better
+so_far-next k h r from n p q first best better s under next chosen lower low either found = record {
   along = along-next r h.place p q from n s.along next;
   within = omega (arith, under);
   chosen = chosen;
   better = (let b = s.better in omega (arith, lower, b));
+  found = found;
+  passed = λ l agrees. passed-next l r h better.value from n q (along-next r h.place p q from n s.along next) (low l agrees)
+      (ends-weaker l r better.value best.value n from h.place.import_index h.place.c h.place.d h.place.left.now lower (s.passed l agrees));
   attained = λ l agrees.
       elim (either l agrees) [
         | inr there ↦ inr (end-of l r h from n q better.value (along-next r h.place p q from n s.along next) under there)
@@ -265,8 +288,8 @@ extension_after k h r from n p q value here along next is l agrees =
     is l (after-agrees l k h r from (n + 1) q here (along-after k h r from n q here (along-next r h.place p q from n along next)) agrees)
 
 -- one more end that is better, and one that isn't
-pub so_far-better : (k : SolvedSuffix) (h : OpenState) (r : Run) (from n : ℕ) (p q : PlanState) (first best : Choice) (value : ℕ) → HereOf k h → RunOf k.registers.now r h.place from → SoFar k h r from n p first best → n < limit r → Next r p q → ((l : Labels) → Agrees l k q.left.now → value ≡ extension_in l q) → 1 + value < best.value → SoFar k h r from (n + 1) q first (record { step = step_of r (n + 1) q; value = 1 + value })
-so_far-better k h r from n p q first best value here of s under next is low =
+pub so_far-better : (k : SolvedSuffix) (h : OpenState) (r : Run) (from n : ℕ) (p q : PlanState) (first : Sought) (best : Choice) (value : ℕ) → HereOf k h → RunOf k.registers.now r h.place from → SoFar k h r from n p first best → n < limit r → Next r p q → ((l : Labels) → Agrees l k q.left.now → value ≡ extension_in l q) → first.label < best.value → 1 + value < best.value → SoFar k h r from (n + 1) q first (record { step = step_of r (n + 1) q; value = 1 + value })
+so_far-better k h r from n p q first best value here of s under next is sought low =
     let after = along-after k h r from n q here (along-next r h.place p q from n s.along next) in
     let worth = extension_after k h r from n p q value here s.along next is in
     so_far-next k h r from n p q first best (record { step = step_of r (n + 1) q; value = 1 + value }) s under next
@@ -277,16 +300,40 @@ so_far-better k h r from n p q first best value here of s under next is low =
     (omega (arith, low))
     (λ l agrees. let e = worth l agrees in omega (arith, e))
     (λ l agrees. inr (ap (λ x. 1 + x) (worth l agrees)))
+    (inr (record {
+      more = n;
+      under = under;
+      instr = (let count : n + 1 ≡ suc n = omega arith in ap (λ m. run_instr r m) count);
+      bar = best.value;
+      low = omega (arith, low);
+      label_low = sought;
+      high = s.better;
+      before = s.passed;
+    }))
 
-pub so_far-same : (k : SolvedSuffix) (h : OpenState) (r : Run) (from n : ℕ) (p q : PlanState) (first best : Choice) (value : ℕ) → HereOf k h → SoFar k h r from n p first best → n < limit r → Next r p q → ((l : Labels) → Agrees l k q.left.now → value ≡ extension_in l q) → best.value ≤ 1 + value → SoFar k h r from (n + 1) q first best
+pub so_far-same : (k : SolvedSuffix) (h : OpenState) (r : Run) (from n : ℕ) (p q : PlanState) (first : Sought) (best : Choice) (value : ℕ) → HereOf k h → SoFar k h r from n p first best → n < limit r → Next r p q → ((l : Labels) → Agrees l k q.left.now → value ≡ extension_in l q) → best.value ≤ 1 + value → SoFar k h r from (n + 1) q first best
 so_far-same k h r from n p q first best value here s under next is low =
     let worth = extension_after k h r from n p q value here s.along next is in
     so_far-next k h r from n p q first best best s under next s.chosen (omega arith)
     (λ l agrees. let e = worth l agrees in omega (arith, e, low))
     (λ l agrees. inl refl)
+    s.found
+
+-- before the first unit
+pub so_far-start : (k : SolvedSuffix) (h : OpenState) (r : Run) (from : ℕ) (p : PlanState) (first : Sought) → Along r h.place from 0 p → Chosen k h first.choice → ((l : Labels) (value : ℕ) → value ≤ first.choice.value → Agrees l k h.others.now → EndsFrom l r value (limit r - 0) p.left.now p.position p.import_index p.c p.d → Ends l r h from value) → SoFar k h r from 0 p first first.choice
+so_far-start k h r from p first along chosen ends = record {
+  along = along;
+  within = omega arith;
+  chosen = chosen;
+  better = omega arith;
+  found = inl refl;
+  passed = λ l agrees j left under is. absurd (omega (arith, under));
+  attained = λ l agrees. inl refl;
+  ends = ends;
+}
 
 -- if no unit follows, and if the run has its maximum length
-pub so_far-stop : (k : SolvedSuffix) (h : OpenState) (r : Run) (from n : ℕ) (p : PlanState) (first best : Choice) → SoFar k h r from n p first best → ((left : List Fixup) → p.left.now ≡ unit r p.position p.import_index ++ left → ⊥) → (l : Labels) (value : ℕ) → Agrees l k h.others.now → value ≤ best.value → Ends l r h from value
+pub so_far-stop : (k : SolvedSuffix) (h : OpenState) (r : Run) (from n : ℕ) (p : PlanState) (first : Sought) (best : Choice) → SoFar k h r from n p first best → ((left : List Fixup) → p.left.now ≡ unit r p.position p.import_index ++ left → ⊥) → (l : Labels) (value : ℕ) → Agrees l k h.others.now → value ≤ best.value → Ends l r h from value
 so_far-stop k h r from n p first best s none l value agrees low =
     s.ends l value low agrees (no_ends l r value (limit r - n) p.position p.import_index p.c p.d p.left.now none)
 

@@ -5,7 +5,7 @@ ghost use Rattle.pef_cert.specs.Fixups.Additions.{behind};
 ghost use Rattle.pef_plan.specs.Runs.Places.{Chosen, HereOf};
 ghost use Rattle.pef_plan.specs.Runs.Runs.{EndOf, Ends, RunOf, imports, limit, run_instr, stride, unit};
 ghost use Rattle.pef_plan.specs.Runs.Ends.{Begins};
-ghost use Rattle.pef_plan.specs.Runs.Kept.Runs.{Next};
+ghost use Rattle.pef_plan.specs.Runs.Kept.Runs.{FirstEnd, Next};
 ghost use Rattle.pef_plan.specs.Runs.Tables.{Agrees};
 ghost use Rattle.pef_reloc.specs.declared.fixup.Base.TheVariants.{Section};
 ghost use Rattle.pef_reloc.specs.declared.fixup.Fixup.{Fixup};
@@ -164,6 +164,7 @@ impl<'a> SolvedSuffix<'a> {
         requires first { Chosen self here first.choice }
         ensures chosen { Chosen self.entry here.entry result }
         ensures better { result.value ≤ first.entry.choice.value }
+        ensures found { FirstEnd self.entry here.entry run from first.entry result }
         ensures attained { (l : Labels) → Agrees l self.entry here.entry.others.now → (result.value ≡ first.entry.choice.value) ⊎ EndOf l run here.entry from result.value }
         ensures ends { (l : Labels) (value : ℕ) → Agrees l self.entry here.entry.others.now → value ≤ result.value → first.entry.label < result.value → Ends l run here.entry from value }
     {

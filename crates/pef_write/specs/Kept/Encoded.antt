@@ -5,7 +5,7 @@ use Rattle.pef_reloc.specs.Instrs.{program_length, spelled}
 use Rattle.pef_script.specs.Script.{DescribedScript, DescribedSection}
 use Rattle.pef_script.specs.WellFormed.{ScriptHolds}
 use Rattle.pef_write.specs.Containers.{written_container}
-use Rattle.pef_write.specs.Linked.{AreCertified, script_tables}
+use Rattle.pef_write.specs.Linked.{AreCertified, ArePlanned, script_tables}
 use Rattle.pef_write.specs.Loaders.{ProgramEntry, strings_of, written_loader}
 
 -- a program that has bytes, with its section's number
@@ -21,6 +21,7 @@ nonempty_from k (bytes ∷ programs) = nonempty k bytes ++ nonempty_from (k + 1)
 -- programs as bytes, and their numbers of halfwords: those of certificates for some sections
 pub record AreEncodedFor (sections : List DescribedSection) (certificates : List Certified) (programs : List (List ℕ)) (lengths : List ℕ) : Type 0 where
   pub certified : AreCertified 0 sections certificates
+  pub planned : ArePlanned sections certificates
   pub programs_are : programs ≡ map (λ c. spelled c.program) certificates
   pub lengths_are : lengths ≡ map (λ c. program_length c.program) certificates
 

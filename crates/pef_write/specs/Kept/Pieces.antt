@@ -29,6 +29,6 @@ pub record ArePlaces (t : LoaderTables) (p : Places) : Type 0 where
 abbrev pub names_before : DescribedScript → List ℕ
 names_before s = zero_ended (library_names s) ++ zero_ended (import_names s)
 
--- those of exports, in the order of the export table
+-- the names of exports, in the order of the export table
 abbrev pub names_in_order : DescribedScript → List ℕ
 names_in_order s = flat_map (λ e. e.name) (exports_at s.exports (built (export_names s)).order)

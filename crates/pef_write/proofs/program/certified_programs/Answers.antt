@@ -2,6 +2,7 @@
 use Rattle.std.proofs.Common.{◌≡◌, ◌∙◌, ◌++◌, [], ◌∷◌, List, length, map, ap, subst, sym}
 use Rattle.std.specs.List.{AllByRecursion}
 use Rattle.pef_cert.specs.Certified.{Certified}
+use Rattle.pef_plan.specs.Planned.{Planned}
 use Rattle.pef_reloc.specs.declared.fixup.Fixup.{Fixup}
 use Rattle.pef_reloc.specs.Instrs.{program_length, spelled}
 use Rattle.pef_script.specs.Script.{DescribedScript, DescribedSection}
@@ -30,6 +31,6 @@ loop-k-preserved c =
     let is : IsCertified at.k c.deref.result.now c.in_ok-certificate.certificate = record { section = c.in_ok-certificate.ensures.section; valid = c.in_ok-certificate.ensures.valid; exact = c.in_ok-certificate.ensures.exact } in
     let is = subst (λ (fs : List Fixup). IsCertified at.k fs c.in_ok-certificate.certificate) fixups is in
     let value = c.deref-in-loop-k.ensures.value ∙ ap (λ (x : Certified). x.program) c.certificate.view_is in
-    encoded_more c.deref-section-items.result.now at.k section _ at.certificates.items _ _ _ at.encoded.lengths.items _ c.in_ok-certificate.certificate c.loop-k-test.true c.section-item.is is c.in_ok-push-2.ensures.items
+    encoded_more c.deref-section-items.result.now at.k section _ at.certificates.items _ _ _ at.encoded.lengths.items _ c.in_ok-certificate.certificate c.loop-k-test.true c.section-item.is is (subst (λ (fs : List Fixup). Planned fs c.in_ok-certificate.certificate.program) fixups c.in_ok-certificate.ensures.planned) c.in_ok-push-2.ensures.items
     (c.in_ok-push.ensures.programs ∙ ap (λ p. map (λ p. p.items) at.encoded.programs.items ++ spelled p ∷ []) value)
     (c.in_ok-push.ensures.lengths ∙ ap (λ p. at.encoded.lengths.items ++ program_length p ∷ []) value) at.invariant

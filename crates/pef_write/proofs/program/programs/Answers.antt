@@ -1,7 +1,9 @@
 -- The program of one more section is encoded, and at the end all are.
 use Rattle.std.proofs.Common.{◌≡◌, ◌∙◌, ◌++◌, [], ◌∷◌, List, length, map, refl, ap, subst, sym}
 use Rattle.std.specs.List.{AllByRecursion}
+use Rattle.pef_plan.specs.Planned.{Planned}
 use Rattle.pef_reloc.specs.declared.fixup.Fixup.{Fixup}
+use Rattle.pef_reloc.specs.declared.instr.Instr.{Instr}
 use Rattle.pef_reloc.specs.Instrs.{program_length, spelled}
 use Rattle.pef_reloc.specs.Steps.{Least}
 use Rattle.pef_script.specs.Script.{DescribedScript, DescribedSection}
@@ -37,7 +39,8 @@ loop-section-preserved c =
     let own = some_certified (length s.sections) (length s.imports) k c.deref-section-items.result.now k section _ program hold c.loop-section-test.true c.section-item.is least in
     let value = c.deref-in-loop-section.ensures.value ∙ sym own.1 in (
       at.invariant.0 ++ own.0 ∷ [],
-      encoded_more c.deref-section-items.result.now k section _ at.invariant.0 _ _ _ at.encoded.lengths.items _ own.0 c.loop-section-test.true c.section-item.is own.2 refl
+      encoded_more c.deref-section-items.result.now k section _ at.invariant.0 _ _ _ at.encoded.lengths.items _ own.0 c.loop-section-test.true c.section-item.is own.2
+          (subst (λ (instrs : List Instr). Planned section.fixups instrs) (sym own.1) (subst (λ (fs : List Fixup). Planned fs program) fixups c.in_ok-program.ensures.planned)) refl
           (c.in_ok-push.ensures.programs ∙ ap (λ p. map (λ p. p.items) at.encoded.programs.items ++ spelled p ∷ []) value)
           (c.in_ok-push.ensures.lengths ∙ ap (λ p. at.encoded.lengths.items ++ program_length p ∷ []) value) at.invariant.1,
     )

@@ -9,7 +9,7 @@ use Rattle.pef_plan.proofs.runs.suffix.SolvedSuffix.best_of_run.Goals.{then-valu
 pub returns-in-None-clause-ends : goal.returns-in-None-clause-ends
 returns-in-None-clause-ends c = λ l value agrees low above.
     let a = c.args in
-    so_far-stop a.self a.here a.run a.from c.ends.done c.ends.next a.first.choice c.ends.best c.ends.invariant c.in-None.ensures l value agrees low
+    so_far-stop a.self a.here a.run a.from c.ends.done c.ends.next a.first c.ends.best c.ends.invariant c.in-None.ensures l value agrees low
 
 pub value-value-requires-clause-shaped : goal.value-value-requires-clause-shaped
 value-value-requires-clause-shaped c =
@@ -23,10 +23,10 @@ ends-preserved c =
     let under : c.ends.done < limit a.run = (let e = c.limit-done-end.ensures in let t = c.ends-test.true in omega (arith, e, t)) in
     elim c.if-value-best.branch [
       | then-value-best w ↦ (let low = w.if-value-best in
-          subst (λ (best : Choice). SoFar a.self a.here a.run a.from (c.ends.done + 1) c.in-Some.next a.first.choice best)
+          subst (λ (best : Choice). SoFar a.self a.here a.run a.from (c.ends.done + 1) c.in-Some.next a.first best)
           (ap (λ x. record { step = record { instr = x; next = c.in-Some.next }; value = 1 + c.value-value.result }) (sym w.instr-instr.ensures) ∙ sym w.best-is)
-          (so_far-better a.self a.here a.run a.from c.ends.done c.ends.next c.in-Some.next a.first.choice c.ends.best c.value-value.result c.requires.here c.requires.run c.ends.invariant under c.in-Some.ensures c.value-value.ensures.is (omega (arith, low))))
+          (so_far-better a.self a.here a.run a.from c.ends.done c.ends.next c.in-Some.next a.first c.ends.best c.value-value.result c.requires.here c.requires.run c.ends.invariant under c.in-Some.ensures c.value-value.ensures.is (let above = c.if-best-label.false in omega (arith, above)) (omega (arith, low))))
       | else-value-best w ↦ (let low = w.if-value-best in
-          subst (λ (best : Choice). SoFar a.self a.here a.run a.from (c.ends.done + 1) c.in-Some.next a.first.choice best) (sym w.best-is)
-          (so_far-same a.self a.here a.run a.from c.ends.done c.ends.next c.in-Some.next a.first.choice c.ends.best c.value-value.result c.requires.here c.ends.invariant under c.in-Some.ensures c.value-value.ensures.is (omega (arith, low))))
+          subst (λ (best : Choice). SoFar a.self a.here a.run a.from (c.ends.done + 1) c.in-Some.next a.first best) (sym w.best-is)
+          (so_far-same a.self a.here a.run a.from c.ends.done c.ends.next c.in-Some.next a.first c.ends.best c.value-value.result c.requires.here c.ends.invariant under c.in-Some.ensures c.value-value.ensures.is (omega (arith, low))))
     ]
