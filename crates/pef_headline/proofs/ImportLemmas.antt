@@ -27,7 +27,7 @@ library-led pairs p l f library read there =
     ∙ ap (λ o. result_unwrap_or (option_map_or (bound pairs f l) o (Ok None)) None) there
 
 -- and its imports lead there
-import-leads : (pairs : List Pair) (p j : ℕ) (symbol : Import) (place : Option ℕ) → import_at pairs p j ≡ Some symbol → library_at pairs p symbol.library ≡ place → hop pairs p j ≡ hop_from pairs p j symbol place
+pub import-leads : (pairs : List Pair) (p j : ℕ) (symbol : Import) (place : Option ℕ) → import_at pairs p j ≡ Some symbol → library_at pairs p symbol.library ≡ place → hop pairs p j ≡ hop_from pairs p j symbol place
 unfolding hop
 import-leads pairs p j symbol place is at = ap (hop_of pairs p j) is ∙ ap (hop_from pairs p j symbol) at
 

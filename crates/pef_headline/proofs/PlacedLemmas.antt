@@ -84,7 +84,7 @@ still s t name number p step is = record {
 }
 
 -- one step more
-run-push : (done : List Step) (s a b : ContextState) (step : Step) → Runs s done a → Takes a step b → Runs s (done ++ step ∷ []) b
+pub run-push : (done : List Step) (s a b : ContextState) (step : Step) → Runs s done a → Takes a step b → Runs s (done ++ step ∷ []) b
 run-push [] s a b step run takes = (b, subst (λ (u : ContextState). Takes u step b) run takes, refl)
 run-push (first ∷ done) s a b step run takes = (run.0, run.1, run-push done run.0 a b step run.2 takes)
 

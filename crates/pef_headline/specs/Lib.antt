@@ -5,3 +5,4 @@ pub mod Memory
 pub mod Now
 pub mod Others
 pub mod Placed
+pub mod Served

@@ -36,6 +36,11 @@ abbrev pub StaysAt : (steps : List Step) (s t : ContextState) → Runs s steps t
 StaysAt [] s t run p places = IsPresentAt s p places
 StaysAt (step ∷ steps) s t run p places = IsPresentAt s p places × StaysAt steps run.0 t run.2 p places
 
+-- a run of steps comes through this state
+abbrev pub ComesThrough : (steps : List Step) (s t : ContextState) → Runs s steps t → ContextState → Type 0
+ComesThrough [] s t run m = m ≡ s
+ComesThrough (step ∷ steps) s t run m = (m ≡ s) ⊎ ComesThrough steps run.0 t run.2 m
+
 -- a step of a run placed the fragment in place p in this memory. In each state since then the fragment has been present
 -- with the places that it has at the end
 abbrev pub WasPlaced : (steps : List Step) (s t : ContextState) → Runs s steps t → ℕ → Layout → Type 0

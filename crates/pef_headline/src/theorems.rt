@@ -1,26 +1,38 @@
-//! The headline, and the laws of its conditions, of refusals, and from a text to memory. They are laws of the
+//! The headline, and the laws of its conditions, of refusals, of imports, and from a text to memory. They are laws of the
 //! definitions in which the crates below state their contracts. The functions do nothing.
-ghost use Rattle.std.specs.Prelude.{◌≡◌, ℕ, List, None, Some, Err, Contains, Result, true};
+ghost use Rattle.std.specs.Prelude.{◌≡◌, ℕ, List, None, Some, Err, Contains, Result, slice_get, true};
 ghost use Rattle.cfm_closure.specs.Stores.{Pair, place_of};
 ghost use Rattle.cfm_closure.specs.Faults.{no_container, no_loader};
 ghost use Rattle.cfm_closure.specs.Closures.{closed_of};
+ghost use Rattle.cfm_closure.specs.Fragments.{import_at};
 ghost use Rattle.cfm_memory.specs.Extents.{ArePlaced};
 ghost use Rattle.cfm_memory.specs.Instances.{Layout};
+ghost use Rattle.cfm_memory.specs.declared.place.Place.{Place as MemoryPlace};
 ghost use Rattle.cfm_prepare.specs.Addresses.{addresses_of};
 ghost use Rattle.cfm_prepare.specs.Fragments.{Present, extents_in, image_refusal_in, is_present, reloc_refusal_in};
 ghost use Rattle.cfm_prepare.specs.Refusals.{HasBadImage, HasBadProgram};
-ghost use Rattle.cfm_prepare.specs.Contexts.{ContextState};
+ghost use Rattle.cfm_prepare.specs.Contexts.{ContextState, Open, made_state};
+ghost use Rattle.cfm_prepare.specs.Options.{Choices};
+ghost use Rattle.cfm_prepare.specs.Readers.{import_target_of, symbol_address, symbol_of};
+ghost use Rattle.cfm_prepare.specs.Runs.{Runs, Step, Takes};
 ghost use Rattle.cfm_prepare.specs.Steps.{HasRoot, Prepares};
 ghost use Rattle.cfm_prepare.specs.declared.fault.PrepareFault.{PrepareFault};
+ghost use Rattle.cfm_prepare.specs.declared.imports.ImportTarget.{ImportTarget};
+ghost use Rattle.pef_format.specs.Symbols.{Import};
 ghost use Rattle.pef_format.specs.declared.place.Place.{Place};
 ghost use Rattle.pef_loader.specs.declared.fault.LoaderFault.{LoaderFault};
 ghost use Rattle.cfm_prepare.specs.declared.image_fault.ImageFault.{ImageFault};
 ghost use Rattle.pef_loader.specs.declared.program_fault.ProgramFault.{ProgramFault};
 ghost use Rattle.pef_script.specs.Script.{DescribedScript};
 ghost use Rattle.pef_headline.specs.Headline.{HasLeastPrograms, HasLinked, IsReached, LibrariesResolve, MayAnswer, OthersAreSound, PreparesAsDescribed, SectionsFindRoom, StaysAsDescribed};
+ghost use Rattle.pef_headline.specs.Imports.{HasImports};
 ghost use Rattle.pef_headline.specs.Memory.{HasLinkedText, ReadsDescribed, fragment_reader, root_reader};
 ghost use Rattle.pef_headline.specs.Others.{HasForeign, NamesForeign};
+ghost use Rattle.pef_headline.specs.Placed.{ComesThrough, IsPresentAt, StaysAt};
+ghost use Rattle.pef_headline.specs.Served.{IsOpen, MeansSymbol};
 ghost use Rattle.pef_views.specs.declared.fault.ViewFault.{ViewFault};
+
+use cfm_prepare::theorems::present_fragments;
 
 /// The headline. Every container that the linker writes prepares, wherever its libraries resolve and its sections find
 /// room, to exactly the memory that its script describes; and for each section its relocation program has no more
@@ -93,3 +105,40 @@ pub fn script_to_memory()
     ensures root { (text : List ℕ) (s t : ContextState) (name : List ℕ) (number p : ℕ) → IsReached s → (has : HasLinkedText s.pairs p text) → Prepares s name number t → place_of s.pairs name ≡ Some p
         → ReadsDescribed t p (root_reader t number) has.script }
 {}
+
+/// The headline is about all contexts: one that was made is reached, and so is each to which a step leads.
+pub fn contexts_are_reached()
+    ensures made { (pairs : List Pair) (choices : Choices) → IsReached (made_state pairs choices) }
+    ensures step { (s t : ContextState) (step : Step) → IsReached s → Takes s step t → IsReached t }
+{}
+
+/// A fragment that stays from a state of a run on is present, with its places, in each state that the run comes through from there.
+pub fn fragments_stay()
+    ensures { (steps : List Step) (s t m : ContextState) (run : Runs s steps t) (p : ℕ) (places : List MemoryPlace) → StaysAt steps s t run p places → ComesThrough steps s t run m → IsPresentAt m p places }
+{}
+
+/// If one fragment has the imports of two scripts, both describe the same imports, from libraries with the same names, versions and
+/// options.
+pub fn imports_are_known()
+    ensures { (pairs : List Pair) (p : ℕ) (script other : DescribedScript) → HasImports pairs p script → HasImports pairs p other → (j : ℕ) (symbol : Import) → slice_get script.imports j ≡ Some symbol
+        → (slice_get other.imports j ≡ Some symbol) × (slice_get other.libraries symbol.library ≡ slice_get script.libraries symbol.library) }
+{}
+
+/// An import of a fragment of an open connection's closure means, in every state that is reached, the symbol that its
+/// library exports under its name.
+///
+/// `means`: `import_target` gives no target if the library is absent. Otherwise a fragment of the same closure serves the
+/// import. The import's address is what `fragment_symbol` of the connection gives for that fragment and the import's name,
+/// also if that export passes on an import. If it gives none, the import is weak and has no target.
+///
+/// `agree`: of two open connections whose closures have a fragment, `fragment_symbol` gives the same for it.
+///
+/// `root`: so if a connection is open to that fragment itself, its `symbol` gives the same.
+pub fn imports_mean_symbols()
+    ensures means { (s : ContextState) (o : Open) (p j : ℕ) (import : Import) (meant : ImportTarget) → IsOpen s o → import_at s.pairs p j ≡ Some import → import_target_of s.present o p j ≡ Some meant
+        → MeansSymbol s o p import meant }
+    ensures agree { (s : ContextState) (o x : Open) (q : ℕ) (name : List ℕ) → IsOpen s o → IsOpen s x → Contains o.closed.order q → Contains x.closed.order q → symbol_of s.present x q name ≡ symbol_of s.present o q name }
+    ensures root { (s : ContextState) (o x : Open) (name : List ℕ) → IsOpen s o → IsOpen s x → Contains o.closed.order x.root → symbol_address s.present x name ≡ symbol_of s.present o x.root name }
+{
+    present_fragments();
+}
