@@ -11,7 +11,7 @@ use Rattle.pef_script.specs.Text.Grammar as grammar
 use Rattle.pef_script.specs.Text.Grammar.{script_of}
 use Rattle.pef_script.specs.Script.{DescribedScript, DescribedSection}
 use Rattle.pef_script.specs.WellFormed.{ScriptHolds, SectionHolds}
-use Rattle.pef_write.specs.Linked.{AreCertified, CertifiedContainer, IsCertifiedLink, IsLinked, LinkedContainer}
+use Rattle.pef_write.specs.Linked.{AreCertified, CertifiedContainer, IsCertifiedLink, IsLinkedContainer, LinkedContainer}
 use Rattle.pef_tool.specs.Check.{AreVerdicts, Judges, Texts, are_numbered, match_sections}
 use Rattle.std.proofs.lemmas.Bool.{and_from}
 use Rattle.pef_tool.specs.Distances.{CertifiesFile, IsYesToAll}
@@ -44,7 +44,7 @@ certificates_print script l is = subst (AllByRecursion Printable) (sym is.certif
 
 -- a file whose script was linked
 pub files_linked : {F : Type 0} {port : FilesPort F} {before after : F} {path text : List ℕ} {l : LinkedContainer} (given : List ℕ) (script : DescribedScript)
-    → Reads port before after path (Ok text) → given ≡ text → script_of given ≡ Ok script → IsLinked script l → LinksFile port before after path l
+    → Reads port before after path (Ok text) → given ≡ text → script_of given ≡ Ok script → IsLinkedContainer script l → LinksFile port before after path l
 files_linked {F} {port} {before} {after} {path} {text} {l} given script read same reads linked = record {
   text = text;
   read = read;

@@ -16,9 +16,9 @@ use Rattle.pef_views.specs.declared.fault.ViewFault.{ViewFault}
 use Rattle.pef_views.proofs.Laws.{kept_whole}
 use Rattle.pef_tool.specs.Answers.Answers.{Answer}
 use Rattle.pef_tool.specs.Companions.{CompanionIs, Looks, LooksAt, LooksIf, companion_places}
-use Rattle.pef_tool.specs.Extract.{ExtractAnswers, ExtractRefuses, ExtractsInspected, FindsContainer, FindsIn, IsKept, WritesFound, as_fault, extracts, found_beside, found_in, found_with, numbered, refuses}
+use Rattle.pef_tool.specs.Extract.{ExtractAnswers, ExtractRefuses, ExtractsInspected, FindsContainer, FindsIn, IsKept, as_fault, extracts, found_beside, found_in, found_with, numbered, refuses}
 use Rattle.pef_tool.specs.Spellings.{container_asked}
-use Rattle.pef_tool.specs.Kept.Extracting.{EndsWith, ReadEnds, WrittenAnswer}
+use Rattle.pef_tool.specs.Kept.Extracting.{ReadEnds, WrittenAnswer}
 
 -- what was read of a companion: its bytes, unless an allocation failed
 abbrev IsRead : Result (List ℕ) Fault → Type 0

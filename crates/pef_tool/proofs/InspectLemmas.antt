@@ -2,9 +2,9 @@
 use Rattle.std.proofs.Common.{◌≡◌, ◌+◌, ◌-◌, ◌^◌, ℕ, List, [], ◌∷◌, ◌++◌, Option, None, Some, Result, Ok, Err, codes, IfErr, IfOk, min, refl, sym, subst, append_assoc, append-nil, ◌∙◌, IsErrAnd, inr}
 use Rattle.std.specs.declared.alloc.Global.{Global}
 use Rattle.std.specs.declared.vec.Vec.{Vec}
-use Rattle.mac_report.specs.DataFiles.{DataFileIs}
-use Rattle.mac_report.specs.Reports.{unread_because, unread_counts, unread_text}
-use Rattle.mac_report.specs.declared.file.Form.{Form}
+use Rattle.mac_rows.specs.DataFiles.{DataFileIs}
+use Rattle.mac_rows.specs.Unread.{unread_because, unread_counts, unread_text}
+use Rattle.mac_rows.specs.declared.output_format.OutputFormat.{OutputFormat}
 use Rattle.pef_faults.specs.Faults.{fault_name, fault_number, fault_reason}
 use Rattle.pef_faults.specs.declared.fault.Fault.{Fault}
 use Rattle.pef_faults.specs.declared.fault.Fault.TheVariants as fault
@@ -38,12 +38,12 @@ module _ {F : Type 0} (port : FilesPort F) (before after : F) (path : List ℕ) 
   path_read (Err why) read refused = path_failed why refused
 
 -- what was sent of the first files, and what the files that are left add to it
-pub record HasInspected {F R : Type 0} (port : FilesPort F) (stream : R → Stream) (form : Form) (first files : F) (start input : R) (before after : Stream) (page : List ℕ) (paths : List (List ℕ)) (errors : ℕ) (left : List (List ℕ)) : Type 0 where
+pub record HasInspected {F R : Type 0} (port : FilesPort F) (stream : R → Stream) (form : OutputFormat) (first files : F) (start input : R) (before after : Stream) (page : List ℕ) (paths : List (List ℕ)) (errors : ℕ) (left : List (List ℕ)) : Type 0 where
   pub sent : List ℕ
   pub prints : Prints before after [] page sent
   pub inspects : (last : F) (end : R) (text : List ℕ) (all : ℕ) → Inspects port stream form files last input end left errors text all → Inspects port stream form first last start end paths 0 (sent ++ text) all
 
-module _ {F R : Type 0} (port : FilesPort F) (stream : R → Stream) (form : Form) where
+module _ {F R : Type 0} (port : FilesPort F) (stream : R → Stream) (form : OutputFormat) where
   -- a file that wasn't reached has a report
   unreached : (files : F) (input : R) (path : List ℕ)
       → Reported port stream None form files files input input path (unread_because form path (fault_number fault.OutOfMemory) (fault_name fault.OutOfMemory) (fault_reason fault.OutOfMemory)) 1
@@ -116,12 +116,12 @@ module _ {F R : Type 0} (port : FilesPort F) (stream : R → Stream) (form : For
         (so_far.sent, subst P (append-nil so_far.sent) (so_far.inspects files input [] errors (subst Q (sym none) (refl, refl, refl, refl))), so_far.prints)
 
 -- some report on what was read
-some_printed : (form : Form) (path : List ℕ) (other : Option DataFileIs) (read : Result (List ℕ) Fault) → (text : List ℕ) × (errors : ℕ) × IsPrinted form path other read text errors
+some_printed : (form : OutputFormat) (path : List ℕ) (other : Option DataFileIs) (read : Result (List ℕ) Fault) → (text : List ℕ) × (errors : ℕ) × IsPrinted form path other read text errors
 some_printed form path other (Ok bytes) = (unread_text form path 99 (codes "OutOfMemory"), 1, (unread_counts, inr (refl, refl), refl))
 some_printed form path other (Err why) = (unread_because form path (fault_number why) (fault_name why) (fault_reason why), 1, (refl, refl))
 
 -- .. on a companion that wasn't reached
-pub some_beside : (form : Form) (path : List ℕ) (read : Result (List ℕ) Fault) (companion : Option CompanionIs) → (text : List ℕ) × (errors : ℕ) × IsPrintedBeside form path read companion text errors
+pub some_beside : (form : OutputFormat) (path : List ℕ) (read : Result (List ℕ) Fault) (companion : Option CompanionIs) → (text : List ℕ) × (errors : ℕ) × IsPrintedBeside form path read companion text errors
 some_beside form path (Ok bytes) (Some c) = some_printed form c.path (Some (record { path = path; bytes = bytes })) c.read
 some_beside form path (Ok bytes) None = ([], 0, (refl, refl))
 some_beside form path (Err why) companion = ([], 0, (refl, refl))

@@ -3,7 +3,7 @@
 -- emulators and other tools the rest. The order is this project's own.
 use Rattle.std.specs.Prelude.{◌≡◌, ◌⊎◌, ◌==◌, ◌||◌, ◌&&◌, ℕ, zero, suc, Bool, true, false, not, List, [], ◌∷◌, ◌++◌, Option, None, Some, Result, Ok, Err, codes, drop, get_or, length, take, if◌then◌else◌}
 use Rattle.std.specs.Str.{bytes_eq}
-use Rattle.mac_report.specs.DataFiles.{is_data_fork, is_resource_file}
+use Rattle.mac_rows.specs.DataFiles.{is_data_fork, is_resource_file}
 use Rattle.pef_faults.specs.declared.fault.Fault.{Fault}
 use Rattle.pef_faults.specs.declared.fault.Fault.TheVariants.{OutOfMemory}
 use Rattle.pef_ports.specs.Ports.{FilesPort, Reads}

@@ -3,17 +3,18 @@
 -- report on both before it reads the next. It makes no other call on files. `-` names the standard input.
 use Rattle.std.specs.Prelude.{◌≡◌, ◌⊎◌, ℕ, ◌+◌, ◌-◌, ◌^◌, ◌==◌, ◌&&◌, ◌≤◌, Bool, true, false, not, List, [], ◌∷◌, ◌++◌, Option, None, Some, Result, Ok, Err, codes, length, min, if◌then◌else◌}
 use Rattle.std.specs.Str.{bytes_eq}
-use Rattle.mac_report.specs.DataFiles.{DataFileIs}
-use Rattle.mac_report.specs.Reports.{IsReport, unread_because}
-use Rattle.mac_report.specs.declared.file.Form.{Form}
-use Rattle.mac_report.specs.declared.file.Form.TheVariants.{Text, Json}
+use Rattle.mac_report.specs.Reports.{IsReport}
+use Rattle.mac_rows.specs.DataFiles.{DataFileIs}
+use Rattle.mac_rows.specs.Unread.{unread_because}
+use Rattle.mac_rows.specs.declared.output_format.OutputFormat.{OutputFormat}
+use Rattle.mac_rows.specs.declared.output_format.OutputFormat.TheVariants.{Text, Json}
 use Rattle.pef_faults.specs.Faults.{fault_name, fault_number, fault_reason}
 use Rattle.pef_faults.specs.declared.fault.Fault.{Fault}
 use Rattle.pef_faults.specs.declared.fault.Fault.TheVariants.{Input, Unreadable, OutOfMemory}
 use Rattle.pef_ports.specs.Input.{IsWhole}
 use Rattle.pef_ports.specs.Ports.{Begins, FilesPort, NoneFailed, Reads, Stream}
 use Rattle.pef_ports.specs.declared.ports.FileFault.TheVariants as file_fault
-use Rattle.pef_report.specs.declared.frames.Counts.{Counts}
+use Rattle.pef_rows.specs.declared.frames.Counts.{Counts}
 use Rattle.pef_tool.specs.Answers.Answers.{Answer}
 use Rattle.pef_tool.specs.Answers.Faults.{fault_answer}
 use Rattle.pef_tool.specs.Companions.{CompanionIs, LooksIf, may_have_companion}
@@ -23,7 +24,7 @@ use Rattle.pef_tool.specs.declared.answers.outcome.Outcome.{Outcome}
 use Rattle.pef_tool.specs.declared.answers.outcome.Outcome.TheVariants.{Done, SaidNo}
 
 -- how the reports are printed
-abbrev pub form_of : Bool → Form
+abbrev pub form_of : Bool → OutputFormat
 form_of json = if json then Json else Text
 
 -- a path names the standard input
@@ -65,7 +66,7 @@ ReadsGiven resources port stream files files' input input' (Ok bytes) None = ⊥
 ReadsGiven resources port stream files files' input input' (Ok bytes) (Some c) = (c.path ≡ resources) × IsRead port stream files files' input input' resources c.read
 ReadsGiven resources port stream files files' input input' (Err fault) companion = (companion ≡ None) × (files' ≡ files) × (input' ≡ input)
 
--- one or the other
+-- the companion that was asked for, or the one that was looked for
 abbrev pub LooksBy : {F R : Type 0} → Option (List ℕ) → FilesPort F → (R → Stream) → F → F → R → R → List ℕ → Result (List ℕ) Fault → Option CompanionIs → Type 0
 LooksBy None port stream files files' input input' path read companion = LooksFor port files files' path read companion × (input' ≡ input)
 LooksBy (Some resources) port stream files files' input input' path read companion = ReadsGiven resources port stream files files' input input' read companion
@@ -82,18 +83,18 @@ abbrev pub blamed : Counts → ℕ
 blamed counts = min (counts.errors + counts.unverified) (2 ^ 64 - 1)
 
 -- a report on what was read, and its number of these. A file that wasn't read has one error
-abbrev pub IsPrinted : Form → List ℕ → Option DataFileIs → Result (List ℕ) Fault → List ℕ → ℕ → Type 0
+abbrev pub IsPrinted : OutputFormat → List ℕ → Option DataFileIs → Result (List ℕ) Fault → List ℕ → ℕ → Type 0
 IsPrinted form path other (Ok bytes) text errors = (counts : Counts) × IsReport form path bytes other text counts × (errors ≡ blamed counts)
 IsPrinted form path other (Err fault) text errors = (text ≡ unread_because form path (fault_number fault) (fault_name fault) (fault_reason fault)) × (errors ≡ 1)
 
 -- the report on the companion of a file, if there is one. The file has its data fork
-abbrev pub IsPrintedBeside : Form → List ℕ → Result (List ℕ) Fault → Option CompanionIs → List ℕ → ℕ → Type 0
+abbrev pub IsPrintedBeside : OutputFormat → List ℕ → Result (List ℕ) Fault → Option CompanionIs → List ℕ → ℕ → Type 0
 IsPrintedBeside form path (Ok bytes) (Some c) text errors = IsPrinted form c.path (Some (record { path = path; bytes = bytes })) c.read text errors
 IsPrintedBeside form path (Ok bytes) None text errors = (text ≡ []) × (errors ≡ 0)
 IsPrintedBeside form path (Err fault) companion text errors = (text ≡ []) × (errors ≡ 0)
 
 -- the report on a file, and that on its companion
-pub record IsPairPrinted (form : Form) (path : List ℕ) (read : Result (List ℕ) Fault) (companion : Option CompanionIs) (text : List ℕ) (errors : ℕ) : Type 0 where
+pub record IsPairPrinted (form : OutputFormat) (path : List ℕ) (read : Result (List ℕ) Fault) (companion : Option CompanionIs) (text : List ℕ) (errors : ℕ) : Type 0 where
   pub own : List ℕ
   pub own_errors : ℕ
   pub beside : List ℕ
@@ -104,7 +105,7 @@ pub record IsPairPrinted (form : Form) (path : List ℕ) (read : Result (List �
   pub sum : errors ≡ min (own_errors + beside_errors) (2 ^ 64 - 1)
 
 -- one file was read and reported, with its companion
-pub record Reported {F R : Type 0} (port : FilesPort F) (stream : R → Stream) (given : Option (List ℕ)) (form : Form) (files files' : F) (input input' : R) (path text : List ℕ) (errors : ℕ) : Type 0 where
+pub record Reported {F R : Type 0} (port : FilesPort F) (stream : R → Stream) (given : Option (List ℕ)) (form : OutputFormat) (files files' : F) (input input' : R) (path text : List ℕ) (errors : ℕ) : Type 0 where
   pub read : Result (List ℕ) Fault
   pub companion : Option CompanionIs
   pub pair : ReadsPair port stream given files files' input input' path read companion
@@ -112,7 +113,7 @@ pub record Reported {F R : Type 0} (port : FilesPort F) (stream : R → Stream) 
 
 -- the files at some paths were read and reported, one after the other, with this number of errors in all, up to the
 -- greatest number of 64 bits
-abbrev pub Inspects : {F R : Type 0} → FilesPort F → (R → Stream) → Form → F → F → R → R → List (List ℕ) → ℕ → List ℕ → ℕ → Type 0
+abbrev pub Inspects : {F R : Type 0} → FilesPort F → (R → Stream) → OutputFormat → F → F → R → R → List (List ℕ) → ℕ → List ℕ → ℕ → Type 0
 Inspects {F} {R} port stream form files files' input input' [] before text errors = (files' ≡ files) × (input' ≡ input) × (text ≡ []) × (errors ≡ before)
 Inspects {F} {R} port stream form files files' input input' (path ∷ paths) before text errors =
     (between : F) × (rest : R) × (here : List ℕ) × (more : ℕ) × (others : List ℕ)

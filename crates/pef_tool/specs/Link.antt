@@ -12,7 +12,7 @@ use Rattle.pef_faults.specs.declared.fault.Fault.{Fault}
 use Rattle.pef_faults.specs.declared.fault.Fault.TheVariants.{Script, Unreadable, Unwritable, OutOfMemory}
 use Rattle.pef_tool.specs.Answers.Answers.{Answer, answer_done}
 use Rattle.pef_tool.specs.Answers.Faults.{fault_answer}
-use Rattle.pef_write.specs.Linked.{IsLinked, LinkedContainer}
+use Rattle.pef_write.specs.Linked.{IsLinkedContainer, LinkedContainer}
 
 -- SCRIPT was read, has this text, and isn't a script, for this reason
 pub record RefusesFile {F : Type 0} (port : FilesPort F) (before after : F) (path : List ℕ) (fault : ScriptFault) (text : List ℕ) : Type 0 where
@@ -25,7 +25,7 @@ pub record LinksFile {F : Type 0} (port : FilesPort F) (before after : F) (path 
   pub read : Reads port before after path (Ok text)
   pub script : DescribedScript
   pub is_script : script_of text ≡ Ok script
-  pub linked : IsLinked script l
+  pub linked : IsLinkedContainer script l
 
 -- an allocation failed before, during or after reading SCRIPT
 abbrev pub LinkingLacksMemory : {F : Type 0} → FilesPort F → F → F → List ℕ → Type 0

@@ -1,6 +1,6 @@
 -- How NAME of `extract` can be written (this project's own): as the bytes of the fragment's name, or as the name is printed, or in
 -- UTF-8 by the characters that Mac Roman gives its bytes.
-use Rattle.std.specs.Prelude.{ℕ, ◌+◌, ◌/◌, ◌%◌, ◌==◌, ◌&&◌, ◌||◌, Bool, not, List, [], ◌∷◌, ◌++◌, Option, None, Some, Result, Ok, Err, nat_lt, if◌then◌else◌}
+use Rattle.std.specs.Prelude.{ℕ, ◌+◌, ◌/◌, ◌%◌, ◌==◌, ◌||◌, Bool, List, [], ◌∷◌, ◌++◌, Option, None, Some, Result, Ok, Err, nat_lt, if◌then◌else◌}
 use Rattle.std.specs.Option.{option_or}
 use Rattle.std.specs.Str.{bytes_eq}
 use Rattle.cfm_members.specs.Fragments.{container_in_pair, table_in_file}
@@ -9,7 +9,7 @@ use Rattle.cfm_members.specs.declared.fault.MemberFault.{MemberFault}
 use Rattle.cfm_members.specs.declared.fragment_fault.FragmentFault.{FragmentFault}
 use Rattle.cfm_members.specs.declared.fragment_fault.FragmentFault.TheVariants.{NoContainer}
 use Rattle.pef_ports.specs.Names.{name_text}
-use Rattle.pef_report.specs.Strings.{character_of}
+use Rattle.pef_rows.specs.Strings.{character_of}
 
 -- a character below FFFF (hex) in UTF-8 (RFC 3629)
 unfoldable pub utf8_of : ℕ → List ℕ

@@ -42,7 +42,7 @@ pub fn run<F: Files, R: Source, W: Sink>(
     perform(alloc, words, files, input, out).status()
 }
 
-/// Does the same as [`run`] and returns the outcome, which [`explain`](crate::explain) takes.
+/// Runs a command as [`run`] does, and returns the outcome, which [`explain`](crate::explain) takes.
 pub fn perform<F: Files, R: Source, W: Sink>(
     alloc: Global,
     words: &[String],

@@ -6,7 +6,7 @@ ghost use Rattle.pef_tool.specs.Companions.{Looks, LooksAt, companion_places, fo
 ghost use Rattle.pef_tool.specs.Kept.Inspecting.{companion_seen, mirrors_from, place_seen};
 
 use crate::inspect::Named;
-use mac_report::{is_data_fork, is_resource_file};
+use mac_rows::{is_data_fork, is_resource_file};
 use memchr::memrchr;
 use pef_faults::Fault;
 use pef_ports::{FileFault, Files};
@@ -221,7 +221,7 @@ fn look_at_mirror<'a, F: Files>(
     }
 }
 
-/// Returns the path of the place there.
+/// Returns the path of the companion in the folder `__MACOSX` at an offset of the path.
 fn mirror_path(alloc: Global, path: SplitPath<'_>, at: usize) -> Result<Vec<u8>, AllocError>
     requires { at ≤ length path.folder.now }
     ensures { IfOk result (λ p. p.items ≡ mirror_of path.entry.folder.now path.entry.name.now at) }

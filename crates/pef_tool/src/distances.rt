@@ -11,8 +11,8 @@ use pef_cert::PackedCertificate;
 use pef_ports::{Files, Page, Sink, StreamFault};
 use std::alloc::Global;
 
-/// Links the script at a path, and prints the certificates. The certificate of a section states that no program is
-/// shorter than the one that was linked.
+/// Prints the certificates of the sections of the script at a path. Each has a program for its section, and proves that no
+/// program without repeats is shorter.
 ///
 /// All certificates are made before the first line is printed.
 pub fn print_distances<F: Files, W: Sink>(

@@ -2,17 +2,18 @@ ghost use Rattle.std.specs.Prelude.{◌≡◌, ◌<◌, ◌∷◌, IfOk, List, [
 ghost use Rattle.pef_ports.specs.Sent.{Sends};
 ghost use Rattle.pef_tool.specs.Answers.Answers.{Answer, IsDelivered};
 ghost use Rattle.pef_tool.specs.Inspect.{InspectAnswers, InspectListedAnswers, InspectPairAnswers, Inspects, IsPairPrinted, IsPrinted, IsPrintedBeside, LooksFor, ReadsBy, ReadsGiven, ReadsPair, ReadsPath, ReadsStandard, Reported, form_of, is_input, listed_paths, outcome_of};
-ghost use Rattle.mac_report.specs.Reports.{unread_because};
-ghost use Rattle.mac_report.specs.Views.{data_file_seen};
+ghost use Rattle.mac_rows.specs.Unread.{unread_because};
+ghost use Rattle.mac_rows.specs.Views.{data_file_seen};
 ghost use Rattle.pef_tool.specs.Kept.Inspecting.{companion_seen, read_seen};
 
 use crate::answers::{Outcome, deliver};
 use crate::companion::{Companion, find_companion, may_have_companion};
 use crate::reading::read_file;
-use mac_report::{DataFile, FileReport, Form, UnreadFile};
+use mac_report::FileReport;
+use mac_rows::{DataFile, OutputFormat, UnreadFile};
 use pef_faults::Fault;
 use pef_ports::{FileReason, Files, Page, Sink, Source, StreamFault, flush, read_input};
-use pef_report::print_tokens;
+use pef_rows::print_tokens;
 use std::alloc::{AllocError, Global};
 
 /// The most bytes of an input that are read.
@@ -187,10 +188,14 @@ fn print_given<F: Files, R: Source, W: Sink>(
 }
 
 /// Returns how reports are printed.
-fn form_of(json: bool) -> Form
+fn form_of(json: bool) -> OutputFormat
     ensures { result ≡ form_of json }
 {
-    if json { Form::Json } else { Form::Text }
+    if json {
+        OutputFormat::Json
+    } else {
+        OutputFormat::Text
+    }
 }
 
 /// A path, and the bytes that were read there.
@@ -329,7 +334,7 @@ fn print_pair<W: Sink>(
     alloc: Global,
     out: &mut W,
     page: &mut Page,
-    form: Form,
+    form: OutputFormat,
     pair: &Pair<'_>,
 ) -> Result<u64, StreamFault>
     ensures { (text : List ℕ) × (errors : ℕ)
@@ -351,7 +356,7 @@ fn print_companion<W: Sink>(
     alloc: Global,
     out: &mut W,
     page: &mut Page,
-    form: Form,
+    form: OutputFormat,
     pair: &Pair<'_>,
 ) -> Result<u64, StreamFault>
     ensures { (text : List ℕ) × (errors : ℕ)
@@ -437,7 +442,7 @@ fn print_found<'x, W: Sink>(
     }
 }
 
-/// Prints nothing, which has no error.
+/// Prints nothing, and returns that there is no error.
 fn print_nothing<W: Sink>(out: &mut W, page: &mut Page) -> Result<u64, StreamFault>
     ensures sent { Sends result (W.stream out.old) (W.stream out.new) page.old.items page.new.items [] }
     ensures none { IfOk result (λ n. n ≡ 0) }
@@ -449,14 +454,14 @@ fn print_nothing<W: Sink>(out: &mut W, page: &mut Page) -> Result<u64, StreamFau
 /// How a report is printed, and which file has the data fork, if it is another.
 #[derive(Clone, Copy)]
 struct Shown<'a> {
-    form: Form,
+    form: OutputFormat,
     data_file: Option<DataFile<'a>>,
 }
 
 /// How the report on a companion is printed, and the file that it belongs to.
 #[derive(Clone, Copy)]
 struct Beside<'a> {
-    form: Form,
+    form: OutputFormat,
     data_file: DataFile<'a>,
 }
 

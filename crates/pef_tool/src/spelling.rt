@@ -8,14 +8,14 @@ ghost use Rattle.cfm_members.specs.Members.{all_members};
 ghost use Rattle.cfm_members.specs.Views.{name_seen, row_seen, table_seen};
 ghost use Rattle.pef_ports.specs.Names.{byte_text, is_plain_byte, name_text};
 ghost use Rattle.pef_ports.specs.Text.{hex_digit};
-ghost use Rattle.pef_report.specs.Strings.{character_of};
+ghost use Rattle.pef_rows.specs.Strings.{character_of};
 ghost use Rattle.pef_tool.specs.Kept.Spelling.{after, after_one};
 ghost use Rattle.pef_tool.specs.Spellings.{container_asked, container_of_name, first_spelled, is_spelled, spelled_here, spelled_in, spelled_name, utf8_of, utf8_text};
 
 use cfm_members::{
     FragmentFault, FragmentTable, Member, MemberFault, container_in_pair, fragment_table,
 };
-use pef_report::character_of;
+use pef_rows::character_of;
 
 /// The architecture of members that aren't for PowerPC: `m68k`.
 const CFM_68K: u32 = 0x6D36_386B;
@@ -53,7 +53,8 @@ fn container_of_name<'a>(
     }
 }
 
-/// Returns the first name in the table of fragments of a file that can be written as a text.
+/// Returns the first name in the table of fragments of a file that is `asked` on the command line: printed
+/// so, or so in UTF-8.
 fn spelled_in<'a>(resources: &'a [u8], asked: &[u8]) -> Option<&'a [u8]>
     ensures { option_copied result ≡ spelled_in asked.now (table_in_file resources.entry.now) }
 {
@@ -63,7 +64,7 @@ fn spelled_in<'a>(resources: &'a [u8], asked: &[u8]) -> Option<&'a [u8]>
     }
 }
 
-/// Returns the first name of a table of fragments that can be written as a text.
+/// Returns the first name of a table of fragments that is `asked` on the command line.
 fn first_spelled<'a>(table: FragmentTable<'a>, asked: &[u8]) -> Option<&'a [u8]>
     ensures { option_copied result ≡ first_spelled asked.now (all_members (table_seen table.entry)) }
 {
@@ -76,7 +77,8 @@ fn first_spelled<'a>(table: FragmentTable<'a>, asked: &[u8]) -> Option<&'a [u8]>
     None
 }
 
-/// Returns the name of a row's member if it can be written as a text, and the member isn't for CFM-68K.
+/// Returns the name of a row's member if it is `asked` on the command line, and the member isn't for
+/// CFM-68K.
 fn spelled_here<'a>(row: Result<Member<'a>, MemberFault>, asked: &[u8]) -> Option<&'a [u8]>
     ensures { option_copied result ≡ spelled_here asked.now (row_seen row.entry) }
 {
@@ -92,7 +94,7 @@ fn spelled_here<'a>(row: Result<Member<'a>, MemberFault>, asked: &[u8]) -> Optio
     }
 }
 
-/// Returns a member's name if it can be written as a text.
+/// Returns a member's name if it is `asked` on the command line.
 fn spelled_name<'a>(name: Result<&'a [u8], MemberFault>, asked: &[u8]) -> Option<&'a [u8]>
     ensures { option_copied result ≡ spelled_name asked.now (name_seen name.entry) }
 {
@@ -108,7 +110,7 @@ fn spelled_name<'a>(name: Result<&'a [u8], MemberFault>, asked: &[u8]) -> Option
     }
 }
 
-/// Returns whether a name is printed as a text.
+/// Returns whether a name is printed as `asked`.
 fn is_printed_as(name: &[u8], asked: &[u8]) -> bool
     ensures { result ≡ bytes_eq (name_text name.now) asked.now }
 {
@@ -122,7 +124,7 @@ fn is_printed_as(name: &[u8], asked: &[u8]) -> bool
     rest.is_empty()
 }
 
-/// Returns whether a text is a name in UTF-8.
+/// Returns whether `asked` is a name in UTF-8.
 fn is_utf8_of(name: &[u8], asked: &[u8]) -> bool
     ensures { result ≡ bytes_eq (utf8_text name.now) asked.now }
 {
@@ -136,7 +138,7 @@ fn is_utf8_of(name: &[u8], asked: &[u8]) -> bool
     rest.is_empty()
 }
 
-/// Returns what follows a byte of a name, as it is printed, in a text that begins so.
+/// Returns what follows the printed form of a byte of a name in a text, if the text begins with that.
 fn after_printed<'a>(b: u8, text: &'a [u8]) -> Option<&'a [u8]>
     ensures { option_copied result ≡ after (byte_text b) text.entry.now }
 {
@@ -150,7 +152,7 @@ fn after_printed<'a>(b: u8, text: &'a [u8]) -> Option<&'a [u8]>
     }
 }
 
-/// Returns what follows a character in UTF-8 in a text that begins so.
+/// Returns what follows the UTF-8 of a character in a text, if the text begins with that.
 #[tactic(auto, unfolding(crate::specs::Spellings::utf8_of))]
 fn after_utf8<'a>(character: u16, text: &'a [u8]) -> Option<&'a [u8]>
     ensures { option_copied result ≡ after (utf8_of character) text.entry.now }

@@ -7,7 +7,7 @@ use Rattle.pef_script.specs.Text.Reads.{FailsAs}
 use Rattle.pef_script.specs.Script.{DescribedScript}
 use Rattle.pef_faults.specs.declared.fault.Fault.{Fault}
 use Rattle.pef_faults.specs.declared.fault.Fault.TheVariants.{Script, OutOfMemory}
-use Rattle.pef_write.specs.Linked.{AreLinkCertificates, IsLinked, LinkedContainer}
+use Rattle.pef_write.specs.Linked.{AreLinkCertificates, IsLinkedContainer, LinkedContainer}
 
 -- why the script in a text isn't linked: its first error, or a failed allocation
 abbrev pub RefusesText : List ℕ → Fault → Type 0
@@ -22,7 +22,7 @@ ReadsScript text (Err fault) = RefusesText text fault
 
 -- the result of linking a text: the container of its script, or an error
 abbrev pub LinksText : List ℕ → Result LinkedContainer Fault → Type 0
-LinksText text (Ok l) = (script : DescribedScript) × (script_of text ≡ Ok script) × IsLinked script l
+LinksText text (Ok l) = (script : DescribedScript) × (script_of text ≡ Ok script) × IsLinkedContainer script l
 LinksText text (Err fault) = RefusesText text fault
 
 -- .. or its certificates

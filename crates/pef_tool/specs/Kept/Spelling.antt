@@ -7,6 +7,6 @@ after [] bytes = Some bytes
 after (b ∷ text) [] = None
 after (b ∷ text) (x ∷ bytes) = if b == x then after text bytes else None
 
--- the same of a text of one byte
+-- what follows a byte in some bytes, if they begin with it
 abbrev pub after_one : ℕ → List ℕ → Option (List ℕ)
 after_one b bytes = after (b ∷ []) bytes

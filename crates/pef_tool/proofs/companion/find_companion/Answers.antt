@@ -1,5 +1,5 @@
 -- The folders above come after the same folder.
-use Rattle.std.proofs.Common.{List, ℕ, length}
+use Rattle.std.proofs.Common.{length}
 use Rattle.pef_ports.specs.Ports.{FilesPort}
 use Rattle.pef_tool.specs.Companions.{companion_places, mirrors_before, near_places}
 use Rattle.pef_tool.specs.Kept.Inspecting.{companion_seen}

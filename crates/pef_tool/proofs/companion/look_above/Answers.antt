@@ -1,7 +1,7 @@
 -- A place without a companion is passed over.
-use Rattle.std.proofs.Common.{◌∷◌, List, ℕ, Option, None, Some, arith, inl, inr, refl, subst, sym}
+use Rattle.std.proofs.Common.{List, ℕ, Some, arith, inl, inr, refl, subst, sym}
 use Rattle.pef_ports.specs.Ports.{FilesPort}
-use Rattle.pef_tool.specs.Companions.{CompanionIs, Looks, mirror_of, mirrors_before}
+use Rattle.pef_tool.specs.Companions.{Looks}
 use Rattle.pef_tool.specs.Kept.Inspecting.{companion_seen}
 use Rattle.pef_tool.proofs.companion.look_above.Goals as goal
 

@@ -1,6 +1,6 @@
 -- The offset before is the next one outwards.
-use Rattle.std.proofs.Common.{◌≡◌, ◌≤◌, ◌∙◌, ◌-◌, List, ℕ, suc, Bool, [], ◌∷◌, arith, ap, drop, false, subst, sym, true}
-use Rattle.pef_tool.specs.Companions.{is_start, is_unnamed, mirror_of, mirrors_before}
+use Rattle.std.proofs.Common.{◌≡◌, ◌∙◌, ◌-◌, suc, arith, ap, false, sym, true}
+use Rattle.pef_tool.specs.Companions.{is_start, is_unnamed, mirrors_before}
 use Rattle.pef_tool.proofs.MirrorLemmas.{before_name, before_none, inside_name}
 use Rattle.pef_tool.proofs.companion.name_before.Goals as goal
 

@@ -1,6 +1,6 @@
 -- An allocation that failed is the one error of the file itself.
 use Rattle.std.proofs.Common.{codes, refl}
-use Rattle.mac_report.specs.Reports.{unread_text}
+use Rattle.mac_rows.specs.Unread.{unread_text}
 use Rattle.pef_faults.specs.Faults.{fault_name, fault_number, fault_reason}
 use Rattle.pef_tool.proofs.inspect.print_found.Goals as goal
 

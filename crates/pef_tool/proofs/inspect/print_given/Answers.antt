@@ -1,6 +1,6 @@
 -- Both files are read, and then reported. The rest of the page is written last.
 use Rattle.std.proofs.Common.{List, ℕ, [], Some, append-nil, option_map, subst}
-use Rattle.mac_report.specs.declared.file.Form.{Form}
+use Rattle.mac_rows.specs.declared.output_format.OutputFormat.{OutputFormat}
 use Rattle.pef_ports.specs.Ports.{FilesPort}
 use Rattle.pef_ports.specs.Sent.{Prints, StopsShort}
 use Rattle.pef_ports.proofs.Laws.Sending.{Prints-then, Sends-short, StopsShort-then}
@@ -19,7 +19,7 @@ returns-in_err-errors g c =
     let companion = option_map (companion_seen asked.path.now) pair.companion in
     let e = c.in_err-errors.ensures in
     let P : List ℕ → Type 0 = λ (p : List ℕ). IsPairPrinted c.form_of.result p read (option_map (companion_seen p) pair.companion) e.0 e.1 in
-    let Q : Form → Type 0 = λ (f : Form). IsPairPrinted f asked.path.now read companion e.0 e.1 in
+    let Q : OutputFormat → Type 0 = λ (f : OutputFormat). IsPairPrinted f asked.path.now read companion e.0 e.1 in
     let reported : Reported port g.R.Source.stream (Some asked.resources.now) (form_of asked.json) c.args.files.now c.given_pair-pair.new.files c.args.input.now c.given_pair-pair.new.input asked.path.now e.0 e.1 =
     record { read = read; companion = companion; pair = c.given_pair-pair.ensures.pair; printed = subst Q c.form_of.ensures (subst P c.given_pair-pair.ensures.path e.2) } in
     let S : List ℕ → Type 0 = λ (page : List ℕ). StopsShort (stream c.args.out.now) (stream c.print_pair.new.out) page e.0 in
@@ -36,7 +36,7 @@ returns-in_err-flush g c =
     let companion = option_map (companion_seen asked.path.now) pair.companion in
     let e = c.in_ok-errors.ensures in
     let P : List ℕ → Type 0 = λ (p : List ℕ). IsPairPrinted c.form_of.result p read (option_map (companion_seen p) pair.companion) e.0 e.1 in
-    let Q : Form → Type 0 = λ (f : Form). IsPairPrinted f asked.path.now read companion e.0 e.1 in
+    let Q : OutputFormat → Type 0 = λ (f : OutputFormat). IsPairPrinted f asked.path.now read companion e.0 e.1 in
     let reported : Reported port g.R.Source.stream (Some asked.resources.now) (form_of asked.json) c.args.files.now c.given_pair-pair.new.files c.args.input.now c.given_pair-pair.new.input asked.path.now e.0 e.1 =
     record { read = read; companion = companion; pair = c.given_pair-pair.ensures.pair; printed = subst Q c.form_of.ensures (subst P c.given_pair-pair.ensures.path e.2) } in
     let B : List ℕ → Type 0 = λ (page : List ℕ). Prints (stream c.args.out.now) (stream c.print_pair.new.out) page c.print_pair.new.page.items e.0 in
@@ -55,7 +55,7 @@ returns g c =
     let companion = option_map (companion_seen asked.path.now) pair.companion in
     let e = c.in_ok-errors.ensures in
     let P : List ℕ → Type 0 = λ (p : List ℕ). IsPairPrinted c.form_of.result p read (option_map (companion_seen p) pair.companion) e.0 e.1 in
-    let Q : Form → Type 0 = λ (f : Form). IsPairPrinted f asked.path.now read companion e.0 e.1 in
+    let Q : OutputFormat → Type 0 = λ (f : OutputFormat). IsPairPrinted f asked.path.now read companion e.0 e.1 in
     let reported : Reported port g.R.Source.stream (Some asked.resources.now) (form_of asked.json) c.args.files.now c.given_pair-pair.new.files c.args.input.now c.given_pair-pair.new.input asked.path.now e.0 e.1 =
     record { read = read; companion = companion; pair = c.given_pair-pair.ensures.pair; printed = subst Q c.form_of.ensures (subst P c.given_pair-pair.ensures.path e.2) } in
     let B : List ℕ → Type 0 = λ (page : List ℕ). Prints (stream c.args.out.now) (stream c.print_pair.new.out) page c.print_pair.new.page.items e.0 in

@@ -1,6 +1,6 @@
 -- A file that wasn't read has one error.
 use Rattle.std.proofs.Common.{◌∙◌, List, ℕ, ap, ap₂, refl}
-use Rattle.mac_report.specs.Reports.{unread_because}
+use Rattle.mac_rows.specs.Unread.{unread_because}
 use Rattle.pef_ports.specs.declared.ports.FileReason.{FileReason}
 use Rattle.pef_tool.proofs.inspect.print_report.Goals as goal
 

@@ -2,7 +2,7 @@
 use Rattle.std.proofs.Common.{◌∙◌, ap, sym}
 use Rattle.std.proofs.lemmas.List.{at_drop_more}
 use Rattle.std.specs.Str.{bytes_eq}
-use Rattle.pef_report.specs.Strings.{character_of}
+use Rattle.pef_rows.specs.Strings.{character_of}
 use Rattle.pef_tool.specs.Kept.Spelling.{after}
 use Rattle.pef_tool.specs.Spellings.{utf8_of, utf8_text}
 use Rattle.pef_tool.proofs.SpellingLemmas.{after-none, after-some}
