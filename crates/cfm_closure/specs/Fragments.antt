@@ -38,11 +38,11 @@ fragment_of pairs p = with_container (pair_of pairs p).name (container_of (pair_
 abbrev pub container_at : List Pair → ℕ → Option Contained
 container_at pairs p = option_map (λ f. f.container) (result_ok (fragment_of pairs p))
 
--- its loader section
+-- the loader section of the fragment in a place, if it can be read
 abbrev pub loader_at : List Pair → ℕ → Option Loaded
 loader_at pairs p = option_map (λ f. f.loader) (result_ok (fragment_of pairs p))
 
--- how many libraries, imports and exports it has
+-- how many libraries, imports and exports the fragment in a place has
 abbrev pub library_count : List Pair → ℕ → ℕ
 library_count pairs p = option_map_or (λ l. l.header.library_count) (loader_at pairs p) 0
 
@@ -60,7 +60,8 @@ import_at pairs p j = option_and_then (λ l. import_of l j) (loader_at pairs p)
 unfoldable pub part_place : Fragment → Part → ℕ → ℕ → Place
 part_place f kind row field = container_place f.container kind row field
 
--- the same of the fragment in a position of the store, without an offset if it can't be read
+-- the place of a field of a part of the fragment in a position of the store, without an offset if it can't
+-- be read
 unfoldable pub place_at : List Pair → ℕ → Part → ℕ → ℕ → Place
 place_at pairs p kind row field = option_map_or (λ f. part_place f kind row field) (result_ok (fragment_of pairs p)) (placed_from None kind row field)
 

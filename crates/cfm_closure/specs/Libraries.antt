@@ -28,7 +28,7 @@ definition_of l = record { current = l.current; old_imp = l.old_imp }
 abbrev pub implementation_of : Fragment → Implementation
 implementation_of g = record { current = g.container.header.current_version; old_def = g.container.header.old_def_version }
 
--- how they fit
+-- how the versions of a library entry and of the found fragment fit
 abbrev pub fit_with : Library → Fragment → Fit
 fit_with l g = fit_of (definition_of l) (implementation_of g)
 
@@ -47,7 +47,7 @@ bound_at pairs f i l (Some q) = fragment_of pairs q >>= (λ g. bound_by (fit_wit
 unfoldable pub bound : List Pair → Fragment → ℕ → Library → Result (Option ℕ) BindRefusal
 bound pairs f i l = bound_at pairs f i l (place_of pairs l.name)
 
--- the same for entry l of the fragment in a place; none past the last entry
+-- the fragment of library entry l of the fragment in a place; none past the last entry
 unfoldable pub bound_to : List Pair → ℕ → ℕ → Result (Option ℕ) BindRefusal
 bound_to pairs p l = fragment_of pairs p >>= (λ f. option_map_or (bound pairs f l) (library_of f.loader l) (Ok None))
 

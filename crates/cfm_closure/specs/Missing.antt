@@ -31,7 +31,7 @@ pub record Missing : Type 0 where
 abbrev pub missing_entry : ℕ → Library → Option Implementation → Missing
 missing_entry p l found = record { name = l.name; needed = definition_of l; found = found; weak = (options_of l.options).weak; fragment = p }
 
--- of two entries with one name the first counts, unless it alone is weak
+-- if two entries have one name, the first that isn't weak is used, or the first if both are weak
 abbrev pub stricter : Missing → Missing → Missing
 stricter x m = if x.weak && not m.weak then m else x
 
@@ -79,7 +79,7 @@ abbrev pub search_entry : (ℕ → Sought → Result Sought BindRefusal) → Lis
 search_entry search pairs p None s = Ok s
 search_entry search pairs p (Some l) s = serving pairs l >>= search_by search p l s
 
--- the same for the n entries of a fragment from entry l on, in their order
+-- the n entries of a fragment from entry l on are searched, in their order
 abbrev pub search_from : (ℕ → Sought → Result Sought BindRefusal) → List Pair → ℕ → Loaded → ℕ → ℕ → Sought → Result Sought BindRefusal
 search_from search pairs p loader l zero s = Ok s
 search_from search pairs p loader l (suc n) s = search_entry search pairs p (library_of loader l) s >>= search_from search pairs p loader (l + 1) n
@@ -90,7 +90,7 @@ search_at search pairs p s true = Ok s
 search_at search pairs p s false =
     fragment_of pairs p >>= (λ f. search_from search pairs p f.loader 0 f.loader.header.library_count (visiting p s))
 
--- the walk from a fragment that visits at most n others, one within another: as many as there are are enough
+-- the walk from a fragment that visits at most n others, one within another: as many as the store has are enough
 unfoldable pub search : ℕ → List Pair → ℕ → Sought → Result Sought BindRefusal
 search zero pairs p s = Ok s
 search (suc n) pairs p s = search_at (search n pairs) pairs p s (was_visited s p)

@@ -6,6 +6,6 @@ use Rattle.cfm_closure.specs.declared.store_fault.StoreFault.TheVariants as faul
 abbrev pub fault_number : StoreFault → ℕ
 fault_number fault.OutOfMemory = 99
 
--- its name, which is its text
+-- the name of the refusal, which is its text
 abbrev pub fault_name : StoreFault → List ℕ
 fault_name fault.OutOfMemory = codes "OutOfMemory"

@@ -34,7 +34,7 @@ pub(crate) fn implementation_of(found: FragmentView<'_>) -> Implementation
     }
 }
 
-/// Returns `None` for a weak library that no fragment of the store is, which is then absent. Any other is refused.
+/// Returns `None` for a weak library that the store lacks: the library is absent. Any other is refused.
 fn missing<'a>(
     fragment: &FragmentView<'a>,
     l: usize,

@@ -104,8 +104,8 @@ impl<'a> Bindings<'a> {
         PlaceTable::new(alloc, self.pairs.len())
     }
 
-    /// Returns the fragments by their places, each once: libraries before those that need them, as far as
-    /// possible, and the fragment that needs all of them last.
+    /// Returns the fragments by their places, each once: libraries before the fragments that need them,
+    /// except in cycles, and the fragment that needs all of them last.
     pub fn order(&self) -> &[usize]
         ensures order { result.now ≡ self.now.order }
         ensures complete { IsComplete self.now.pairs self.now.order }

@@ -28,7 +28,7 @@ pub(crate) struct Cache<'a> {
 }
 
 impl<'a> Cache<'a> {
-    /// Returns the cache in which nothing is. Nothing is allocated yet.
+    /// Returns an empty cache. Nothing is allocated yet.
     pub fn empty(alloc: Global) -> Cache<'a>
         ensures views { result.views ≡ [] }
         ensures rows { result.rows ≡ [] }

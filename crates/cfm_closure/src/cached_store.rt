@@ -51,7 +51,8 @@ impl fmt::Debug for CachedStore<'_> {
 }
 
 impl<'a> CachedStore<'a> {
-    /// Returns a store with the same pairs, of which nothing was read. Nothing is allocated yet.
+    /// Returns a cached store with the pairs of a store. Nothing was read of it, and nothing is allocated
+    /// yet.
     pub fn new(alloc: Global, store: Store<'a>) -> CachedStore<'a>
         ensures { result ≡ store.entry }
     {

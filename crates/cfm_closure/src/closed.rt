@@ -52,8 +52,8 @@ impl fmt::Debug for Closure<'_> {
 }
 
 impl<'a> Closure<'a> {
-    /// Returns the fragments, each once: libraries before those that need them, as far as possible, and the
-    /// fragment itself last.
+    /// Returns the fragments, each once: libraries before the fragments that need them, except in cycles,
+    /// and the fragment itself last.
     pub fn order(&self) -> &[usize]
         ensures order { result.now ≡ self.now.order }
         ensures complete { IsComplete self.now.pairs self.now.order }
@@ -131,7 +131,7 @@ impl<'a> Closure<'a> {
         false
     }
 
-    /// Returns whether a fragment of the closure does.
+    /// Returns whether this fragment of the closure has a library entry with a name.
     fn fragment_names(&self, p: usize, name: &[u8]) -> bool
         requires { Contains self.now.order p }
         ensures yes { result ≡ true → NamesLibrary self.now.pairs self.now.order name.now }

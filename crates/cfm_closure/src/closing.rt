@@ -31,7 +31,7 @@ pub fn closure<'a>(
     closure_with(alloc, store, &mut cache, root)
 }
 
-/// Returns the same closure. What is in a cache of the store isn't read again.
+/// Returns the closure as [`closure`] does. What is in a cache of the store isn't read again.
 #[tactic(auto, unfolding(crate::specs::Closures::closed_of))]
 pub(crate) fn closure_with<'a>(
     alloc: Global,

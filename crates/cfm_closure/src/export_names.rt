@@ -76,7 +76,7 @@ impl<'a> ExportNames<'a> {
         Ok(())
     }
 
-    /// Returns the same of a fragment whose exports are asked for.
+    /// Returns what the first export with a name means, of a fragment that was begun.
     fn find_in(&mut self, bindings: &Bindings<'a>, q: usize, name: &[u8]) -> Option<ExportValue>
         requires place { Contains bindings.now.order q }
         requires names { AreNamesOf bindings.now.pairs bindings.now.order self.old }

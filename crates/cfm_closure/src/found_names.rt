@@ -21,7 +21,7 @@ const PROBES: usize = 32;
 #[derive(Clone, Copy)]
 pub(crate) struct FoundName<'a> {
     name: &'a [u8],
-    /// The name's number.
+    /// The hash of the name.
     mixed: u32,
     value: ExportValue,
 }
@@ -31,7 +31,7 @@ pub(crate) struct FoundName<'a> {
 #[derive(Drop)]
 pub(crate) struct FoundNames<'a> {
     loader: Loader<'a>,
-    /// None, or a power of two. A name is in one of the slots from that of its number on, or in none.
+    /// None, or a power of two. A name is in one of the slots from that of its hash on, or in none.
     slots: Vec<Option<FoundName<'a>>>,
 }
 
@@ -77,8 +77,8 @@ impl<'a> FoundNames<'a> {
         self.find_anew(at, mixed, name)
     }
 
-    /// Returns what the first export with a name means, and keeps it in slot `at`, if there is such a slot. Inside `find`, each
-    /// call would pay for the locals.
+    /// Returns what the first export with a name means, and keeps it in slot `at`, if there is such a slot. Kept out of line: a
+    /// name that is kept doesn't need it.
     #[inline(never)]
     fn find_anew(&mut self, at: usize, mixed: u32, name: &[u8]) -> Option<ExportValue>
         ensures value { MeansFirst self.old name.now result }
@@ -115,8 +115,8 @@ impl<'a> FoundNames<'a> {
     }
 }
 
-/// Returns the first slot from that of a name's number on which is free, or whose name has this number. If there is none
-/// near, it is the first slot, where the name takes another's place.
+/// Returns the first slot from that of a name's hash on which is free, or whose name has this hash. If there is none near, it is
+/// the first slot, whose name is replaced.
 fn place(slots: &[Option<FoundName<'_>>], mixed: u32) -> usize {
     let last = slots.len().saturating_sub(1);
     for probe in 0..PROBES {
@@ -129,8 +129,7 @@ fn place(slots: &[Option<FoundName<'_>>], mixed: u32) -> usize {
     mixed as usize & last
 }
 
-/// Returns a number for a name. Other names mostly have others. The format's hash words are the same for many names of
-/// one library.
+/// Returns a hash of a name. The format's hash words are the same for many names of one library, so this one mixes all bytes.
 fn mixed(name: &[u8]) -> u32 {
     let mut mixed = name.len() as u64;
     for word in name.chunks_exact(WORD) {
@@ -147,7 +146,7 @@ fn mixed(name: &[u8]) -> u32 {
     (mixed >> 32) as u32
 }
 
-/// Returns a number after one more word: both halves of a product, so that the last bytes of a name change all its bits.
+/// Returns a hash after one more word: both halves of a product, so that the last bytes of a name change all its bits.
 fn mix(mixed: u64, word: u64) -> u64 {
     let product = u128::from(mixed ^ word).wrapping_mul(u128::from(MIXER));
     (product >> 64) as u64 ^ (product % (1 << 64)) as u64

@@ -35,7 +35,8 @@ impl<'a> Model for Notes<'a> {
     ghost invariant = { λ s. AreNamed (map missing_seen s.libraries.items) s.places.entries };
 }
 
-/// Returns whether an entry takes the place of an earlier one with the same name, which alone is weak.
+/// Returns whether an entry replaces an earlier one with the same name: the earlier one is weak, and this
+/// one isn't.
 fn is_stricter(library: MissingLibrary<'_>, earlier: MissingLibrary<'_>) -> bool
     ensures { result ≡ (earlier.entry.weak && not library.entry.weak) }
 {
@@ -52,7 +53,8 @@ impl<'a> Notes<'a> {
         }
     }
 
-    /// Notes an entry. Of several with one name the first stays, unless it alone is weak.
+    /// Notes an entry. If several have the same name, the first that isn't weak stays, or the first of all
+    /// if each is weak.
     pub fn note(&mut self, library: MissingLibrary<'a>) -> Result<(), BindFault<'a>>
         ensures ok { OnOk result (self.new ≡ noted self.old (missing_seen library.entry)) }
         ensures err { IfErr result (λ e. e ≡ OutOfMemory) }

@@ -19,7 +19,7 @@ pub(crate) struct Symbols<'a> {
 }
 
 impl<'a> Symbols<'a> {
-    /// Returns tables of which none was read.
+    /// Returns the imports of a closure's fragments, none of which was read yet.
     pub fn new(alloc: Global, bindings: &Bindings<'a>) -> Result<Symbols<'a>, AllocError>
         ensures { IfOk result (λ symbols. AreSymbolsOf bindings.now.pairs bindings.now.order symbols) }
     {

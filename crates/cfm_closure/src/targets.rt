@@ -43,7 +43,7 @@ pub(crate) struct Found {
 }
 
 impl Found {
-    /// Returns that there is no target.
+    /// Returns the result for an import without a target.
     pub fn missing() -> Found
         ensures { meant result ≡ None }
     {
@@ -115,7 +115,7 @@ impl Model for SharedTargets {
 }
 
 impl SharedTargets {
-    /// Returns the same targets once more. They aren't copied.
+    /// Returns another owner of these targets. They aren't copied.
     pub fn another(&self) -> Result<SharedTargets, AllocError>
         ensures { IfOk result (λ targets. targets ≡ self.now) }
     {

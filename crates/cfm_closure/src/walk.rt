@@ -35,12 +35,12 @@ pub(crate) struct Walk<'a> {
     alloc: Global,
     /// The fragments that were read.
     pub fragments: PlaceTable<FragmentView<'a>>,
-    /// Those that are done.
+    /// The fragments that are done.
     pub closed: PlaceTable<ClosedFragment<'a>>,
     marked: Vec<bool>,
     /// The fragments from the root to the one that the walk is in.
     path: Vec<Frame<'a>>,
-    /// Those that are done, in the order in which they were done.
+    /// The fragments that are done, in the order in which they were done.
     pub order: Vec<usize>,
 }
 

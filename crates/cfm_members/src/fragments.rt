@@ -62,7 +62,7 @@ pub fn named_container<'a>(bytes: &'a [u8], name: &[u8]) -> Result<&'a [u8], Fra
 ///
 /// # Errors
 ///
-/// The error of the file's header, or the same of the other file.
+/// The error of the file's header, or those of [`named_container`] for the other file.
 #[tactic(auto, unfolding(crate::specs::Fragments::container_in_pair))]
 pub fn container_in_pair<'a>(
     bytes: &'a [u8],
@@ -99,7 +99,7 @@ fn container_beside<'a>(
 ///
 /// # Errors
 ///
-/// The same, from the resource fork's header on.
+/// Those of [`named_container`], from the resource fork's header on.
 #[tactic(auto, unfolding(crate::specs::Fragments::named_in_forks))]
 pub fn container_in_forks<'a>(
     data_fork: Option<Result<Part<'a>, ForkFault>>,

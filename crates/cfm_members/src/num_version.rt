@@ -15,7 +15,7 @@ pub enum Stage {
 /// The parts of a version number, as they are by custom (NumVersion): 01206003 (hexadecimal) is 1.2b3.
 #[derive(Clone, Copy, Debug, PartialEq, Eq)]
 pub struct NumVersion {
-    /// Two decimal digits. If a digit is above 9, it counts all the same.
+    /// Two decimal digits. A digit above 9 counts as it is.
     pub major: u8,
     pub minor: u8,
     pub bug: u8,

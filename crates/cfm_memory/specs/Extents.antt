@@ -45,7 +45,7 @@ MayNotPlace OutOfMemory m extents = ⊤
 abbrev pub empty_memory : ℕ → ℕ → Layout
 empty_memory granule limit = record { granule = granule; limit = limit; instances = []; reserved = [] }
 
--- the same if no granule was asked for
+-- memory without instances and reserved ranges, if no granule was asked for
 abbrev pub no_instances : ℕ → Layout
 no_instances limit = empty_memory grain limit
 

@@ -10,7 +10,7 @@ pub record Instance : Type 0 where
   pub address : ℕ
   pub bytes : List ℕ
 
--- a memory: what the addresses of its instances are multiples of, the address that no instance may exceed, the instances
+-- a memory: its granule, of which addresses of instances are multiples, the address that no instance may exceed, the instances
 -- in the order of their addresses, and the reserved ranges in theirs
 pub record Layout : Type 0 where
   pub granule : ℕ
@@ -62,7 +62,7 @@ range_in x address len =
     then Some (take len (drop (address - x.address) x.bytes))
     else None
 
--- the same in one of several instances
+-- the len bytes from an address on in one of several instances
 abbrev pub range_at : List Instance → ℕ → ℕ → Option (List ℕ)
 range_at [] address len = None
 range_at (x ∷ xs) address len = option_or (range_in x address len) (range_at xs address len)

@@ -11,7 +11,7 @@ first_address = 65536
 abbrev pub grain : ℕ
 grain = 16
 
--- what they can be multiples of instead: the powers of two from there on
+-- a granule: a power of two from the grain on
 pub record IsGranule (n : ℕ) : Type 0 where
   pub power_of_two : IsTrue (is_power_of_two n)
   pub least : grain ≤ n

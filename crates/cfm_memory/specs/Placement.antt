@@ -27,7 +27,7 @@ abbrev pub IsFree : ℕ → ℕ → ℕ → List Instance → Type 0
 IsFree granule address end [] = Unit {0}
 IsFree granule address end (x ∷ xs) = ((end ≤ x.address) ⊎ (end_of granule x ≤ address)) × IsFree granule address end xs
 
--- they meet no reserved range
+-- the bytes from an address to an end meet no reserved range
 abbrev pub IsClear : ℕ → ℕ → List Reserved → Type 0
 IsClear address end [] = Unit {0}
 IsClear address end (r ∷ rs) = ((end ≤ r.from) ⊎ (r.to ≤ address)) × IsClear address end rs

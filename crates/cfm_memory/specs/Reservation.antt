@@ -34,7 +34,7 @@ abbrev pub Reserves : Layout → ℕ → ℕ → Layout → Type 0
 Reserves m address size after =
     ((size ≡ 0) × (after ≡ m)) ⊎ ((0 < size) × IsVacant m (reserved_range address size) × (after ≡ with_reserved m (reserved_range address size)))
 
--- why they may not be reserved: an address is taken or past the last one; or else an allocation fails
+-- why some bytes may not be reserved: an address is taken or past the last one; or else an allocation fails
 abbrev pub MayNotReserve : Layout → ℕ → ℕ → MemoryFault → Type 0
 MayNotReserve m address size NoRoom = (0 < size) × (IsVacant m (reserved_range address size) → ⊥)
 MayNotReserve m address size OutOfMemory = (0 < size) × IsVacant m (reserved_range address size)

@@ -8,7 +8,8 @@ ghost use Rattle.cfm_memory.specs.Limits.{IsGranule, grain};
 use std::fmt;
 use thiserror::Error;
 
-/// What sections begin at multiples of, and take multiples of: a power of two from 16 on.
+/// The unit of placement: each section begins at a multiple of it, and takes a multiple of it. It is a
+/// power of two from 16 on.
 #[derive(Clone, Copy, Debug)]
 pub struct Granule {
     bytes: u32,
@@ -44,7 +45,7 @@ impl Granule {
         taken_by(*self, u64::from(size))
     }
 
-    /// Returns how many bytes it has.
+    /// Returns the granule in bytes.
     pub fn bytes(&self) -> u32
         ensures { result ≡ self.now.bytes }
     {

@@ -89,7 +89,7 @@ impl Memory {
         }
     }
 
-    /// Returns what instances begin at multiples of, and take multiples of.
+    /// Returns the granule: instances begin at multiples of it, and take multiples of it.
     pub fn granule(&self) -> Granule
         ensures { result.bytes ≡ self.now.granule }
     {

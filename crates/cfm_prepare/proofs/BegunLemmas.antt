@@ -5,7 +5,7 @@ use Rattle.cfm_memory.specs.Instances.{Layout}
 use Rattle.cfm_closure.specs.Stores.{Pair}
 use Rattle.cfm_prepare.specs.Addresses.{first_bad_program, section_of}
 use Rattle.cfm_prepare.specs.Lists.{has}
-use Rattle.cfm_prepare.specs.Fragments.{Present, StandAll, all_given_back, first_bad_image, is_present, new_among}
+use Rattle.cfm_prepare.specs.Fragments.{Present, StandAll, first_bad_image, is_present, new_among}
 use Rattle.cfm_prepare.specs.Placing.{AreNew, ArePrepared}
 use Rattle.cfm_prepare.specs.Refusals.{MayNotPrepareNew}
 use Rattle.cfm_prepare.specs.Kept.Ready.{AllHeld, AreAbsent, AreLaidOut, AreReady, ChangesIn, FillsUpTo, HaveBegun, HavePlaced, RelocatesUpTo, found_in}

@@ -147,14 +147,6 @@ fewer-without (o ∷ os) number = elim (eqb_tells o.number number) [
   | inr other ↦ (let more = fewer-without os number in rw other.0 (omega (arith, more)))
 ]
 
--- all are left if none has the number
-absent-without : (os : List Open) (number : ℕ) → open_of os number ≡ None → open_without os number ≡ os
-absent-without [] number none = refl
-absent-without (o ∷ os) number none = elim (eqb_tells o.number number) [
-  | inl same ↦ (let wrong : Some o ≡ None = rw same.0 at none in absurd (cc))
-  | inr other ↦ (let later : open_of os number ≡ None = rw other.0 at none in rw other.0 (ap (λ ys. o ∷ ys) (absent-without os number later)))
-]
-
 -- all open connections whose closures name a library are in the slots from one on
 pub record NamesFrom (slots : List Slot) (i : ℕ) (name : List ℕ) : Type 0 where
   pub there : AnyNames (open_in (drop i slots)) name → AnyNames (open_in slots) name

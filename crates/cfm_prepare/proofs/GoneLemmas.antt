@@ -1,5 +1,5 @@
 -- What a preparation places, and what a closing takes away.
-use Rattle.std.proofs.Common.{◌≡◌, ℕ, ◌+◌, ◌-◌, ◌<◌, ◌==◌, Bool, true, false, List, [], ◌∷◌, ◌++◌, Option, None, Some, Ok, Contains, cond, length, reverse, refl, sym, ap, ◌∙◌, subst, inl, inr, arith}
+use Rattle.std.proofs.Common.{◌≡◌, ℕ, ◌+◌, ◌-◌, ◌<◌, ◌==◌, Bool, true, false, List, [], ◌∷◌, ◌++◌, Some, Ok, Contains, cond, length, reverse, refl, sym, ap, ◌∙◌, subst, inl, inr, arith}
 use Rattle.std.specs.Prelude.{◌↔◌, option_map}
 use Rattle.std.proofs.lemmas.Bool.Decides.{eqb_tells}
 use Rattle.std.proofs.lemmas.List.{get_or-reverse, length-reverse, reverse-reverse}
@@ -7,14 +7,14 @@ use Rattle.cfm_closure.specs.Stores.{Pair}
 use Rattle.cfm_closure.specs.Closures.{Closed, closed_of}
 use Rattle.cfm_closure.proofs.Laws.{closed-init}
 use Rattle.cfm_prepare.specs.Contexts.{ContextState, Open, is_needed, made_state, open_of, open_without, opened}
-use Rattle.cfm_prepare.specs.Fragments.{is_present, new_among}
+use Rattle.cfm_prepare.specs.Fragments.{is_present}
 use Rattle.cfm_prepare.specs.Lists.{has}
 use Rattle.cfm_prepare.specs.Options.{Choices}
 use Rattle.cfm_prepare.specs.Readers.{needless_among, released_by}
 use Rattle.cfm_prepare.specs.Runs.{AreClosed, IsStill, Runs, Step, closed, prepared, reserved, stored}
 use Rattle.cfm_prepare.specs.Steps.{Closes, Prepares}
 use Rattle.cfm_prepare.proofs.ListLemmas.{has-at, has-contains}
-use Rattle.cfm_prepare.proofs.RunLemmas.{IsSound, after-close, after-prepare, has-new, needed-either, never, new-at, run-sound}
+use Rattle.cfm_prepare.proofs.RunLemmas.{after-close, after-prepare, has-new, needed-either, never, new-at, run-sound}
 
 -- a list turned round has the same elements
 from-reverse : (xs : List ℕ) (p : ℕ) → Contains (reverse xs) p → Contains xs p
@@ -96,10 +96,6 @@ run-released pairs choices steps s t number released p run step is =
 abbrev AreGiven : ℕ → List Open → Type 0
 AreGiven given [] = Unit {0}
 AreGiven given (o ∷ os) = (o.number < given) × AreGiven given os
-
-given-more : (given : ℕ) (os : List Open) → AreGiven given os → AreGiven (given + 1) os
-given-more given [] are = tt
-given-more given (o ∷ os) are = (omega (arith, are.0), given-more given os are.1)
 
 given-push : (given : ℕ) (os : List Open) (o : Open) → AreGiven given os → o.number ≡ given → AreGiven (given + 1) (os ++ o ∷ [])
 given-push given [] o are is = (omega (arith, is), tt)

@@ -25,7 +25,7 @@ target_address all (Some (At p section offset)) = ((place_at (places_of all p) s
 abbrev pub import_address : List Pair → List Present → ℕ → ℕ → ℕ
 import_address pairs all p j = target_address all (result_unwrap_or (target_of pairs p j) None)
 
--- the same for n imports from a number on
+-- the addresses of the targets of n imports from a number on
 abbrev pub addresses_from : List Pair → List Present → ℕ → ℕ → ℕ → List ℕ
 addresses_from pairs all p j zero = []
 addresses_from pairs all p j (suc n) = import_address pairs all p j ∷ addresses_from pairs all p (j + 1) n

@@ -16,7 +16,7 @@ abbrev pub bytes_of : ℕ → List Extent → ℕ
 bytes_of granule [] = 0
 bytes_of granule (e ∷ extents) = taken granule e.size + bytes_of granule extents
 
--- the same for the sections of a fragment
+-- the bytes that the sections of a fragment take in memory with a granule
 abbrev pub bytes_in : List Pair → ℕ → ℕ → ℕ
 bytes_in pairs granule p = bytes_of granule (extents_in pairs p)
 
@@ -42,7 +42,7 @@ pub record IsFirstPast (most : ℕ) (weight : ℕ → ℕ) (ps : List ℕ) (p : 
   pub within : total weight front ≤ most
   pub past : most < total weight front + weight p
 
--- the same, if there is a bound
+-- there is a bound, and this is the first fragment with which they take more than it
 abbrev pub PassesAt : Option ℕ → (ℕ → ℕ) → List ℕ → ℕ → Type 0
 PassesAt None weight ps p = ⊥
 PassesAt (Some most) weight ps p = IsFirstPast most weight ps p

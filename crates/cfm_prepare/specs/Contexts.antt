@@ -35,7 +35,7 @@ pub record ContextState : Type 0 where
 abbrev pub made_state : List Pair → Choices → ContextState
 made_state pairs choices = record { bounds = choices.bounds; pairs = pairs; memory = empty_memory choices.granule choices.limit; given = 0; connections = []; present = [] }
 
--- the same if only a limit was asked for
+-- nothing was prepared in a context that was made with a limit alone
 abbrev pub fresh_state : List Pair → ℕ → ContextState
 fresh_state pairs limit = made_state pairs (usual_choices limit)
 

@@ -20,11 +20,11 @@ use Rattle.cfm_prepare.specs.declared.image_fault.ImageFault.{ImageFault}
 abbrev pub extent_in : Section → Extent
 extent_in s = record { size = s.header.total_size; alignment = s.header.alignment }
 
--- the same for section k of a container
+-- the memory that section k of a container needs
 abbrev pub extent_at : Contained → ℕ → Extent
 extent_at c k = option_map_or extent_in (section_of c k) (record { size = 0; alignment = 0 })
 
--- the same for n sections from a number on
+-- the memory that n sections from a number on need
 abbrev pub extents_from : Contained → ℕ → ℕ → List Extent
 extents_from c from zero = []
 extents_from c from (suc n) = extent_at c from ∷ extents_from c (from + 1) n
@@ -44,7 +44,7 @@ image_of s =
 abbrev pub filled_in : Section → Result (List ℕ) PackFault
 filled_in s = result_map (λ image. filled image s.header.total_size) (image_of s)
 
--- the same for section k of a container; empty if that is refused
+-- the memory of section k of a container before it is relocated; empty if its image is refused
 abbrev pub filled_at : Contained → ℕ → List ℕ
 filled_at c k = option_map_or (λ s. result_unwrap_or (filled_in s) []) (section_of c k) []
 

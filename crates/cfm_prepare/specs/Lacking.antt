@@ -17,7 +17,7 @@ pub record Lacks (s : ContextState) (name : List ℕ) (missing : List Missing) :
   pub of : IsRoot s name
   pub is : missing_of s.pairs of.root ≡ Ok missing
 
--- why they can't be told: the name isn't in the store, or else a fragment on the walk can't be read. An allocation may fail
+-- why libraries can't be told: the name isn't in the store, or else a fragment on the walk can't be read. An allocation may fail
 -- after the first
 abbrev pub MayNotTell : ContextState → List ℕ → PrepareFault → Type 0
 MayNotTell s name fault.TooManyConnections = ⊥

@@ -9,7 +9,7 @@ pub record Bounds : Type 0 where
   pub steps : Option ℕ
   pub bytes : Option ℕ
 
--- the address that no section may exceed, what sections begin at multiples of and take multiples of, and the bounds
+-- the address that no section may exceed, the granule, of which sections begin at and take multiples, and the bounds
 pub record Choices : Type 0 where
   pub limit : ℕ
   pub granule : ℕ

@@ -44,11 +44,11 @@ symbol_at pairs all p name =
     option_map (λ x. export_address pairs all p (value_of x.section x.value))
     (option_and_then (λ l. option_and_then (export_of l) (named_of l name)) (loader_at pairs p))
 
--- the same for a connection's root
+-- the address of the first export with a name of a connection's root
 abbrev pub symbol_address : List Present → Open → List ℕ → Option ℕ
 symbol_address all o name = symbol_at o.closed.pairs all o.root name
 
--- and for a fragment that a connection's closure has
+-- the address of a fragment's first export with a name, if a connection's closure has the fragment
 abbrev pub symbol_of : List Present → Open → ℕ → List ℕ → Option ℕ
 symbol_of all o p name = if has o.closed.order p then symbol_at o.closed.pairs all p name else None
 
@@ -56,7 +56,7 @@ symbol_of all o p name = if has o.closed.order p then symbol_at o.closed.pairs a
 abbrev pub export_at : List Pair → List Present → ℕ → ℕ → Option ℕ
 export_at pairs all p i = option_map (λ x. export_address pairs all p (value_of x.section x.value)) (option_and_then (λ l. export_of l i) (loader_at pairs p))
 
--- the same for a fragment that a connection's closure has
+-- the address of export number i of a fragment, if a connection's closure has the fragment
 abbrev pub numbered_export : List Present → Open → ℕ → ℕ → Option ℕ
 numbered_export all o p i = if has o.closed.order p then export_at o.closed.pairs all p i else None
 
@@ -64,7 +64,7 @@ numbered_export all o p i = if has o.closed.order p then export_at o.closed.pair
 abbrev pub import_at : List Pair → List Present → ℕ → ℕ → ImportTarget
 import_at pairs all p j = record { target = result_unwrap_or (target_of pairs p j) None; address = import_address pairs all p j }
 
--- the same, if a connection's closure has the fragment, and it has so many imports
+-- what import j of a fragment means, if a connection's closure has the fragment, and it has so many imports
 abbrev pub import_target_of : List Present → Open → ℕ → ℕ → Option ImportTarget
 import_target_of all o p j =
     if has o.closed.order p then (if nat_lt j (import_count o.closed.pairs p) then Some (import_at o.closed.pairs all p j) else None) else None
@@ -97,6 +97,6 @@ entries_at pairs all p = record {
   term = entry_address (places_of all p) (option_and_then term_of (loader_at pairs p));
 }
 
--- the same, if a connection's closure has the fragment
+-- the addresses of a fragment's entry points, if a connection's closure has the fragment
 abbrev pub entries_of : List Present → Open → ℕ → Option Entries
 entries_of all o p = if has o.closed.order p then Some (entries_at o.closed.pairs all p) else None

@@ -16,7 +16,7 @@ pub record HasBadImage (pairs : List Pair) (m : Layout) (new : List ℕ) (name :
   pub are : AreNew pairs m new fresh
   pub first : first_bad_image pairs fresh ≡ Some (name, k)
 
--- they find places and have images, and this is the first refusal of a relocation header
+-- new fragments find places and have images, and this is the first refusal of a relocation header
 pub record HasBadProgram (pairs : List Pair) (there : List Present) (m : Layout) (new : List ℕ) (name : List ℕ) (k : ProgramFault) : Type 0 where
   pub fresh : List Present
   pub are : AreNew pairs m new fresh

@@ -24,6 +24,6 @@ section_seen s = (s.0, s.1.now)
 abbrev pub sections_at : Layout → List Place → List (ℕ × List ℕ)
 sections_at m places = map (λ p. (p.address, option_map_or (λ bytes. bytes) (bytes_at m.instances p.address) [])) places
 
--- those that an iterator has before it
+-- the sections that an iterator has before it
 abbrev pub sections_left : Sections → List (ℕ × List ℕ)
 sections_left walk = sections_at walk.memory.now walk.places.now

@@ -24,7 +24,7 @@ abbrev pub AnyNames : List Open → List ℕ → Type 0
 AnyNames [] name = ⊥
 AnyNames (o ∷ os) name = NamesLibrary o.closed.pairs o.closed.order name ⊎ AnyNames os name
 
--- so a pair with this name can be added: the store has one, or no open connection's closure lacks it
+-- a pair with this name can be added: the store has one already, or no open connection's closure lacks it
 abbrev pub MayAdd : ContextState → List ℕ → Type 0
 MayAdd s name = IsSome (place_of s.pairs name) ⊎ (AnyNames s.connections name → ⊥)
 
@@ -51,7 +51,7 @@ pub record HasRoot (s : ContextState) (name : List ℕ) : Type 0 where
   pub root : ℕ
   pub is : place_of s.pairs name ≡ Some root
 
--- and the fragment has a closure
+-- a number is left, the fragment with a name is in this place, and it has a closure
 pub record HasClosure (s : ContextState) (name : List ℕ) : Type 0 where
   pub has : HasRoot s name
   pub closed : Closed
@@ -86,7 +86,7 @@ pub record TakesBytes (s : ContextState) (name fragment : List ℕ) : Type 0 whe
   pub passes : PassesAt s.bounds.bytes (bytes_in s.pairs s.memory.granule) (new_of s closure.closed) position
   pub is : fragment ≡ (pair_of s.pairs position).name
 
--- they don't, and with this one they take more steps
+-- the new fragments take no more bytes than the context allows, and with the fragment of this name more steps
 pub record TakesSteps (s : ContextState) (name fragment : List ℕ) : Type 0 where
   pub closure : HasClosure s name
   pub bytes : AreWithin s.bounds.bytes (bytes_in s.pairs s.memory.granule) (new_of s closure.closed)

@@ -7,7 +7,8 @@ use thiserror::Error;
 /// Why a fragment isn't added to a context. The text is the refusal's name.
 #[derive(Clone, Copy, Debug, PartialEq, Eq, Error)]
 pub enum AddFault {
-    /// A connection was already given.
+    /// A fragment of an open connection was prepared without a library of this name, which is weak and was
+    /// missing.
     AddedTooLate,
 
     /// The store has as many fragments as it may have.

@@ -56,7 +56,7 @@ pub(crate) fn test_bounds<'a>(
     Ok(())
 }
 
-/// Returns the first new fragment with which they take more than a bound.
+/// Returns the first new fragment with which the new fragments take more than a bound.
 fn first_past(
     closure: &Closure<'_>,
     present: &Slots,
@@ -73,7 +73,7 @@ fn first_past(
     }
 }
 
-/// Returns the first new fragment with which they take more than `most`.
+/// Returns the first new fragment with which the new fragments take more than `most`.
 fn first_past_of(
     closure: &Closure<'_>,
     present: &Slots,

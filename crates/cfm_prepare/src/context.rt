@@ -43,7 +43,7 @@ pub struct Context<'a> {
     options: Options,
     store: CachedStore<'a>,
     connections: Connections<'a>,
-    /// How many of them have a fragment in their closures, by its place in the store.
+    /// How many open connections have a fragment in their closures, by its place in the store.
     users: Vec<usize>,
     fragments: Fragments,
 }

@@ -94,7 +94,8 @@ impl<'a> OpenConnection<'a> {
         self.symbol_at(fragments, self.root, name)
     }
 
-    /// Returns the address of the first export of a name, of a fragment of the closure.
+    /// Returns the address of the first export of a name, of a fragment. `None` if the closure lacks the
+    /// fragment.
     pub fn symbol(&self, fragments: &Fragments, position: usize, name: &[u8]) -> Option<u32>
         ensures { result ≡ symbol_of fragments.now.present self.now position name.now }
     {
@@ -104,7 +105,7 @@ impl<'a> OpenConnection<'a> {
         self.symbol_at(fragments, position, name)
     }
 
-    /// Returns the same for a fragment of the closure.
+    /// Returns the address of the first export of a name, of a fragment that the closure has.
     #[tactic(auto, unfolding(crate::specs::Readers::symbol_at))]
     fn symbol_at(&self, fragments: &Fragments, position: usize, name: &[u8]) -> Option<u32>
         requires { Contains self.now.closed.order position }
@@ -116,7 +117,7 @@ impl<'a> OpenConnection<'a> {
         Some(self.export_address(fragments, position, &loader, export.value()))
     }
 
-    /// Returns the address of export `number` of a fragment of the closure.
+    /// Returns the address of export `number` of a fragment. `None` if the closure lacks the fragment.
     pub fn numbered_export(
         &self,
         fragments: &Fragments,
@@ -131,7 +132,7 @@ impl<'a> OpenConnection<'a> {
         self.export_at(fragments, position, number)
     }
 
-    /// Returns the same for a fragment of the closure.
+    /// Returns the address of export `number` of a fragment that the closure has.
     fn export_at(&self, fragments: &Fragments, position: usize, number: usize) -> Option<u32>
         requires { Contains self.now.closed.order position }
         ensures { result ≡ export_at self.now.closed.pairs fragments.now.present position number }
@@ -141,7 +142,7 @@ impl<'a> OpenConnection<'a> {
         Some(self.export_address(fragments, position, &loader, export.value()))
     }
 
-    /// Returns what import `number` of a fragment of the closure means.
+    /// Returns what import `number` of a fragment means. `None` if the closure lacks the fragment.
     pub fn import_target(
         &self,
         fragments: &Fragments,
@@ -156,7 +157,7 @@ impl<'a> OpenConnection<'a> {
         self.import_at(fragments, position, number)
     }
 
-    /// Returns the same for a fragment of the closure.
+    /// Returns what import `number` of a fragment that the closure has means.
     fn import_at(
         &self,
         fragments: &Fragments,

@@ -15,7 +15,7 @@ const MOST_CONNECTIONS: u32 = 65_536;
 pub struct Options {
     /// The address that no section may exceed.
     pub limit: u32,
-    /// What sections begin at multiples of, and take multiples of.
+    /// The granule: sections begin at multiples of it, and take multiples of it.
     pub granule: Granule,
     /// How many connections the context gives in all. A closed one counts, and takes no memory.
     pub connections: u32,

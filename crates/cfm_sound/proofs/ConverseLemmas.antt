@@ -9,7 +9,6 @@ use Rattle.pef_views.specs.Container.{Contained, container_of}
 use Rattle.pef_views.specs.declared.fault.ViewFault.{ViewFault}
 use Rattle.pef_loader.specs.Loader.{Loaded, loaded_of}
 use Rattle.pef_loader.specs.declared.fault.LoaderFault.{LoaderFault}
-use Rattle.pef_loader.specs.declared.program_fault.ProgramFault.{ProgramFault}
 use Rattle.cfm_closure.specs.Stores.{Pair, pair_of}
 use Rattle.cfm_closure.specs.Fragments.{Fragment, container_at, fragment_of, import_count, loader_at, with_container, with_loader}
 use Rattle.cfm_closure.specs.Orders.{IsComplete}
@@ -18,13 +17,10 @@ use Rattle.cfm_memory.specs.Extents.{ArePlaced}
 use Rattle.cfm_memory.specs.Instances.{Layout}
 use Rattle.cfm_memory.specs.declared.place.Place.{Place}
 use Rattle.cfm_prepare.specs.Addresses.{addresses_from, addresses_of, first_bad_program}
-use Rattle.cfm_prepare.specs.Contexts.{ContextState}
 use Rattle.cfm_prepare.specs.Fragments.{Present, extents_in, first_bad_image, image_refusal_in, named, positions, reloc_refusal_in}
 use Rattle.cfm_prepare.specs.Images.{first_image_refusal}
 use Rattle.cfm_prepare.specs.Placing.{AllPlaced}
 use Rattle.cfm_prepare.specs.Prepared.{addresses_at, first_reloc_refusal}
-use Rattle.cfm_prepare.specs.Steps.{Prepares, new_of}
-use Rattle.cfm_prepare.specs.declared.image_fault.ImageFault.{ImageFault}
 use Rattle.cfm_prepare.proofs.Laws.{length-addresses, length-there, new-members}
 use Rattle.pef_inspect.specs.Sound.{IsSound}
 use Rattle.cfm_sound.specs.Placed.{PlacedAreSound}

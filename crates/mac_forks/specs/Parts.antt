@@ -12,6 +12,6 @@ unfoldable pub part_in : List ℕ → ℕ → ℕ → Option Lying
 part_in bytes offset len =
     option_map (λ part. record { offset = offset; bytes = part }) (part_of bytes (if len == 0 then 0 else offset) len)
 
--- the same bytes as far as they are there
+-- the len bytes from an offset, as far as they are there
 unfoldable pub part_within : List ℕ → ℕ → ℕ → Lying
 part_within bytes offset len = record { offset = offset; bytes = take len (drop offset bytes) }

@@ -13,7 +13,7 @@ pub fn crc_16(bytes: &[u8]) -> u16
     crc
 }
 
-/// Returns the CRC of the bytes that had this one, and one byte more.
+/// Returns the CRC of some bytes and one more, by the CRC of those bytes.
 #[tactic(auto, unfolding(crate::specs::Crc::remainder_after))]
 fn with_byte(crc: u16, byte: u8) -> u16
     ensures { result ≡ remainder_after crc byte }

@@ -12,7 +12,7 @@ use thiserror::Error;
 /// What is wrong with the wrapping of a file, with the number of the entry, from 0. The text is the name of the error.
 #[derive(Clone, Copy, Debug, PartialEq, Eq, Error)]
 pub enum ForkFault {
-    /// The CRC of a MacBinary header isn't that of its bytes. The forks are read all the same.
+    /// The CRC of a MacBinary header isn't that of its bytes. The forks are still read.
     BadMacBinaryCrc,
 
     /// The header of AppleSingle or AppleDouble passes the end.

@@ -218,7 +218,8 @@ fn read_extension(cut: Cut<'_>) -> Option<MacBinaryExtension>
     })
 }
 
-/// Returns whether the three bytes are 0, the name has a possible length, and so has each fork.
+/// Returns whether the three bytes that have to be 0 are, and the name and each fork have a possible
+/// length.
 fn has_shape(header: MacBinaryHeader) -> bool
     ensures { result ≡ has_shape header }
 {

@@ -55,10 +55,10 @@ pub struct ResourceMap {
 pub struct ResourceFork<'a> {
     pub(crate) cut: Cut<'a>,
     pub(crate) header: ResourceHeader,
-    /// The map, and no more than there is of it.
+    /// The map, as far as it is in the fork.
     pub(crate) map: Cut<'a>,
     pub(crate) fields: ResourceMap,
-    /// The data, and no more than there is of it.
+    /// The data, as far as they are in the fork.
     pub(crate) area: Cut<'a>,
     pub(crate) type_count: u16,
 }
@@ -133,7 +133,7 @@ impl<'a> ResourceFork<'a> {
         self.fields
     }
 
-    /// Returns the error of a map that passes the end of the fork. What there is of it is read all the same.
+    /// Returns the error of a map that passes the end of the fork. The part inside is still read.
     pub fn fault(self) -> Option<ResourceFault>
         ensures { result ≡ map_is_cut (fork_seen self.entry) }
     {
@@ -222,7 +222,7 @@ fn read_map(map: Cut<'_>) -> Option<ResourceMap>
     })
 }
 
-/// Returns what there is of the `len` bytes from `offset`.
+/// Returns the `len` bytes from `offset`, as far as they are there.
 fn clipped<'a>(cut: Cut<'a>, offset: u32, len: u32) -> Cut<'a>
     ensures { result.bytes.now ≡ clipped cut.entry.bytes.now offset len }
 {

@@ -1,9 +1,8 @@
 -- Packed numbers: they are packed one by one, and read in order.
-use Rattle.std.proofs.Common.{◌≡◌, ℕ, ◌+◌, ◌-◌, ◌*◌, ◌<◌, ◌≤◌, ◌==◌, true, false, cond, nat_lt, List, [], ◌∷◌, ◌++◌, length, take, drop, set, sym, ap, ap₂, subst, ◌∙◌, append_assoc, arith}
+use Rattle.std.proofs.Common.{◌≡◌, ℕ, ◌+◌, ◌-◌, ◌<◌, true, nat_lt, List, [], ◌∷◌, ◌++◌, length, take, drop, set, sym, ap, ap₂, subst, ◌∙◌, append_assoc, arith}
 use Rattle.std.proofs.lemmas.Bool.{ltb-true, and_parts}
 use Rattle.std.proofs.lemmas.List.{append-nil, take_more_set}
-use Rattle.std.specs.Prelude.{slice_index_or}
-use Rattle.pef_cert.specs.Kept.Packed.{AddsNumber, numbers_at, stepped}
+use Rattle.pef_cert.specs.Kept.Packed.{numbers_at}
 use Rattle.pef_cert.specs.Kept.RowsKept.{RunsFull}
 use Rattle.pef_cert.specs.Rising.{above_all}
 use Rattle.pef_cert.specs.Rows.{rows_from}

@@ -16,7 +16,7 @@ run_on false here more = true
 abbrev pub one_from : Labels → ℕ → List Fixup → ℕ → ℕ → ℕ → Bool
 one_from l label rest p c d = nat_le label (1 + extension l rest p c d)
 
--- the same after each run of a base, w bytes apart, of up to this many words
+-- a label is at most 1 plus the extension after each run of a base, w bytes apart, of up to this many words
 unfoldable pub row_test : Labels → ℕ → ℕ → Base → ℕ → ℕ → ℕ → ℕ → List Fixup → Bool
 row_test l label w b c d zero p fixups = true
 row_test l label w b c d (suc n) p [] = true

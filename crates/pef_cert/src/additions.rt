@@ -30,8 +30,8 @@ impl<'a> CheckedSuffix<'a> {
         self.section_runs_hold(under, section)
     }
 
-    /// Returns the same if the next word adds the same section with the same labels. Then only the pairs of
-    /// the section with itself, with both registers holding it, are left to test.
+    /// Tests the labels of a section's fixup if the next word adds the same section with the same labels.
+    /// Then only the pairs of the section with itself, with both registers holding it, are left to test.
     fn same_pairs_hold(self, under: TestedFixup, section: u32) -> bool
         requires under { UnderTest self under }
         requires base { under.fixup.base ≡ Section section }
@@ -55,7 +55,7 @@ impl<'a> CheckedSuffix<'a> {
         self.short_runs_hold(under, section)
     }
 
-    /// Returns the same wherever the runs end.
+    /// Tests the labels of all states in which a register holds the section, wherever the runs end.
     fn long_runs_hold(self, under: TestedFixup, section: u32) -> bool
         requires { UnderTest self under }
         ensures { Says result (SectionRuns (labels_claimed self.entry.claim) section under.fixup (drop (under.at + 1) self.entry.claim.fixups.now)) }
@@ -72,7 +72,8 @@ impl<'a> CheckedSuffix<'a> {
         true
     }
 
-    /// Returns the same if the next word doesn't add the section. The run of one word was tested as an addition alone.
+    /// Tests the labels of all states in which a register holds the section, if the next word doesn't add it. The run of one word
+    /// was tested as an addition alone.
     fn short_runs_hold(self, under: TestedFixup, section: u32) -> bool
         requires under { UnderTest self under }
         requires alone { AllSingles (labels_claimed self.claim) 1 under.fixup (drop (under.at + 1) self.claim.fixups.now) }

@@ -73,7 +73,7 @@ impl<'a> CheckedSuffix<'a> {
         true
     }
 
-    /// Tests those in the states with register C in a class.
+    /// Tests the labels of the states with register C in a class against runs of imports.
     fn line_imports_hold(self, under: TestedFixup, import: u32, c: usize) -> bool
         requires under { UnderTest self under }
         requires import { import < 2 ^ 31 }

@@ -14,7 +14,7 @@ const FAR: u8 = 255;
 /// The step of a number that equals the one before it.
 const SAME: u32 = 127;
 
-/// Numbers, of which one that is near the one before it takes one byte.
+/// Numbers. One that is near the number before it takes one byte.
 #[derive(Drop)]
 struct PackedNumbers {
     /// For each number, its step from the one before it. The first has 0 before it.
@@ -40,7 +40,7 @@ impl PackedNumbers {
         Ok(packed)
     }
 
-    /// Puts a number behind the others, of which the last is `before`.
+    /// Puts a number after the others, of which the last is `before`.
     fn push(&mut self, before: u32, number: u32) -> Result<(), AllocError>
         ensures { OnOk result (AddsNumber before number self.old.steps.items self.old.far.items self.new.steps.items self.new.far.items) }
     {
@@ -218,7 +218,7 @@ impl Model for PackedCertificate {
 }
 
 impl Certificate {
-    /// Returns the same certificate in little memory.
+    /// Packs the certificate, so that it takes little memory.
     ///
     /// # Errors
     ///

@@ -16,7 +16,8 @@ pub(crate) fn sets_hold(row: &[u32], classes: usize) -> bool
     true
 }
 
-/// Returns the same for one class of register C, and for one of register D.
+/// Returns whether the labels with register C in class `k` differ by at most 1, and so do those with
+/// register D in it.
 fn lines_hold(row: &[u32], classes: usize, k: usize) -> bool
     requires square { length row.now ≡ classes * classes }
     requires under { k < classes }

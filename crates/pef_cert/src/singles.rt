@@ -24,7 +24,8 @@ impl<'a> CheckedSuffix<'a> {
         }
     }
 
-    /// Returns the same if the next word has a fixup. The extensions after the addition are its labels.
+    /// Tests the labels of a fixup against its addition alone, if the next word has a fixup: the extensions
+    /// after the addition are the labels of that fixup.
     fn near_singles_hold(self, under: TestedFixup, next: Fixup, cost: u32) -> bool
         requires under { UnderTest self under }
         requires next { slice_get self.claim.fixups.now (under.at + 1) ≡ Some next }
@@ -36,7 +37,7 @@ impl<'a> CheckedSuffix<'a> {
         row_within(row, later, cost)
     }
 
-    /// Returns the same wherever the next fixup is.
+    /// Tests the labels of a fixup against its addition alone, wherever the next fixup is.
     fn far_singles_hold(self, under: TestedFixup, cost: u32) -> bool
         requires { UnderTest self under }
         ensures { Says result (AllSingles (labels_claimed self.entry.claim) cost under.fixup (drop (under.at + 1) self.entry.claim.fixups.now)) }
@@ -49,7 +50,7 @@ impl<'a> CheckedSuffix<'a> {
         true
     }
 
-    /// Tests those in the states with register C in a class.
+    /// Tests the labels of the states with register C in a class against the addition alone.
     fn line_singles_hold(self, under: TestedFixup, cost: u32, c: usize) -> bool
         requires under { UnderTest self under }
         requires c { c < length self.claim.registers.now + 1 }
@@ -63,7 +64,7 @@ impl<'a> CheckedSuffix<'a> {
         true
     }
 
-    /// Tests the label of one state.
+    /// Tests the label of one state against the addition alone.
     fn single_holds(self, under: TestedFixup, cost: u32, c: usize, d: usize) -> bool
         requires under { UnderTest self under }
         requires c { c < length self.claim.registers.now + 1 }

@@ -106,7 +106,8 @@ impl<'a> CheckedSuffix<'a> {
         Some(self.least_skips(at, fixup))
     }
 
-    /// Returns the same wherever the previous word ends.
+    /// Returns the least skips at index `at`, which has this fixup, by the class of register C, wherever
+    /// the previous word ends.
     fn least_skips(self, at: usize, fixup: Fixup) -> [u32; MAX_CLASSES]
         requires knows { Knows self (at + 1) }
         requires here { slice_get self.claim.fixups.now at ≡ Some fixup }
@@ -119,7 +120,7 @@ impl<'a> CheckedSuffix<'a> {
         }
     }
 
-    /// Returns the same if the fixup has a section.
+    /// Returns the least skips at index `at`, whose fixup has a section, by the class of register C.
     fn section_skips(self, at: usize, fixup: Fixup, section: u32) -> [u32; MAX_CLASSES]
         requires { Skips self at fixup section }
         ensures { SkipsAre self.entry.claim fixup (drop (at + 1) self.entry.claim.fixups.now) result }

@@ -10,8 +10,8 @@ most_power = 30
 abbrev pub most_written_power : ℕ
 most_written_power = 16
 
--- it has fewer than this many exports for each slot, rounded down, if that power allows it (this project's
--- own)
+-- a table that is written has fewer than this many exports for each slot, rounded down, unless it has the
+-- most slots (this project's own)
 abbrev pub exports_a_slot : ℕ
 exports_a_slot = 10
 

@@ -53,12 +53,12 @@ AreDistinct names = (i j : ℕ) → i < length names → j < length names → sl
 abbrev pub BuiltIsRegular : Type 0
 BuiltIsRegular = (names : List (List ℕ)) (t : ExportTable) → length names < names_limit → Spells t (built names) names → IsRegular t
 
--- in it each of distinct names has its own key, the one that the order gives it
+-- in the table of distinct names each has its own key, the one that the order gives it
 abbrev pub BuiltHasOwn : Type 0
 BuiltHasOwn = (names : List (List ℕ)) (t : ExportTable) (j : ℕ) → length names < names_limit → Spells t (built names) names → AreDistinct names → j < length names
     → (i : ℕ) × (export_named t (slice_index_or names j []) ≡ Some i) × (i < length names) × (slice_index (built names).order i ≡ j)
 
--- and any other name has none
+-- in a table that is written for some names any other name has no key
 abbrev pub BuiltHasNoOther : Type 0
 BuiltHasNoOther = (names : List (List ℕ)) (t : ExportTable) (other : List ℕ) → length names < names_limit → Spells t (built names) names
     → ((j : ℕ) → j < length names → slice_index_or names j [] ≢ other) → export_named t other ≡ None

@@ -92,8 +92,8 @@ impl<'a> Exports<'a> {
         }
     }
 
-    /// Returns the same view, but doesn't find out whether the table is regular: a search compares the names one after the other.
-    /// It is for those who read the exports by their numbers.
+    /// Returns the same view without testing whether the table is regular: a search compares the names one after the other. It is
+    /// for callers that read the exports by their numbers.
     pub fn unsearched(power: u32, count: u32, table: &'a [u8], strings: &'a [u8]) -> Exports<'a>
         requires { IsTrue (has_table power count table.now) }
         ensures { table_of result ≡ record { power = power; count = count; bytes = table.entry.now; strings = strings.entry.now } }

@@ -6,10 +6,11 @@ use pef_format::layout::KEY_LENGTH_SHIFT;
 /// How far the running value is shifted right, so that its high bits count too.
 const HASH_SHIFT: u32 = 16;
 
-/// A table is written with at most two to this power of slots.
+/// The most slots of a table that is written, as an exponent of two.
 const MOST_WRITTEN_POWER: u32 = 16;
 
-/// It has fewer than this many exports for each slot, rounded down, if that power allows it.
+/// A table that is written has fewer than this many exports for each slot, rounded down, unless it has the
+/// most slots.
 const EXPORTS_A_SLOT: u32 = 10;
 
 /// Returns the hash word of a name of at most 65,535 bytes: its length in the high 16 bits, and 16

@@ -90,7 +90,7 @@ impl<'a> Words<'a> {
         Some(number)
     }
 
-    /// Takes the next word if it is the wanted one.
+    /// Takes the next word, if it is `wanted`.
     pub fn expect(&mut self, wanted: &[u8]) -> Option<()>
         ensures { option_map (λ _. words_left self.new) result ≡ behind wanted.now (words_left self.old) }
     {

@@ -14,14 +14,14 @@ pub(crate) const LOAD: usize = 8;
 /// A digit 0 and a space.
 const ZERO_AND_SPACE: u64 = 0x3020;
 
-/// The digits of a number but its last one. In a row of numbers near each other most have those of the one before, and
-/// are read by one load and one comparison.
+/// The digits of a number but its last one. In a row of numbers near each other most have the head of the number before, and are
+/// read by one load and one comparison.
 #[derive(Clone, Copy, Debug)]
 pub struct Head<'a> {
     digits: &'a [u8],
-    /// Their bytes, a digit 0 and a space, as a number.
+    /// The bytes of the digits, a digit 0 and a space, as a number.
     key: u64,
-    /// How many bits of a load follow as many bytes.
+    /// How many bits of a load are after these bytes.
     shift: u32,
     /// Ten times the number that the digits spell.
     tens: u32,
@@ -34,7 +34,7 @@ pub struct Head<'a> {
 }
 
 impl<'a> Head<'a> {
-    /// Returns the head of 10, as no number is known yet.
+    /// Returns the head of 10, to begin with.
     pub fn new() -> Head<'a> {
         Head {
             digits: b"1",

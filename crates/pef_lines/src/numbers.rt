@@ -63,7 +63,7 @@ fn decimal_digit(digit: u8) -> Option<u8>
     }
 }
 
-/// Returns the number that decimal digits spell, if it has 32 bits. This takes fewer tests than any base does.
+/// Returns the number that decimal digits spell, if it has 32 bits. It is faster than the loop for any base.
 #[inline(always)]
 fn decimal_digits(digits: &[u8]) -> Option<u32>
     ensures { result ≡ digits_number 10 digits.now }

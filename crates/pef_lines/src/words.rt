@@ -10,7 +10,7 @@ use memchr::memchr;
 /// The byte that ends a line.
 pub const LINE_FEED: u8 = b'\n';
 
-/// Returns what is before the first such byte and what is after it, or `None` if there is no such byte.
+/// Returns what is before the first `byte` and what is after it, or `None` if no such byte is there.
 pub fn cut_at(byte: u8, bytes: &[u8]) -> Option<(&[u8], &[u8])>
     ensures { option_map (λ p. (p.0.now, p.1.now)) result ≡ cut_at byte bytes.now }
 {
@@ -30,7 +30,7 @@ pub fn cut_near(byte: u8, bytes: &[u8]) -> Option<(&[u8], &[u8])>
     Some((front, back))
 }
 
-/// Returns the index of the first such byte.
+/// Returns the index of the first `byte`.
 fn place_near(byte: u8, bytes: &[u8]) -> Option<usize>
     ensures cut { option_map (λ k. (take k bytes.now, drop 1 (drop k bytes.now))) result ≡ cut_at byte bytes.now }
     ensures inside { IfSome result (λ k. k < length bytes.now) }
@@ -43,15 +43,15 @@ fn place_near(byte: u8, bytes: &[u8]) -> Option<usize>
     None
 }
 
-/// Returns whether these are one or more printing bytes, none of them a space.
+/// Returns whether these bytes are a word: one or more printing bytes, none of them a space.
 fn is_word(bytes: &[u8]) -> bool
     ensures { result ≡ is_word bytes.now }
 {
     !bytes.is_empty() && all_printing(bytes)
 }
 
-/// Returns whether all are printing bytes, and no space. It looks at every byte, so that the compiler makes it test
-/// many at a time.
+/// Returns whether all bytes are printing ones other than a space. Every byte is tested, so that the compiler tests many at a
+/// time.
 fn all_printing(bytes: &[u8]) -> bool
     ensures { result ≡ list_all is_printing bytes.now }
 {

@@ -20,7 +20,7 @@ use Rattle.pef_listing.specs.Listing.{container_text, each_text, entries_lines, 
 use Rattle.pef_listing.specs.declared.line_reader.LineReader.{LineReader}
 use Rattle.pef_listing.specs.declared.reader.ListingReader.{ListingReader}
 use Rattle.pef_listing.specs.declared.line_reader.Place.TheVariants.{Header}
-use Rattle.pef_listing.proofs.PartLemmas.{each_text-more, each_text-none}
+use Rattle.pef_listing.proofs.PartLemmas.{each_text-more}
 
 -- the next part of those with numbers comes first
 pub parts-front : (text : ℕ → List ℕ) (count i : ℕ) (tail : List ℕ) → i < count → lines_from text count i ++ tail ≡ text i ++ (lines_from text count (i + 1) ++ tail)

@@ -18,7 +18,7 @@ fault_name (View fault) = views.fault_name fault
 fault_name (Loader fault place) = loader.fault_name fault
 fault_name (Reloc program) = reloc.fault_name program.fault
 
--- where they are
+-- the places of the refusals
 abbrev pub fault_place : ListFault → Option Place
 fault_place (View fault) = views.fault_place fault
 fault_place (Loader fault place) = Some place

@@ -114,15 +114,15 @@ reloc_lines l k = option_map_or reloc_text (reloc_of l k) []
 unfoldable pub export_lines : Loaded → ℕ → List ℕ
 export_lines l i = option_map_or export_text (export_of l i) []
 
--- what it is: the container's header and its sections
+-- what the container is: its header and its sections
 abbrev pub container_lines : Contained → List ℕ
 container_lines c = container_text c.header ++ each_text (section_lines c) 0 c.header.section_count
 
--- what it needs: its libraries and its imports
+-- what the container needs: its libraries and its imports
 abbrev pub imported_lines : Loaded → List ℕ
 imported_lines l = each_text (library_lines l) 0 l.header.library_count ++ each_text (import_lines l) 0 l.header.import_count
 
--- where it is entered
+-- where the container is entered
 abbrev pub entries_lines : Loaded → List ℕ
 entries_lines l = entry_text (codes "main ") (main_of l) ++ entry_text (codes "init ") (init_of l) ++ entry_text (codes "term ") (term_of l)
 

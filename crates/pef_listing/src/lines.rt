@@ -25,7 +25,7 @@ pub trait Lines {
     /// The number of parts.
     ghost many: { Self → ℕ };
 
-    /// The lines of one of them.
+    /// The lines of one part, by its number.
     ghost text: { Self → ℕ → List ℕ };
 
     /// Returns the number of parts.
@@ -39,7 +39,7 @@ pub trait Lines {
         ensures sends { Sends result (W.stream out.old) (W.stream out.new) page.old.items page.new.items (text self.now i) };
 }
 
-/// Prints the lines of all of them, in order.
+/// Prints the lines of all parts, in order.
 pub fn print_each<L: Lines, W: Sink>(
     out: &mut W,
     page: &mut Page,
@@ -232,7 +232,7 @@ pub struct LibraryName<'a> {
 }
 
 impl<'a> LibraryName<'a> {
-    /// Returns what has asked for no library yet.
+    /// Returns an empty cache.
     pub fn new(loader: Loader<'a>) -> LibraryName<'a>
         ensures { result.loader ≡ loader.entry }
     {

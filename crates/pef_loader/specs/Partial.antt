@@ -51,7 +51,7 @@ library_row l i = if nat_lt i l.header.library_count then option_map (λ e. reco
 abbrev pub library_name_at : Loaded → ℕ → Option ℕ
 library_name_at l i = if nat_lt i l.header.library_count then option_map (λ e. l.header.strings_offset + e.name_offset) (library_at l.bytes i) else None
 
--- the same with at most so many bytes of its name
+-- a library with at most so many bytes of its name
 pub record CutLibraryRow : Type 0 where
   pub name : Option CutName
   pub current : ℕ
@@ -100,7 +100,7 @@ import_row l j = if nat_lt j l.header.import_count then option_map (λ e. record
 abbrev pub import_name_at : Loaded → ℕ → Option ℕ
 import_name_at l j = if nat_lt j l.header.import_count then option_map (λ e. l.header.strings_offset + e.name_offset) (import_at l.bytes l.header j) else None
 
--- the same with at most so many bytes of its name
+-- an import with at most so many bytes of its name
 pub record CutImportRow : Type 0 where
   pub name : Option CutName
   pub class : ℕ
@@ -128,7 +128,7 @@ relocation_row l k = if nat_lt k l.header.reloc_count then option_map (λ e. rec
   program = instructions_of l.bytes l.header e;
 }) (reloc_at l.bytes l.header k) else None
 
--- its reserved halfword (reservedA), at 2
+-- the reserved halfword of a relocation header (reservedA), at 2
 abbrev pub relocation_reserved : Loaded → ℕ → Option ℕ
 relocation_reserved l k = if nat_lt k l.header.reloc_count then number_at 2 l.bytes (reloc_place l.header k + 2) else None
 

@@ -9,6 +9,6 @@ use Rattle.pef_loader.specs.Partial.{findings_of, partial_of}
 abbrev pub FirstIsReported : Type 0
 FirstIsReported = (sections : ℕ) (bytes : List ℕ) → first_fault (findings_of sections bytes) ≡ result_err (loaded_of sections bytes)
 
--- what can be read of a loader section is the loader section
+-- of a loader section that breaks no rule, what can be read as of a damaged one is the loader section itself
 abbrev pub OpensLoaders : Type 0
 OpensLoaders = (l : Loaded) → IsLoader l → partial_of l.sections l.bytes ≡ Ok l

@@ -43,8 +43,8 @@ impl OwnerBlock {
         library_in(self.cells[j - self.from])
     }
 
-    /// Paints the block with the owners of the imports from number `from` on, in its place: a second one would take
-    /// as much of the stack. Inside `owner`, each call would pay for the locals.
+    /// Paints the block with the owners of the imports from number `from` on, in its place: a second block would take as much of
+    /// the stack. Kept out of `owner`: it is rare.
     #[inline(never)]
     fn paint(&mut self, tables: LoaderTables<'_>, from: usize)
         ensures from { self.new.from ≡ from }

@@ -14,8 +14,8 @@ pub struct CutName<'a> {
     pub whole: bool,
 }
 
-/// The zero-ended names in some bytes. Their last zero byte was looked for, so that a name that passes a limit is known to
-/// end somewhere without a search for its end.
+/// The zero-ended names in some bytes. The place of the last zero byte is known, so a name that passes a limit is known to end
+/// without a search for its end.
 #[derive(Clone, Copy, Debug)]
 pub struct Names<'a> {
     cut: Cut<'a>,
@@ -34,7 +34,7 @@ impl<'a> Names<'a> {
         Names::ending(cut, names_end(cut))
     }
 
-    /// Returns the names in some bytes, of which it is known where names end.
+    /// Returns the names in some bytes, whose last zero byte is right before `end`.
     pub(crate) fn ending(cut: Cut<'a>, end: usize) -> Names<'a>
         requires { NamesEndAt cut.bytes.now end }
         ensures { names_bytes result ≡ cut.entry.bytes.now }
@@ -59,7 +59,8 @@ impl<'a> Names<'a> {
 impl<'a> CutName<'a> {
     ghost use Rattle.pef_loader.specs.PartialViews.{cut_seen};
 
-    /// Returns a name that begins with some bytes, which are its first `most + 1` if they have no zero byte.
+    /// Returns the name that begins with `front`: it ends before the first zero byte there, or is longer
+    /// than `most` bytes.
     fn front(front: Cut<'a>, most: usize) -> CutName<'a>
         ensures { cut_seen result ≡ front_name most front.entry.bytes.now }
     {

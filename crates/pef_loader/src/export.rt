@@ -39,7 +39,7 @@ pub(crate) fn exports<'a>(tables: LoaderTables<'a>) -> Exports<'a>
     Exports::new(header.export_power, header.export_count, table, strings)
 }
 
-/// Returns the view of the exports for those who read them by their numbers. It takes the same time however many there are.
+/// Returns the view of the exports for readers by number. It takes the same time however many there are.
 pub(crate) fn unsearched_exports<'a>(tables: LoaderTables<'a>) -> Exports<'a>
     requires { IsTrue (has_exports tables.cut.bytes.now tables.header) }
     ensures { table_of result ≡ export_table tables.entry.cut.bytes.now tables.entry.header }

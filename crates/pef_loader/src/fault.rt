@@ -109,7 +109,8 @@ impl LoaderFault {
         field_from(start_in(loader, of.part, of.row), of.field)
     }
 
-    /// Returns the place of that field in the container whose loader section it is.
+    /// Returns the place of the field that the broken rule is about, in the container of the loader
+    /// section.
     pub fn place(&self, container: &Container<'_>) -> Place
         ensures { result ≡ fault_place (contained container.now) self.now }
     {
@@ -117,7 +118,7 @@ impl LoaderFault {
         place_in(container, of.part, of.row, of.field)
     }
 
-    /// Returns the place of that field in a container that may be damaged.
+    /// Returns the place of the field that the broken rule is about, in a container that may be damaged.
     pub fn partial_place(&self, container: &PartialContainer<'_>) -> Place
         ensures { result ≡ fault_place (partly container.now) self.now }
     {

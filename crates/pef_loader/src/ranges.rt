@@ -23,8 +23,8 @@ pub(crate) fn imports_of(cut: Cut<'_>, i: usize) -> Range<usize>
     }
 }
 
-/// Returns the first import of library `i` and how many it has, or `None` if the library passes the end. Walks
-/// over the libraries read no more of them.
+/// Returns the first import of library `i` and how many it has, or `None` if the library passes the end. Walks over the libraries
+/// read these two fields alone.
 #[tactic(auto, unfolding(crate::specs::Library::library_at, pef_words::specs::Bytes::number_at))]
 fn read_range(cut: Cut<'_>, i: usize) -> Option<(u32, u32)>
     requires { i < 2 ^ 32 }

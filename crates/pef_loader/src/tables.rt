@@ -326,7 +326,7 @@ fn test_imports_in_order(tables: LoaderTables<'_>, names_end: usize) -> Result<(
     Ok(())
 }
 
-/// Tests the imports of libraries in any order. Inside `test_imports`, each call would pay for the locals.
+/// Tests the imports of libraries in any order. Kept out of `test_imports`: such libraries are rare.
 #[inline(never)]
 fn test_imports_by_blocks(tables: LoaderTables<'_>, names_end: usize) -> Result<(), LoaderFault>
     requires { NamesEndAt tables.cut.bytes.now names_end }

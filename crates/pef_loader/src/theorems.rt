@@ -8,7 +8,7 @@ pub fn first_fault_is_reported()
     ensures { FirstIsReported }
 {}
 
-/// What can be read of a loader section is the loader section.
+/// If a loader section breaks no rule, what can be read of it as of a damaged one is that loader section.
 #[tactic(auto, using(crate::proofs::FindingLemmas::whole_loader))]
 pub fn loaders_open()
     ensures { OpensLoaders }

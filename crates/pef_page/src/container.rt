@@ -8,7 +8,7 @@ use cfm_members::Contents;
 use mac_report::Turn;
 use pef_inspect::Limits;
 
-/// A container of a file, and what the ones before leave of the file's budget and limits. Whoever calls passes these numbers on, and
+/// A container of a file, and what the ones before leave of the file's budget and limits. The caller passes these numbers on, and
 /// needn't know what they are.
 #[repr(C)]
 #[derive(Clone, Copy, Debug)]

@@ -83,8 +83,8 @@ pub extern "C" fn page_container<'a>(
     give(memory, part, room, count)
 }
 
-/// Gives the beginning of this object, as an object: at most `most` rows of each kind, no instructions, and of the errors and notes
-/// in their order the first `most`.
+/// Gives the beginning of a container's object, as an object: at most `most` rows of each kind, no instructions, and of the
+/// errors and notes in their order the first `most`.
 #[unsafe(no_mangle)]
 pub extern "C" fn page_excerpt<'a>(
     memory: Memory,

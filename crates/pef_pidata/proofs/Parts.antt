@@ -45,12 +45,9 @@ pub zeros_first-within : (xs : List ℕ) → zeros_first xs ≤ length xs
 zeros_first-within [] = omega arith
 zeros_first-within (b ∷ rest) = omega (arith, zeros_first-most b rest, zeros_first-within rest)
 
--- before the end of a run, and after it
+-- no run begins at a byte that isn't 0
 pub zeros_first-here : (xs : List ℕ) (i : ℕ) → i < length xs → get_or xs i 0 ≢ 0 → zeros_first (drop i xs) ≡ 0
 zeros_first-here xs i under other = ap zeros_first (drop_more xs i 0 under) ∙ zeros_first-other (get_or xs i 0) (drop (i + 1) xs) other
-
-pub zeros_first-next : (xs : List ℕ) (i : ℕ) → i < length xs → get_or xs i 0 ≡ 0 → zeros_first (drop i xs) ≡ zeros_first (drop (i + 1) xs) + 1
-zeros_first-next xs i under none = ap zeros_first (drop_more xs i 0 under) ∙ zeros_first-zero (get_or xs i 0) (drop (i + 1) xs) none
 
 -- the longest run that some bytes begin with
 runs-alone : (xs : List ℕ) → zeros_first xs ≡ 0 → zero_before (runs xs) ≡ zeros 1 ∷ runs xs

@@ -27,7 +27,7 @@ abbrev pub runs : List ℕ → List Part
 runs [] = []
 runs (b ∷ rest) = if b == 0 then zero_before (runs rest) else bytes_before (b ∷ []) (runs rest)
 
--- the same, with each run of fewer than three zeros in a block
+-- the parts, with each run of fewer than three zeros in a block
 abbrev pub without_short : List Part → List Part
 without_short [] = []
 without_short (zeros count ∷ parts) = if nat_lt count 3 then bytes_before (replicate count 0) (without_short parts) else zeros count ∷ without_short parts

@@ -41,7 +41,7 @@ copied_len (Repeat count repeats) = count
 copied_len (Weave w) = w.common + w.custom * w.parts
 copied_len (WeaveZeros w) = w.custom * w.parts
 
--- the bytes that it spells, from those that it copies
+-- the bytes that an instruction spells, from those that it copies
 abbrev pub output : Instruction → List ℕ → List ℕ
 output (Zeros count) bytes = replicate count 0
 output (Block count) bytes = bytes

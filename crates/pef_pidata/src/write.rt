@@ -51,7 +51,7 @@ fn repeat(block: &[u8], repeats: u32, target: &mut [u8])
     }
 }
 
-/// The bytes before each of some parts, and once more after the last.
+/// The common part: the bytes before each custom part, and once more after the last.
 #[derive(Clone, Copy)]
 enum Common<'a> {
     Bytes(&'a [u8]),
@@ -81,7 +81,7 @@ impl Common<'_> {
         }
     }
 
-    /// Writes this, and a part after it.
+    /// Writes the common part, and a custom part after it.
     fn write_before(self, part: &[u8], target: &mut [u8])
         requires { length target.old ≡ length (common_seen self) + length part.now }
         ensures { target.new ≡ common_seen self.entry ++ part.now }
@@ -91,7 +91,8 @@ impl Common<'_> {
         back.copy_from_slice(part);
     }
 
-    /// Writes this before each of `count` parts of `size` bytes, and once more at the end.
+    /// Writes the common part before each of `count` custom parts of `size` bytes, and once more at the
+    /// end.
     fn weave(self, parts: &[u8], size: usize, count: usize, target: &mut [u8])
         requires size { size < 2 ^ 32 }
         requires parts { length parts.now ≡ size * count }

@@ -1,11 +1,9 @@
 -- Why relocation is refused doesn't depend on addresses or on the contents of memory.
-use Rattle.std.proofs.Common.{◌≡◌, ℕ, zero, suc, ◌+◌, ◌==◌, ◌≤◌, Bool, true, false, cond, List, [], ◌∷◌, nat_le, length, Option, None, Some, refl, ap, sym, subst, ◌∙◌}
+use Rattle.std.proofs.Common.{◌≡◌, ℕ, zero, suc, ◌+◌, ◌==◌, Bool, true, false, cond, List, [], ◌∷◌, nat_le, length, Option, None, Some, refl, ap, subst, ◌∙◌}
 use Rattle.std.specs.Option.{option_and_then, option_map, option_or}
 use Rattle.std.proofs.lemmas.Bool.{leb-true}
-use Rattle.pef_reloc.specs.declared.fault.RelocFault.{RelocFault}
 use Rattle.pef_reloc.specs.declared.fixup.Base.{Base}
 use Rattle.pef_reloc.specs.declared.fixup.Base.TheVariants.{Section, Import}
-use Rattle.pef_reloc.specs.declared.fixup.Fixup.{Fixup}
 use Rattle.pef_reloc.specs.declared.stop.Stop.{Stop}
 use Rattle.pef_reloc.specs.declared.stop.Stop.TheVariants.{NoImport, PastEnd}
 use Rattle.pef_reloc.specs.Applied.{Addresses, Done, act_done, act_fault, address_of, applied, done_at, fault_at, is_missing, ran, relocation, then_done, unless_refused}

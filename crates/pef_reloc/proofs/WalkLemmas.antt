@@ -1,9 +1,8 @@
 -- The instructions that were tested, and those that are left.
-use Rattle.std.proofs.Common.{◌≡◌, ℕ, zero, suc, ◌+◌, ◌*◌, ◌-◌, ◌^◌, ◌<◌, ◌≤◌, List, [], ◌∷◌, ◌++◌, drop, length, Option, None, Some, Ok, Err, IfSome, refl, ap, sym, subst, ◌∙◌, arith}
+use Rattle.std.proofs.Common.{◌≡◌, ℕ, ◌+◌, ◌*◌, ◌-◌, ◌^◌, ◌<◌, ◌≤◌, List, [], ◌∷◌, ◌++◌, drop, length, Option, None, Some, Ok, Err, refl, ap, sym, subst, ◌∙◌, arith}
 use Rattle.std.specs.Option.{option_map, option_or}
 use Rattle.pef_reloc.specs.declared.fault.RelocFault.{RelocFault}
 use Rattle.pef_reloc.specs.declared.instr.Instr.{Instr}
-use Rattle.pef_reloc.specs.declared.recent.Reader.{Reader}
 use Rattle.pef_reloc.specs.declared.stop.Stop.{Stop}
 use Rattle.pef_reloc.specs.declared.verifying.Sizes.{Sizes}
 use Rattle.pef_reloc.specs.declared.verifying.Walk.{Walk}
@@ -15,13 +14,11 @@ use Rattle.pef_reloc.specs.Steps.{State, acts_of, next_state, start, state_after
 use Rattle.pef_reloc.specs.Unrolled.{Step, code_fault, executed, instrs_in, instrs_of, program_fault, repeated, steps_as, steps_from, unrolled, unrolled_after}
 use Rattle.pef_reloc.specs.Verified.{first_stop, run_stop, verified}
 use Rattle.pef_reloc.specs.Kept.Places.{Before, Spans}
-use Rattle.pef_reloc.specs.Kept.Readers.{Marks, Passes}
 use Rattle.pef_reloc.specs.Kept.Walks.{MovesOn, WalksTo, walked}
 use Rattle.pef_reloc.proofs.ActLists.{instrs_in-append, state_after-append}
 use Rattle.pef_reloc.proofs.Applying.{fine_parts, some_steps, steps_fine}
-use Rattle.pef_reloc.proofs.Blocks.{begins, repeated-end, repeated-more, repeat-reach, spans-order}
+use Rattle.pef_reloc.proofs.Blocks.{begins, repeated-end, repeated-more, spans-order}
 use Rattle.pef_reloc.proofs.CodeLemmas.{code-end, code-next, some_length}
-use Rattle.pef_reloc.proofs.Readings.{ReadLeft, fault-next}
 
 or_none : {A : Type 0} (o : Option A) → option_or o None ≡ o
 or_none None = refl

@@ -81,7 +81,8 @@ ran a (step ∷ steps) s memory = then_done (done_at step.0 (applied a (acts_of 
 unfoldable pub relocation : List ℕ → Addresses → List ℕ → Done RelocFault
 relocation bytes a memory = ran a (unrolled (instrs_of bytes)) start memory
 
--- the same, whichever instruction it is
+-- memory relocated by the program that the bytes spell, and why it stopped, whichever instruction is
+-- refused
 unfoldable pub relocated : List ℕ → Addresses → List ℕ → Done Stop
 relocated bytes a memory = applied a (acts_from (instrs_in (unrolled (instrs_of bytes))) start) memory
 

@@ -43,11 +43,11 @@ fault_offset (ImportOutside at word) = Some at
 fault_offset (SectionOutside at word) = Some at
 fault_offset OutOfMemory = None
 
--- the number of its first halfword
+-- the number of the first halfword of the instruction that is refused
 abbrev pub fault_halfword : RelocFault → Option ℕ
 fault_halfword fault = option_map (λ at. at / 2) (fault_offset fault)
 
--- the offset in the section of the word that it asks to add to
+-- the offset in the section of the word that the instruction asks to add to
 abbrev pub fault_word : RelocFault → Option ℕ
 fault_word (WordOutside at word) = Some word
 fault_word (ImportOutside at word) = Some word

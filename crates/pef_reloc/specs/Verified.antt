@@ -5,7 +5,6 @@ use Rattle.std.specs.Option.{option_map, option_or}
 use Rattle.pef_reloc.specs.declared.fault.RelocFault.{RelocFault}
 use Rattle.pef_reloc.specs.declared.fixup.Base.{Base}
 use Rattle.pef_reloc.specs.declared.fixup.Base.TheVariants.{Section, Import}
-use Rattle.pef_reloc.specs.declared.instr.Instr.{Instr}
 use Rattle.pef_reloc.specs.declared.stop.Stop.{Stop}
 use Rattle.pef_reloc.specs.declared.stop.Stop.TheVariants.{PastEnd, NoImport, NoSection}
 use Rattle.pef_reloc.specs.declared.verifying.Sizes.{Sizes}
@@ -32,12 +31,12 @@ unfoldable pub first_stop : Sizes → List Act → Option Stop
 first_stop z [] = None
 first_stop z (act ∷ acts) = option_or (act_stop z act) (first_stop z acts)
 
--- the same for the instructions that are executed from a state
+-- why the first refused instruction of those that are executed from a state is refused
 unfoldable pub run_stop : Sizes → List Step → State → Option RelocFault
 run_stop z [] s = None
 run_stop z (step ∷ steps) s = option_or (option_map (fault_at step.0) (first_stop z (acts_of step.1 s))) (run_stop z steps (next_state step.1 s))
 
--- the same for the program that the bytes spell
+-- why the first refused instruction of the program that the bytes spell is refused
 unfoldable pub verified : Sizes → List ℕ → Option RelocFault
 verified z bytes = run_stop z (unrolled (instrs_of bytes)) start
 

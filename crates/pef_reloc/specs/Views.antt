@@ -14,7 +14,7 @@ program_bytes p = p.bytes.now
 abbrev pub listed : Instrs → List Instr
 listed walk = (code_at walk.at (drop walk.at walk.bytes.now)).instrs
 
--- the same with their places in the program
+-- the instructions that an iterator has before it, with their places in the program
 abbrev pub placed : Instrs → List Step
 placed walk = steps_from walk.at (listed walk)
 

@@ -33,7 +33,7 @@ impl Spelling {
         }
     }
 
-    /// Returns a seven-bit opcode and a nine-bit number.
+    /// Returns the halfword of a seven-bit opcode and a nine-bit number.
     fn small(opcode: u16, number: u32) -> Spelling
         requires opcode { opcode < 128 }
         requires number { number < 512 }
@@ -42,7 +42,7 @@ impl Spelling {
         Spelling::one(u32::from(opcode * BEHIND_SEVEN_BITS) + number)
     }
 
-    /// Returns a six-bit opcode with a number of 26 bits.
+    /// Returns the halfwords of a six-bit opcode and a number of 26 bits.
     fn large(opcode: u16, number: u32) -> Spelling
         requires opcode { opcode < 64 }
         requires number { number < 0x4000000 }
@@ -54,7 +54,7 @@ impl Spelling {
         }
     }
 
-    /// Returns a six-bit opcode, four more bits of opcode, and a number of 22 bits.
+    /// Returns the halfwords of a six-bit opcode, four more bits of opcode, and a number of 22 bits.
     fn parted(opcode: u16, four: u32, number: u32) -> Spelling
         requires opcode { opcode < 64 }
         requires four { four < 16 }
@@ -64,7 +64,7 @@ impl Spelling {
         Spelling::large(opcode, four * 0x40_0000 + number)
     }
 
-    /// Returns the four bits of an instruction on a section, and the section.
+    /// Returns the halfwords of an instruction on a section, by its four bits of opcode and the section.
     fn section(four: u16, section: u32) -> Spelling
         requires four { four < 16 }
         requires section { section < 0x400000 }

@@ -7,9 +7,9 @@ use thiserror::Error;
 
 /// Why a relocation program is refused, or stopped.
 ///
-/// `at` is the offset in the program's bytes of the instruction that is refused, which for one that a repeat runs
-/// again is that of the instruction itself. `word` is the offset in the section of the word that it asks to add to; for
-/// an instruction that only names a section it is the position.
+/// `at` is the offset in the program's bytes of the instruction that is refused, and not of a repeat that runs it again. `word`
+/// is the offset in the section of the word that the instruction asks to add to; for an instruction that only names a section it
+/// is the position.
 #[derive(Clone, Copy, Debug, PartialEq, Eq, Error)]
 pub enum RelocFault {
     /// A halfword begins no instruction.
@@ -35,7 +35,7 @@ pub enum RelocFault {
 }
 
 impl RelocFault {
-    /// Returns its number among all refusals of the product.
+    /// Returns the number of the error: 31 to 39, or 99 for a failed allocation.
     pub fn number(&self) -> u32
         ensures { result ≡ fault_number self.now }
     {
@@ -101,7 +101,7 @@ impl RelocFault {
         }
     }
 
-    /// Returns the number of its first halfword.
+    /// Returns the number of the first halfword of the instruction that is refused.
     pub fn halfword(&self) -> Option<usize>
         ensures { result ≡ fault_halfword self.now }
     {

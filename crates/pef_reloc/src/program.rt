@@ -101,7 +101,7 @@ impl<'a> Program<'a> {
     /// Returns an iterator over its additions, in the order in which it makes them. Nothing is allocated, and each
     /// addition takes constant time; so does each instruction that adds nothing.
     ///
-    /// Which words, sections and imports there are isn't asked.
+    /// Words, sections and imports aren't tested: they need not exist.
     pub fn fixups(&self) -> Fixups<'a>
         ensures { fixups_left result ≡ fixups_of (program_bytes self.now) }
     {

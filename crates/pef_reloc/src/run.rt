@@ -12,7 +12,7 @@ pub(crate) enum Added {
     Section(u32),
     /// Sections C and D to each word and the one after it.
     Pairs { c: u32, d: u32 },
-    /// The same, but the first word of the row has got its section.
+    /// As `Pairs`, but section C was already added to the first word of the row.
     Seconds { c: u32, d: u32 },
     /// Imports, this one first.
     Imports(u64),

@@ -62,11 +62,13 @@ pub enum Request<'a> {
         json: bool,
         files: Vec<&'a [u8]>,
     },
-    /// Report the same of the files whose paths are on the standard input, each ended by a zero byte.
+    /// Report everything that can be known of the files whose paths are on the standard input, each ended
+    /// by a zero byte.
     InspectListed {
         json: bool,
     },
-    /// Report the same of the file at a path, and of the one that has its resource fork.
+    /// Report everything that can be known of the file at a path, and of the one that has its resource
+    /// fork.
     InspectPair {
         json: bool,
         resources: &'a str,
@@ -115,7 +117,7 @@ pub fn read_request<'a>(alloc: Global, words: &'a [String]) -> Result<Request<'a
     read_words(alloc, words)
 }
 
-/// Whether the words are `--version` alone, after the program's name.
+/// Returns whether the words are `--version` alone, after the program's name.
 #[tactic(auto, unfolding(crate::specs::CommandLine::asks_version))]
 fn asks_version(words: &[String]) -> bool
     ensures { result ≡ asks_version (map string_bytes words.now) }

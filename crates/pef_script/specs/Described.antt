@@ -14,7 +14,7 @@ use Rattle.pef_script.specs.Script.{DescribedScript, DescribedSection}
 abbrev pub described_memory : (Base → ℕ) → DescribedSection → List ℕ
 described_memory address s = with_bases address 0 s.fixups (filled s.image s.header.total)
 
--- the same of section k of a script
+-- the memory of section k of a script, under the addresses of bases
 abbrev pub described_at : (Base → ℕ) → DescribedScript → ℕ → List ℕ
 described_at address script k = option_map_or (described_memory address) (slice_get script.sections k) []
 

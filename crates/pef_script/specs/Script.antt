@@ -42,7 +42,7 @@ pub record DescribedScript : Type 0 where
   pub init : Option (ℕ × ℕ)
   pub term : Option (ℕ × ℕ)
 
--- its names of each kind
+-- the names of a script, of each kind
 
 abbrev pub library_names : DescribedScript → List (List ℕ)
 library_names script = map (λ library. library.name) script.libraries
@@ -60,6 +60,6 @@ export_names script = map (λ symbol. symbol.name) script.exports
 abbrev pub bytes_of_names : List (List ℕ) → ℕ
 bytes_of_names names = sum_by (λ name. length name + 1) names
 
--- those of the libraries, the imports and the exports
+-- the bytes of the names of the libraries, the imports and the exports, counting one more for each
 abbrev pub name_bytes : DescribedScript → ℕ
 name_bytes s = bytes_of_names (library_names s) + bytes_of_names (import_names s) + bytes_of_names (export_names s)

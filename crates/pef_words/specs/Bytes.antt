@@ -10,7 +10,7 @@ use Rattle.byteorder.specs.Endian.{big_number}
 unfoldable pub number_at : ℕ → List ℕ → ℕ → Option ℕ
 number_at n bytes at = if nat_le (at + n) (length bytes) then Some (big_number n (drop at bytes)) else None
 
--- the same, read as two's complement (its signed fields: SInt16, SInt32)
+-- the number in the bytes from a place as two's complement (its signed fields: SInt16, SInt32)
 abbrev pub signed_at : Width → ℕ → List ℕ → ℕ → Option ℤ
 signed_at w n bytes at = option_map (cast_signed w) (number_at n bytes at)
 

@@ -62,7 +62,7 @@ impl<'a> Cut<'a> {
         Some(BigEndian::read_u16(bytes))
     }
 
-    /// Returns the same two bytes as a two's complement number.
+    /// Returns the two's complement number in the two bytes from `at`, or `None` if they pass the end.
     pub fn i16_at(self, at: usize) -> Option<i16>
         ensures { result ≡ signed_at w16 2 self.entry.bytes.now at }
     {
@@ -78,7 +78,7 @@ impl<'a> Cut<'a> {
         Some(BigEndian::read_u32(bytes))
     }
 
-    /// Returns the same four bytes as a two's complement number.
+    /// Returns the two's complement number in the four bytes from `at`, or `None` if they pass the end.
     pub fn i32_at(self, at: usize) -> Option<i32>
         ensures { result ≡ signed_at w32 4 self.entry.bytes.now at }
     {

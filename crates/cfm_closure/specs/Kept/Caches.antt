@@ -17,7 +17,7 @@ pub record IsKeptRow (pairs : List Pair) (p : ℕ) (row : Row) : Type 0 where
   pub known : AllKnown row
   pub right : AreRight pairs p row
 
--- this for each row of a table
+-- each row of a table has the targets of all imports of its fragment
 abbrev pub AreKeptRows : List Pair → List (Option Row) → Type 0
 AreKeptRows pairs rows = (p : ℕ) (row : Row) → slice_index_or rows p None ≡ Some row → IsKeptRow pairs p row
 
@@ -30,7 +30,7 @@ pub record IsOfKept (pairs : List Pair) (rows : List (Option Row)) (p : ℕ) : T
   pub member : Contains closure.order p
   pub all : (q : ℕ) → Contains closure.order q → IsSome (slice_index_or rows q None)
 
--- this for each fragment that is kept
+-- each fragment that is kept is one of a closure whose fragments are all kept
 abbrev pub AreOfKept : List Pair → List (Option Row) → Type 0
 AreOfKept pairs rows = (p : ℕ) → IsSome (slice_index_or rows p None) → IsOfKept pairs rows p
 

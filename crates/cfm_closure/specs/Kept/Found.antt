@@ -15,6 +15,6 @@ meant_by kind.InSection found = Some (At found.fragment found.section found.valu
 abbrev pub meant : Found → Option Target
 meant found = meant_by found.kind found
 
--- the same for the known targets of some imports
+-- the targets of some imports, as far as they are known
 abbrev pub all_meant : List (Option Found) → List (Option (Option Target))
 all_meant known = map (option_map meant) known

@@ -28,7 +28,7 @@ rest_of pairs p l count s = walks_from (visit pairs) pairs p l (count - l) s >>=
 abbrev pub count_of : Frame → ℕ
 count_of f = (fragment_seen f.fragment).loader.header.library_count
 
--- the same for a frame of the path
+-- the rest of the walk in a frame of the path
 abbrev pub rest_of_frame : List Pair → Frame → Walked → Result Walked BindRefusal
 rest_of_frame pairs f s = rest_of pairs f.p (length f.libraries) (count_of f) s
 
@@ -37,7 +37,7 @@ abbrev pub rest_of_path : List Pair → List Frame → Walked → Result Walked 
 rest_of_path pairs [] s = Ok s
 rest_of_path pairs (f ∷ path) s = rest_of_path pairs path s >>= rest_of_frame pairs f
 
--- the same after the walk from a fragment, and after the rest of a frame
+-- the rest of the path after the walk from a fragment, and after the rest of a frame
 abbrev pub visit_and_rest : List Pair → ℕ → List Frame → Walked → Result Walked BindRefusal
 visit_and_rest pairs p path s = visit pairs p s >>= rest_of_path pairs path
 
@@ -97,7 +97,7 @@ abbrev pub NextOf : List Pair → Walked → Frame → Frame → Option ℕ → 
 NextOf pairs s before now None = (rest_of_frame pairs before s ≡ Ok (joining before.p s)) × (length now.libraries ≡ count_of now)
 NextOf pairs s before now (Some q) = (rest_of_frame pairs before s ≡ (visit pairs q s >>= rest_of_frame pairs now)) × (is_marked s q ≡ false) × (q < length pairs)
 
--- the same for the result of the search for it
+-- what the rest of a frame is, by the result of the search for the next fragment
 abbrev pub Next : List Pair → Walked → Frame → Frame → Result (Option ℕ) BindFault → Type 0
 Next pairs s before now (Ok next) = NextOf pairs s before now next
 Next pairs s before now (Err e) = FailsAs e (rest_of_frame pairs before s)

@@ -6,7 +6,7 @@ use Rattle.cfm_closure.specs.Targets.{exports_among}
 use Rattle.cfm_closure.specs.Kept.Names.{AreNamesOf}
 use Rattle.cfm_closure.specs.Kept.Symbols.{AreSymbolsOf}
 
--- it is one for a closure order
+-- a resolver is one for a closure order
 pub record IsResolver (pairs : List Pair) (order : List ℕ) (r : Resolver) : Type 0 where
   pub exports : r.exports ≡ exports_among pairs order
   pub few : r.exports ≤ 2 ^ 40

@@ -34,7 +34,7 @@ abbrev pub search_next : ℕ → List Pair → Option ℕ → Sought → Result 
 search_next n pairs None s = Ok s
 search_next n pairs (Some q) s = search n pairs q s
 
--- the same, and the rest of a visit after it; the visit is done if there is none
+-- the walk to a fragment, and the rest of a visit after it; without a fragment the visit is done
 abbrev pub next_and_rest : ℕ → List Pair → Visit → Option ℕ → Sought → Result Sought BindRefusal
 next_and_rest n pairs v None s = Ok s
 next_and_rest n pairs v (Some q) s = search n pairs q s >>= rest_of_visit n pairs v

@@ -27,7 +27,8 @@ pub record IsFirstFree (granule bytes step from : ℕ) (xs : List Instance) (add
   pub free : IsFree granule address (address + bytes) xs
   pub first : (other : ℕ) → from ≤ other → other % step ≡ 0 → IsFree granule other (other + bytes) xs → address ≤ other
 
--- the same where they also meet no reserved range
+-- the first multiple of a step, from an address on, at which some bytes overlap no instance and no reserved
+-- range
 pub record IsFirstVacant (granule bytes step from : ℕ) (xs : List Instance) (rs : List Reserved) (address : ℕ) : Type 0 where
   pub low : from ≤ address
   pub aligned : address % step ≡ 0

@@ -36,7 +36,7 @@ pub record IsLaidOut (pairs : List Pair) (f : Present) : Type 0 where
   pub fits : Fits pairs f
   pub own : AreApart f.places
 
--- so have some fragments, and no two have the same address
+-- some fragments have the places of their sections, and no two sections have the same address
 pub record AreLaidOut (pairs : List Pair) (fs : List Present) : Type 0 where
   pub each : (i : ℕ) → i < length fs → IsLaidOut pairs (present_at fs i)
   pub apart : AllApart fs

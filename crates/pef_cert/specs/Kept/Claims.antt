@@ -54,7 +54,7 @@ abbrev pub word_end : List Fixup → ℕ → ℕ
 word_end fixups zero = 0
 word_end fixups (suc k) = option_map_or (λ f. f.offset + 4) (slice_get fixups k) 0
 
--- the same, if there is a gap before the word of an index; otherwise no move leads to the fixup
+-- the least skips at an index, if there is a gap before its word; otherwise no move leads to the fixup
 abbrev pub SkipsKept : Claim → ℕ → Fixup → List Fixup → List ℕ → Type 0
 SkipsKept claim j f rest least = word_end claim.fixups.now j < f.offset → SkipsAre claim f rest least
 

@@ -24,7 +24,8 @@ pub fn after_first(fixups: &[Fixup], offset: u64, base: Base) -> Option<&[Fixup]
     adds_at(*first, offset, base).then_some(rest)
 }
 
-/// Returns the same for the import with a number.
+/// Returns the fixups left after the first, if it adds the import with a number at `offset`. `None` if it
+/// doesn't, or there is none.
 pub fn after_import(fixups: &[Fixup], offset: u64, import: u64) -> Option<&[Fixup]>
     ensures { option_map (λ l. l.now) result ≡ after_first offset (Import import) fixups.now }
 {

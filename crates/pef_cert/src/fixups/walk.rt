@@ -76,7 +76,7 @@ impl<'a> Walk<'a> {
         }
     }
 
-    /// Returns the same for one that fits.
+    /// Continues with an instruction that fits.
     fn step(self, instr: Instr) -> Option<Walk<'a>>
         requires fits { instr_fits instr ≡ true }
         requires position { self.position < 2 ^ 60 }

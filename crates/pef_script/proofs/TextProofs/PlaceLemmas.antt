@@ -1,5 +1,5 @@
 -- Cuts, lines and words by their numbers, and names that are nearly the same.
-use Rattle.std.proofs.Common.{◌≡◌, ℕ, zero, suc, ◌+◌, ◌-◌, ◌<◌, ◌≤◌, ◌==◌, ◌&&◌, ◌||◌, Bool, true, false, cond, List, [], ◌∷◌, Option, None, Some, length, drop, take, get_or, option_map, slice_get, refl, ap, ◌∙◌, arith, eq-eqb, length-append}
+use Rattle.std.proofs.Common.{◌≡◌, ℕ, zero, suc, ◌+◌, ◌-◌, ◌<◌, ◌≤◌, ◌==◌, Bool, true, false, cond, List, [], ◌∷◌, Option, None, Some, length, drop, take, get_or, option_map, slice_get, refl, ap, ◌∙◌, arith, length-append}
 use Rattle.std.specs.Prelude.{if◌then◌else◌}
 use Rattle.std.specs.List.{position_from}
 use Rattle.std.specs.Option.{option_map_or}
@@ -11,7 +11,6 @@ use Rattle.pef_lines.specs.Lines.{cut_at, lines_of, longer_first, parts_of}
 use Rattle.pef_lines.proofs.Laws.{cut_at-parts, lines_of-cut, lines_of-last, words_of-some}
 use Rattle.pef_lines.specs.Cursor.{none_left, words_of}
 use Rattle.pef_script.specs.Text.Near.{past_common}
-use Rattle.pef_script.specs.Text.Oddities.{has_two_spaces, is_space}
 use Rattle.pef_script.specs.Text.Places.{after_cuts, first_part, line_in, text_from, word_at, word_in}
 
 -- what is after a cut

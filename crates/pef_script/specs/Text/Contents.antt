@@ -47,7 +47,7 @@ bytes_line s line = bytes_in s line >>= λ b. Ok (with_contents s b.0 (with_imag
 abbrev pub meets : ℕ → ℕ → Fixup → Bool
 meets offset count fixup = nat_lt offset (fixup.offset + 4) && nat_lt fixup.offset (offset + 4 * count)
 
--- the word of one of some fixups does
+-- the word of one of some fixups overlaps one of this many words from an offset
 abbrev pub overlaps : List Fixup → ℕ → ℕ → Bool
 overlaps fixups offset count = list_any (meets offset count) fixups
 
@@ -90,7 +90,7 @@ abbrev pub base_named : ScriptSoFar → Bool → ℕ → List ℕ → Result Bas
 base_named s true at name = section_named s at name >>= λ k. Ok (base.Section k)
 base_named s false at name = import_named s at name >>= λ j. Ok (base.Import j)
 
--- the same for a fixup
+-- the section and the fixup that a line `fix` has, if it is allowed
 unfoldable pub fixup_in : ScriptSoFar → List ℕ → Result (ℕ × Fixup) LineFault
 fixup_in s line = do
   place ← next_name_and_word 1 line

@@ -27,7 +27,7 @@ form_in line = form_of (word_in 0 line)
 abbrev pub declared_in : List ℕ → Option Names
 declared_in line = option_and_then (λ form. (row_of form).declares) (form_in line)
 
--- both are there and the same
+-- two lines declare names of the same kind
 abbrev pub are_same : Option Names → Option Names → Bool
 are_same (Some Libraries) (Some Libraries) = true
 are_same (Some Imports) (Some Imports) = true

@@ -41,7 +41,7 @@ fault_word (OutsideSection word) = word
 fault_word (TooMany word) = word
 fault_word (BadKind word) = word
 
--- the same for a text that isn't a script, and the number of its line
+-- the number, the name and the line of the fault of a text that isn't a script
 
 abbrev pub script_fault_number : ScriptFault → ℕ
 script_fault_number (fault.Refused what line word earlier) = fault_number what

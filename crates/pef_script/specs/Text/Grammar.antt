@@ -37,7 +37,7 @@ line_by_form s form.Main rest = main_line s rest
 line_by_form s form.Init rest = init_line s rest
 line_by_form s form.Term rest = term_line s rest
 
--- of one of the forms
+-- the rest of a line of one of the forms
 abbrev pub line_by : ScriptSoFar → Option Form → List ℕ → Result ScriptSoFar LineFault
 line_by s None rest = Err (BadLine 0)
 line_by s (Some form) rest = line_by_form s form rest

@@ -18,7 +18,7 @@ is_text b = nat_le 0x20 b && nat_le b 0x7E
 abbrev pub byte_oddity : ℕ → Oddity
 byte_oddity b = if b == 0x0D then CarriageReturn else if b == 0x09 then Tab else Byte
 
--- the first such byte decides
+-- what is wrong with the first byte that isn't allowed
 abbrev pub odd_byte : List ℕ → Option Oddity
 odd_byte [] = None
 odd_byte (b ∷ bytes) = if is_text b then odd_byte bytes else Some (byte_oddity b)

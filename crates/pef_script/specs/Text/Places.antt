@@ -27,7 +27,7 @@ text_from text number = after_cuts 0x0A (number - 1) text
 unfoldable pub line_in : List ℕ → ℕ → List ℕ
 line_in text number = first_part 0x0A (text_from text number)
 
--- the same line, if there is one
+-- the line with a number from 1, if there is one
 abbrev pub numbered : List (List ℕ) → ℕ → Option (List ℕ)
 numbered lines number = if number == 0 then None else slice_get lines (number - 1)
 

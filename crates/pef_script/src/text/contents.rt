@@ -204,7 +204,7 @@ fn next_kind(line: &[u8]) -> Result<(Result<bool, LineFault>, &[u8]), LineFault>
     kind_by_word(line)
 }
 
-/// Returns the same. It looks at each byte.
+/// Returns what `next_kind` returns, for any word: the usual ones are compared as texts.
 #[tactic(auto, unfolding(crate::specs::Text::Kept::Kinds::next_kind))]
 fn kind_by_word(line: &[u8]) -> Result<(Result<bool, LineFault>, &[u8]), LineFault>
     ensures { result_map (λ p. (p.0, p.1.now)) result ≡ next_kind line.now }

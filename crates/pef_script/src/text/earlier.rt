@@ -10,7 +10,7 @@ use crate::text::places::{line_in, word_in};
 use pef_lines::{LINE_FEED, cut_at};
 use pef_reloc::WORD;
 
-/// Returns the number of the first line that a fault is about, before the line with a number that has the fault.
+/// Returns the number of the first line before line `number` that a fault of this line is about.
 #[tactic(auto, unfolding(crate::specs::Text::Earlier::earlier_of))]
 pub fn earlier_of(text: &[u8], number: usize, fault: LineFault) -> Option<usize>
     ensures { result ≡ earlier_of text.now number fault }
@@ -99,7 +99,8 @@ fn is_late_line(line: &[u8], earlier: &[u8]) -> bool
     is_late(form_in(line), form_in(earlier))
 }
 
-/// Returns the same for the forms of the lines.
+/// Returns whether the form of the earlier line is of a later group, or of the same group if there may be
+/// one line of it.
 fn is_late(this: Option<Form>, earlier: Option<Form>) -> bool
     ensures { result ≡ is_late this earlier }
 {
@@ -142,7 +143,7 @@ fn declared_in(line: &[u8]) -> Option<Names>
     form_in(line)?.declares()
 }
 
-/// Returns whether both are there and the same.
+/// Returns whether two lines declare names of the same kind.
 fn are_same(one: Option<Names>, other: Option<Names>) -> bool
     ensures { result ≡ are_same one other }
 {
@@ -155,14 +156,14 @@ fn are_same(one: Option<Names>, other: Option<Names>) -> bool
     }
 }
 
-/// Returns what the word of a line with a number refers to.
+/// Returns what word `at` of a line refers to.
 fn names_wanted(at: u8, line: &[u8]) -> Option<Names>
     ensures { result ≡ names_wanted at line.now }
 {
     names_of_kind(line, kind_in(at, line)?)
 }
 
-/// Returns what the word of a line with a number is.
+/// Returns what word `at` of a line is.
 pub fn kind_in(at: u8, line: &[u8]) -> Option<WordKind>
     ensures { result ≡ kind_in at line.now }
 {
@@ -170,7 +171,7 @@ pub fn kind_in(at: u8, line: &[u8]) -> Option<WordKind>
     kind_after(form.words(), at)
 }
 
-/// Returns what a word is, if these are the words after the first.
+/// Returns what word `at` of a line is, by what the words after the first are.
 fn kind_after(kinds: &[WordKind], at: u8) -> Option<WordKind>
     ensures { result ≡ kind_after kinds.now at }
 {

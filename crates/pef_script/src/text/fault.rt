@@ -202,7 +202,7 @@ pub enum Stop {
 }
 
 impl Stop {
-    /// Returns the same, for the line with this number.
+    /// Adds the number of the line.
     pub fn at(self, line: usize) -> Stopped
         ensures { result ≡ stopped_at line self }
     {
@@ -221,7 +221,7 @@ pub enum Stopped {
 }
 
 impl Stopped {
-    /// Returns the same, with its places in the text of these lines.
+    /// Adds the places in the text of these lines: the word at fault, and the earlier line.
     pub fn in_text(self, text: &[u8]) -> ScriptFault
         ensures { result ≡ placed_in text.now self }
     {

@@ -97,7 +97,7 @@ fn next_four(offset: u32) -> usize
     (offset / WORD) as usize + 1
 }
 
-/// Returns how many bytes after the offset that is.
+/// Returns how many bytes after an offset its next four is.
 fn lead_of(offset: u32) -> u8
     ensures { result ≡ 4 - offset % 4 }
 {

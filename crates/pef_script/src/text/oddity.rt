@@ -140,7 +140,7 @@ fn odd_words(has: usize, form: Option<Form>) -> Oddity
     }
 }
 
-/// Returns the same, by how many words the line should have.
+/// Returns what is wrong with a line that should have `wants` words.
 fn odd_count(has: usize, wants: usize) -> Oddity
     ensures { result ≡ odd_count has wants }
 {

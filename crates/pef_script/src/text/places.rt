@@ -14,7 +14,7 @@ pub struct Word {
     pub to: usize,
 }
 
-/// Returns what is left after this many such bytes, and nothing if there are fewer.
+/// Returns what follows the first `count` such bytes, or nothing if there are fewer.
 fn after_cuts(byte: u8, count: usize, bytes: &[u8]) -> &[u8]
     ensures cut { result.now ≡ after_cuts byte count bytes.now }
     ensures shorter { length result.now ≤ length bytes.now }
@@ -31,7 +31,7 @@ fn after_cuts(byte: u8, count: usize, bytes: &[u8]) -> &[u8]
     rest
 }
 
-/// Returns what is before the first such byte, and all if there is none.
+/// Returns what is before the first such byte, or all if there is none.
 fn first_part(byte: u8, bytes: &[u8]) -> &[u8]
     ensures part { result.now ≡ first_part byte bytes.now }
     ensures shorter { length result.now ≤ length bytes.now }

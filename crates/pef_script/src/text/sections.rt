@@ -282,7 +282,8 @@ fn overlaps_any(fixups: &[Fixup], offset: u32, count: u8) -> bool
     false
 }
 
-/// Returns the same for fixups by their offsets.
+/// Returns whether the word of one of these fixups overlaps one of `count` words from an offset. The bases
+/// are by their offsets.
 fn overlaps_placed(bases: &BTreeMap<u32, Base>, offset: u32, count: u8) -> bool
     requires { offset + 4 * count < 2 ^ 32 }
     ensures { result ≡ overlaps (fixups_in bases.now.entries) offset count }

@@ -23,7 +23,7 @@ pub fn rest_after<'l>(text: &str, line: &'l [u8]) -> Option<&'l [u8]>
     Some(rest)
 }
 
-/// Returns the fault of the word with a number, if this is left of a line and it can't be read.
+/// Returns the fault of word `at`, which can't be read, by what is left of the line from there.
 #[cold]
 fn unread(at: u8, line: &[u8]) -> LineFault
     requires { at < 8 }

@@ -1,10 +1,10 @@
 -- The first answer at some places, the first test of a table that holds, and what is read unless
 -- refused.
-use Rattle.std.proofs.Common.{◌≡◌, ℕ, zero, suc, ◌+◌, ◌-◌, ◌<◌, ◌≤◌, ◌⊎◌, Bool, true, false, cond, List, [], ◌∷◌, ◌++◌, Option, None, Some, refl, subst, inl, inr, arith}
+use Rattle.std.proofs.Common.{◌≡◌, ℕ, zero, suc, ◌+◌, ◌-◌, ◌<◌, ◌≤◌, ◌⊎◌, Bool, true, false, cond, Option, None, Some, refl, subst, inl, inr, arith}
 use Rattle.std.specs.Prelude.{Result, Ok}
 use Rattle.std.specs.Option.{option_or}
 use Rattle.std.proofs.lemmas.Bool.Decides.{eqb_tells}
-use Rattle.pef_words.specs.Refusals.{first_among, first_met, unless}
+use Rattle.pef_words.specs.Refusals.{first_among, unless}
 
 -- a place without an answer is passed over
 pub first_among-next : {F : Type 0} (answer : ℕ → Option F) (i n : ℕ) → i < n → answer i ≡ None → first_among answer i (n - i) ≡ first_among answer (i + 1) (n - (i + 1))

@@ -29,7 +29,7 @@ abbrev pub stopped_at : ℕ → Stop → Stopped
 stopped_at line (stop.Refused what) = ended.Refused what line
 stopped_at line stop.OutOfMemory = ended.OutOfMemory
 
--- the same for a line with a number
+-- lines stopped at the line with this number, as the grammar does
 abbrev pub FailsAt : {A : Type 0} → Stopped → ℕ → Result A LineFault → Type 0
 FailsAt (ended.Refused what line) number wanted = (wanted ≡ Err what) × (line ≡ number)
 FailsAt ended.OutOfMemory number wanted = Unit {0}

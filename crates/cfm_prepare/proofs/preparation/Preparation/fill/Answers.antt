@@ -1,10 +1,10 @@
 -- One more fragment is filled, and the others don't change.
-use Rattle.std.proofs.Common.{◌≡◌, ◌≤◌, ℕ, List, Err, Option, length, refl, sym, ap, subst, ◌∙◌, arith}
+use Rattle.std.proofs.Common.{◌≤◌, ℕ, List, Err, Option, length, refl, sym, ap, subst, ◌∙◌, arith}
 use Rattle.std.proofs.lemmas.List.{drop_all}
 use Rattle.std.proofs.lemmas.Result.{err_from_is_err_and}
 use Rattle.cfm_memory.specs.Extents.{Stand, zeros_at}
 use Rattle.cfm_closure.specs.Stores.{Pair}
-use Rattle.cfm_prepare.specs.Fragments.{Present, first_bad_image, image_refusal_in, named, section_filled}
+use Rattle.cfm_prepare.specs.Fragments.{Present, first_bad_image, image_refusal_in, named}
 use Rattle.cfm_prepare.specs.declared.image_fault.ImageFault.{ImageFault}
 use Rattle.cfm_prepare.specs.Kept.Ready.{FillsUpTo, IsLaidOut, found_in}
 use Rattle.cfm_prepare.proofs.FoundLemmas.{found-here, length-found}

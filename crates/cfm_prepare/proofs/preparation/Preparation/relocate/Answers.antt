@@ -1,5 +1,5 @@
 -- One more fragment is relocated, and the others don't change.
-use Rattle.std.proofs.Common.{◌≡◌, ◌≤◌, ℕ, List, Err, Option, get_or, length, refl, sym, ap, subst, ◌∙◌, arith}
+use Rattle.std.proofs.Common.{◌≤◌, ℕ, List, Err, Option, get_or, length, refl, sym, ap, subst, ◌∙◌, arith}
 use Rattle.std.proofs.lemmas.List.{drop_all}
 use Rattle.std.proofs.lemmas.Result.{err_from_is_err_and}
 use Rattle.cfm_memory.specs.Extents.{AreHeld, Stand}
