@@ -3,21 +3,60 @@ from data.help import HELP
 from data.scripts import EXAMPLE
 from suite import Begins, Case
 
-LINK_HELP = b"""\
-Links a script to a container
+SCRIPT = ("<SCRIPT>", "A script (docs/SCRIPTS.md)")
+# What each command does, and its operands, its options and its example.
+COMMANDS = {
+    "show": ("Prints the memory that the script on the standard input becomes", [], [], "< app.pefscript"),
+    "link": ("Links a script to a container", [SCRIPT, ("<OUT>", "The file that gets the container")], [], "app.pefscript app.pef"),
+    "list": ("Lists what a container declares", [("<FILE>", "A container")], [], "app.pef"),
+    "check": (
+        "Checks the certificates of a script's sections", [SCRIPT, ("<CERT>", "The certificates of its sections, as `distances` prints them")], [],
+        "app.pefscript app.cert",
+    ),
+    "load": (
+        "Prints the memory that containers become",
+        [("<NAME=FILE>...", "Containers, each with the name of its fragment: the first is loaded, the others are its libraries")], [],
+        "app=app.pef Tools=tools.pef",
+    ),
+    "distances": (
+        "Prints certificates that no relocation program without repeats is shorter than that of `link`", [SCRIPT], [], "app.pefscript > app.cert",
+    ),
+    "extract": (
+        "Writes a container of a file to a file of its own",
+        [
+            ("<FILE>", "A file of the classic Mac OS, or any file that has containers in it"),
+            ("<NAME>", "The name of a fragment, or `#` and the number of a container from 0"),
+            ("<OUT>", "The file that gets the container"),
+        ],
+        [], "Calculator.bin '#0' calculator.pef",
+    ),
+    "inspect": (
+        "Prints everything that can be known of files, with all errors, each at its place",
+        [("[FILE]...", "Files of the classic Mac OS, or any files that have containers in them: `-` is the standard input")],
+        [
+            ("    --json", "Print an object of JSON for each file, on a line of its own"),
+            ("    --files0", "Read the paths of the files from the standard input, each ended by a zero byte"),
+            ("    --resources <RESOURCES>", "The file that has the resource fork of the one FILE"),
+        ],
+        "Calculator.bin",
+    ),
+}
+HELP_OPTION = ("-h, --help", "Print help")
 
-Usage: pef link <SCRIPT> <OUT>
 
-Arguments:
-  <SCRIPT>  A script (docs/SCRIPTS.md)
-  <OUT>     The file that gets the container
+def rows(title, entries):
+    """Returns lines of names and what they mean."""
+    width = max((len(name) for name, _ in entries), default=0)
+    return "".join([f"\n{title}:\n", *(f"  {name:{width}}  {means}\n" for name, means in entries)]) if entries else ""
 
-Options:
-  -h, --help  Print help
 
-Example:
-  pef link app.pefscript app.pef
-"""
+def help_for(command):
+    """Returns the help for a command."""
+    about, operands, options, example = COMMANDS[command]
+    words = " ".join(["pef", command, *["[OPTIONS]"] * bool(options), *(name for name, _ in operands)])
+    text = f"{about}\n\nUsage: {words}\n{rows('Arguments', operands)}{rows('Options', [*options, HELP_OPTION])}\nExample:\n  pef {command} {example}\n"
+    return text.encode()
+
 
 UNNAMED = b"""\
 error: each file is written NAME=FILE: the name of its fragment, `=`, and its path
@@ -29,6 +68,9 @@ For more information, try '--help'.
 
 
 ALL_HELP = b"Links, lists and loads PEF containers\n"
+# The help for all commands.
+LISTED = [*((name, about) for name, (about, *_) in COMMANDS.items()), ("help", "Print this message or the help of the given subcommand(s)")]
+WHOLE_HELP = ALL_HELP + f"\nUsage: pef <COMMAND>\n{rows('Commands', LISTED)}{rows('Options', [('    --version', 'Print version'), HELP_OPTION])}".encode()
 
 # How each command is used.
 OPERANDS = {
@@ -91,18 +133,12 @@ USAGE = (
     (["--version", "show"], Begins(b"error: `--version` is used alone\n", (b"\nUsage: pef <COMMAND>\n",))),
     (["--versions"], Begins(b"error: unexpected argument '--versions' found\n", (b"'--version'",))),
     (["-V"], Begins(b"error: unexpected argument '-V' found\n", (b"\nUsage: pef <COMMAND>\n",))),
-    (["--help"], Begins(ALL_HELP, (b"\n  show ",))),
-    (["-h"], Begins(ALL_HELP, (b"\n      --version ",))),
-    (["help"], Begins(ALL_HELP, (b"\n  check ",))),
-    (["help", "distances"], Begins(b"Prints certificates", (b"\nUsage: pef distances <SCRIPT>\n", b"\n\nExample:\n  pef distances app.pefscript > app.cert\n"))),
-    (["help", "link"], LINK_HELP),
+    *(([word], WHOLE_HELP) for word in ("--help", "-h", "help")),
+    *((words, help_for(command)) for command in COMMANDS for words in (["help", command], [command, "--help"])),
     (["help", "71"], b"71 FileUnreadable\n" + HELP[71]),
     (["help", "112"], Begins(b"112 Overlap\n")),
     # no errors, and no numbers
     *((["help", it], Begins(b"error: unrecognized subcommand '%s'\n" % it.encode())) for it in ("100", "071", "71x", "4294967367")),
-    (["link", "--help"], LINK_HELP),
-    (["list", "--help"], Begins(b"Lists what a container declares\n", (b"\nUsage: pef list <FILE>\n",))),
-    (["load", "--help"], Begins(b"Prints the memory that containers become\n", (b"\nUsage: pef load <NAME=FILE>...\n",))),
     # bytes that aren't UTF-8
     ([b"list", b"\xFF"], Begins(b"error: ")),
 )

@@ -34,34 +34,47 @@ def inspected(name, words, beside, printed, status):
 
 CASES = []
 
-# Files beside the file `d/a`, and the path of the resource fork that is reported. The first one is taken, and files without a resource
-# fork are passed over.
-CASES += [
-    inspected(f"beside {' '.join(beside)}", ["d/a"], beside, DATA_REPORT + (b"file " + place + FORK_REPORT if place else b""), 1 if place else 0)
-    for beside, place in (
-        ({"d/._a": FORK}, b"d/._a"),
-        ({"d/__MACOSX/._a": FORK}, b"d/__MACOSX/._a"),
-        ({"d/.AppleDouble/a": FORK}, b"d/.AppleDouble/a"),
-        ({"d/.rsrc/a": FORK}, b"d/.rsrc/a"),
-        ({"d/a.rsrc": FORK}, b"d/a.rsrc"),
-        ({"d/%a": FORK}, b"d/%25a"),
-        ({"d/resource.frk/a": FORK}, b"d/resource.frk/a"),
-        ({"d/.resource/a": FORK}, b"d/.resource/a"),
-        ({"d/.resource/a": FORK, "d/resource.frk/a": FORK}, b"d/resource.frk/a"),
-        ({"d/.resource/a": FORK, "d/%a": FORK}, b"d/%25a"),
-        ({"d/%a": FORK, "d/a.rsrc": FORK}, b"d/a.rsrc"),
-        ({"d/._a": b"text", "d/.rsrc/a": FORK}, b"d/.rsrc/a"),
-        ({"d/._a": b"", "._a": FORK, "a.rsrc": FORK}, b""),
-        ({"__MACOSX/d/._a": FORK}, b"__MACOSX/d/._a"),
-        ({"__MACOSX/d/._a": FORK, "d/.resource/a": FORK}, b"d/.resource/a"),
-        ({"__MACOSX/._a": FORK}, b""),
-    )
-]
-
 
 def report_on(path):
     """Returns the report on a data fork without a container."""
     return b"file %s size 264 format other\n" % path + TOTAL
+
+
+# The places where the resource fork of the file `d/a` is looked for, in their order, as paths and as they are printed.
+PLACES = [
+    ("d/._a", b"d/._a"),
+    ("d/__MACOSX/._a", b"d/__MACOSX/._a"),
+    ("d/.AppleDouble/a", b"d/.AppleDouble/a"),
+    ("d/.rsrc/a", b"d/.rsrc/a"),
+    ("d/a.rsrc", b"d/a.rsrc"),
+    ("d/%a", b"d/%25a"),
+    ("d/resource.frk/a", b"d/resource.frk/a"),
+    ("d/.resource/a", b"d/.resource/a"),
+    ("__MACOSX/d/._a", b"__MACOSX/d/._a"),
+]
+# Each of them is taken before all later ones.
+CASES += [
+    inspected(f"beside {path} and what is looked for later", ["d/a"], {it: FORK for it, _ in PLACES[number:]}, DATA_REPORT + b"file " + printed + FORK_REPORT, 1)
+    for number, (path, printed) in enumerate(PLACES)
+]
+
+# Files beside the file `d/a`, and the path of the resource fork that is reported. Files without a resource fork are passed over.
+CASES += [
+    inspected(f"beside {' '.join(beside)}", ["d/a"], beside, DATA_REPORT + (b"file " + place + FORK_REPORT if place else b""), 1 if place else 0)
+    for beside, place in (
+        ({"d/._a": b"text", "d/.rsrc/a": FORK}, b"d/.rsrc/a"),
+        ({"d/._a": b"", "._a": FORK, "a.rsrc": FORK}, b""),
+        ({"__MACOSX/._a": FORK}, b""),
+    )
+]
+
+# Names and paths that are nearly as long as the system allows.
+LONG, LONG_NAME = "".join("%s/" % (letter * 240) for letter in "abcdefghijklmno"), 240 * "z"
+CASES += [
+    Case(f"the companion of a long path in {folder}", ["inspect", LONG + LONG_NAME], {LONG + LONG_NAME: DATA_FORK, place: FORK}, status=1,
+         stdout=b"".join((report_on((LONG + LONG_NAME).encode()), b"file ", place.encode(), FORK_REPORT.replace(b"d/a", (LONG + LONG_NAME).encode()))))
+    for folder, place in ((".resource", LONG + ".resource/" + LONG_NAME), ("__MACOSX", "__MACOSX/" + LONG + "._" + LONG_NAME))
+]
 
 
 # An archive by macOS has one folder `__MACOSX` at its top, which mirrors the others. The nearest one is taken. None is looked for
@@ -85,8 +98,8 @@ CASES += [
 CASES.append(inspected(
     "two objects", ["--json", "d/a"], {"d/%a": FORK}, status=1,
     printed=Begins(
-        b'{"file":"d/a","size":264,"format":"other","forks":[],"mac":null,"resources":[],"fragments":[],"containers":[],"errors":[],"notes":[]}\n'
-        b'{"file":"d/%25a","data":"d/a","size":273,"format":"resources","forks":[{"kind":"resource","offset":0,"length":273}],'
+        b'{"file":"d/a","file_bytes":"d/a","size":264,"format":"other","forks":[],"mac":null,"resources":[],"fragments":[],"containers":[],"errors":[],"notes":[]}\n'
+        b'{"file":"d/%a","file_bytes":"d/%25a","data":"d/a","data_bytes":"d/a","size":273,"format":"resources","forks":[{"kind":"resource","offset":0,"length":273}],'
         b'"mac":null,"resources":[{"type":"cfrg","id":0,"name":null,"offset":20,"length":176,"attributes":0},'
         b'{"type":"ndrv","id":128,"name":null,"offset":200,"length":3,"attributes":0}],'
         b'"fragments":[{"name":"Calc","offset":0,"size":264,'

@@ -12,10 +12,11 @@ def unread(path, why):
 
 
 def unread_object(path, why):
-    """The same as JSON."""
+    """The same as JSON. A path that isn't UTF-8 is no text."""
+    text = b"null" if b"%" in path else b'"%s"' % path
     return (
-        b'{"file":"%s","size":null,"format":null,"forks":[],"mac":null,"resources":[],"fragments":[],"containers":[],"errors":[{"number":71,"name":"FileUnreadable",'
-        b'"part":null,"row":null,"field":null,"offset":null,"reason":"%s"}],"notes":[]}\n' % (path, why)
+        b'{"file":%s,"file_bytes":"%s","size":null,"format":null,"forks":[],"mac":null,"resources":[],"fragments":[],"containers":[],"errors":[{"number":71,"name":"FileUnreadable",'
+        b'"part":null,"row":null,"field":null,"offset":null,"reason":"%s"}],"notes":[]}\n' % (text, path, why)
     )
 
 
@@ -29,7 +30,7 @@ CASES = [
     Case("a file without bytes", ["inspect", "a"], {"a": b""}, stdout=b"file a size 0 " + OTHER),
     Case(
         "a file without containers as JSON", ["inspect", "--json", "a"], {"a": b"text"},
-        stdout=b'{"file":"a","size":4,"format":"other","forks":[],"mac":null,"resources":[],"fragments":[],"containers":[],"errors":[],"notes":[]}\n',
+        stdout=b'{"file":"a","file_bytes":"a","size":4,"format":"other","forks":[],"mac":null,"resources":[],"fragments":[],"containers":[],"errors":[],"notes":[]}\n',
     ),
     Case(
         "a cut header of AppleDouble", ["inspect", "a"], {"a": CUT, **BESIDE}, status=1,
@@ -37,7 +38,7 @@ CASES = [
     ),
     Case(
         "a version of AppleDouble as JSON", ["inspect", "--json", "a"], {"a": VERSION_3, **BESIDE}, status=1,
-        stdout=b'{"file":"a","size":26,"format":"damaged","forks":[],"mac":null,"resources":[],"fragments":[],"containers":[],"errors":[{"number":83,'
+        stdout=b'{"file":"a","file_bytes":"a","size":26,"format":"damaged","forks":[],"mac":null,"resources":[],"fragments":[],"containers":[],"errors":[{"number":83,'
         b'"name":"BadAppleVersion","part":"fork","row":null,"field":null,"offset":4}],"notes":[]}\n',
     ),
     Case(
@@ -67,6 +68,13 @@ CASES += [
     )
 ]
 
+# A path as text in JSON: a space, a percent sign, a quotation mark, an accent, and a character with two units of UTF-16.
+CASES.append(Case(
+    "a path that is no plain word", ["inspect", "--json", 'a b%"\u00e9\U0001f600'], {'a b%"\u00e9\U0001f600': b""},
+    stdout=b'{"file":"a b%\\"\\u00E9\\uD83D\\uDE00","file_bytes":"a%20b%25\\"%C3%A9%F0%9F%98%80","size":0,"format":"other","forks":[],"mac":null,'
+    b'"resources":[],"fragments":[],"containers":[],"errors":[],"notes":[]}\n',
+))
+
 # Lists of files on the standard input, and what is printed. The last path needs no zero byte, and an empty path is no file.
 CASES += [
     Case(f"the list {listed}", ["inspect", "--files0"], {"a": b"text"}, listed, printed, status=status)
@@ -77,11 +85,17 @@ CASES += [
     )
 ]
 
+# As many paths as a command line may have, and one more.
+MANY = 65_537
+CASES.append(Case(
+    f"a list of {MANY:,} paths", ["inspect", "--files0"], {}, MANY * b"n\0", stdout=MANY * unread(b"n", b"missing"), status=1,
+))
+
 # Paths that can't be read, and why, in text and JSON. The path C3 isn't UTF-8, so it can only come in a list.
 CASES += [
     Case(f"an unread file in {form}: {path}, {why}", ["inspect", *json, "--files0"], {"a": b"text", "d": None, "link": "none", "shut": b""}, path + b"\0",
          stdout=printed(path.replace(b"\xC3", b"%C3"), why.encode()), status=1, closed=("shut",) if path == b"shut" else ())
-    for path, why in ((b"none", "missing"), (b"a/b", "missing"), (b"link", "missing"), (b"d", "folder"), (b"shut", "forbidden"), (b"\xC3", "path"))
+    for path, why in ((b"none", "missing"), (b"a/b", "missing"), (b"link", "missing"), (b"d", "folder"), (b"shut", "forbidden"), (b"\xC3", "path"), (b"/dev/zero", "long"))
     for form, json, printed in (("text", [], unread), ("JSON", ["--json"], unread_object))
 ]
 # The standard input has its own error, without a reason.
@@ -159,13 +173,13 @@ total containers 1 errors 2 notes 0
 ]
 
 # The same in JSON: the file up to its containers, a container up to its sections, a section without a name, and the end of the file.
-JSON_FILE = '{"file":"a","size":%d,"format":"%s","forks":[],"mac":null,"resources":[],"fragments":[],"containers":['
+JSON_FILE = '{"file":"a","file_bytes":"a","size":%d,"format":"%s","forks":[],"mac":null,"resources":[],"fragments":[],"containers":['
 JSON_HEADER = (
     '{"offset":%d,"header":{"architecture":"pwpc","format_version":1,"current":1,"current_text":"-","olddef":0,"olddef_text":"-","oldimp":0,'
     '"oldimp_text":"-","date":0,"date_text":"1904-01-01T00:00:00","sections":3,"instantiated":2,"reserved":0},"sections":['
 )
 JSON_SECTION = (
-    '{"offset":%d,"kind":%d,"share":%d,"align":4,"total":%d,"unpacked":%d,"packed":%d,"default":0,"raw":%d,"name":null}'
+    '{"offset":%d,"kind":%d,"kind_text":"%s","share":%d,"share_text":"%s","align":4,"total":%d,"unpacked":%d,"packed":%d,"default":0,"raw":%d,"name":null}'
 )
 JSON_END = '],"errors":[],"notes":[]}\n'
 CASES += [
@@ -173,13 +187,13 @@ CASES += [
     for name, files, text in (
         ("a damaged container in a file", DAMAGED, (
             JSON_FILE % (266, "other"), JSON_HEADER % 16,
-            JSON_SECTION % (56, 0, 4, 8, 8, 512, 144), ",",
-            JSON_SECTION % (84, 1, 1, 16, 16, 16, 160), ",",
-            JSON_SECTION % (112, 4, 4, 0, 0, 90, 176), "],",
+            JSON_SECTION % (56, 0, "code", 4, "global", 8, 8, 512, 144), ",",
+            JSON_SECTION % (84, 1, "data", 1, "process", 16, 16, 16, 160), ",",
+            JSON_SECTION % (112, 4, "loader", 4, "global", 0, 0, 90, 176), "],",
             '"loader":{"offset":176,"libraries":0,"imports":0,"relocations":1,"programs":68,"strings":70,"hash":72,"power":0,"exports":1},',
             '"libraries":[],"imports":[],"relocations":[{"offset":232,"section":9,"halfwords":1,"first":0,',
             '"instructions":[{"offset":244,"code":"4601","kind":"TVector8","numbers":[2]}]}],',
-            '"exports":[{"offset":256,"name":"go","class":2,"section":1,"value":0}],',
+            '"exports":[{"offset":256,"name":"go","class":2,"class_text":"tvector","section":1,"value":0}],',
             '"entries":{"main":{"offset":176,"section":1,"value":0},"init":null,"term":null},',
             '"errors":[{"number":6,"name":"SectionOutside","part":"section","row":0,"field":20,"offset":76},',
             '{"number":17,"name":"BadRelocSection","part":"relocation","row":0,"field":0,"offset":232}],',
@@ -191,9 +205,9 @@ CASES += [
         )),
         ("a cut loader header", CUT_LOADER, (
             JSON_FILE % (200, "container"), JSON_HEADER % 0,
-            JSON_SECTION % (40, 0, 4, 8, 8, 8, 128), ",",
-            JSON_SECTION % (68, 1, 1, 16, 16, 16, 144), ",",
-            JSON_SECTION % (96, 4, 4, 0, 0, 90, 160), "],",
+            JSON_SECTION % (40, 0, "code", 4, "global", 8, 8, 8, 128), ",",
+            JSON_SECTION % (68, 1, "data", 1, "process", 16, 16, 16, 144), ",",
+            JSON_SECTION % (96, 4, "loader", 4, "global", 0, 0, 90, 160), "],",
             '"loader":null,"libraries":[],"imports":[],"relocations":[],"exports":[],"entries":{"main":null,"init":null,"term":null},',
             '"errors":[{"number":6,"name":"SectionOutside","part":"section","row":2,"field":20,"offset":116},',
             '{"number":11,"name":"LoaderShort","part":"loader","row":0,"field":0,"offset":160}],"notes":[],',
@@ -215,7 +229,7 @@ TEXT_TO_NAME = """\
 file a size %d format container
 00000000 container current 1 olddef 0 oldimp 0 date 0 versions - - - time 1904-01-01T00:00:00 sections 3 instantiated 2
 00000028 section 0 kind 0 share 4 align 4 total 8 unpacked 8 packed 8 default 00000000 name """
-JSON_TO_NAME = JSON_FILE + JSON_HEADER % 0 + (JSON_SECTION % (40, 0, 4, 8, 8, 8, 128)).removesuffix("null}")
+JSON_TO_NAME = JSON_FILE + JSON_HEADER % 0 + (JSON_SECTION % (40, 0, "code", 4, "global", 8, 8, 8, 128)).removesuffix("null}")
 
 # Names with a zero byte after so many letters. Of a long one the first 1,024 are printed, and its length if it is at most 4,096.
 for letters, text, json in (

@@ -80,6 +80,22 @@ CASES.append(Case(
     "link at all limits", ["link", "a", "out"], {"a": AT_ALL_LIMITS}, stdout=linked(LENGTH, LENGTHS), after={"out": Sized(LENGTH)},
 ))
 
+# --- memory ---
+
+# Fixups of one section by all sixteen in turn, so that each of 16,385 rows has 289 labels. As with eight sections, section D is section 1
+# at the start and is never set.
+WIDE = sections(SECTIONS, APART) + of_sections(fixups(IN_TURN_FIXUPS, 8, *(b"section s%d" % section for section in range(SECTIONS))), [0])
+WIDE_LENGTHS = [IN_TURN_FIXUPS + IN_TURN_FIXUPS - 1 - IN_TURN_FIXUPS // SECTIONS] + (SECTIONS - 1) * [0]
+WIDE_SIZE = to_multiple(40 + 28 * (SECTIONS + 1), 16) + to_multiple(56 + 12 + 2 * WIDE_LENGTHS[0], 4) + 4
+# Eight sections of which each has 16,385 rows of 81 labels.
+ROWS_OF_ALL = sections(IN_TURN_SECTIONS, APART) + of_sections(IN_TURN, range(IN_TURN_SECTIONS))
+# `link` keeps a byte for each label, and `distances` keeps certificates with a byte for most labels. With four bytes for each label
+# `link` would take 18 MB more, and `distances` 42 MB more.
+CASES += [
+    Case("link wide labels", ["link", "a", "out"], {"a": WIDE}, stdout=linked(WIDE_SIZE, WIDE_LENGTHS), after={"out": Sized(WIDE_SIZE)}, memory=22_000_000),
+    Case("distances of many labels", ["distances", "a"], {"a": ROWS_OF_ALL}, stdout=Begins(b"pefcert 2\nsection 0\nfixups 16384\nlength %d\n" % IN_TURN_LENGTH), memory=60_000_000),
+]
+
 # --- sixteen sections of the greatest number of fixups ---
 
 TOTAL = 4 * FIXUPS

@@ -112,6 +112,20 @@ def is_reserved(pef, context, address, size):
     return True
 
 
+# So many ranges of 16 bytes with as much between them, and sections that are placed after them: the size, and the address. One fits
+# between the first two ranges, and one only after the last.
+RANGES = 65_537
+BESIDE_RANGES = [(16, 0x10010), (17, 0x10000 + 32 * RANGES - 16)]
+
+
+def beside_ranges(pef):
+    """The addresses of these sections."""
+    them = Placed(pef)
+    for number in range(RANGES):
+        them.context.reserve(0x10000 + 32 * number, 1)
+    return [them.place(size, 0) for size, _ in BESIDE_RANGES]
+
+
 # How many sections, the size and the alignment of each, the address of the first, and the distance between two: 64 MiB and more in one
 # piece and in many, and as much as the sections of a script may have.
 MUCH = [
@@ -140,5 +154,6 @@ def checks(pef):
     for address, size, free in BESIDE_A_PAGE:
         yield f"{size} bytes at {address:X} beside a page", is_reserved(pef, them.context, address, size), free
     yield "a page after them", them.place(1, 0), 0x12000
+    yield f"beside {RANGES:,} ranges", beside_ranges(pef), [address for _, address in BESIDE_RANGES]
     for count, size, align, first, distance in MUCH:
         yield f"{count} sections of {size} bytes", much(pef, count, size, align), ([first + number * distance for number in range(count)], True)

@@ -183,6 +183,10 @@ error 10 NoLoader container at 00000000
 error 22 BadOpcode section 1 packed 9 at 000000D9""")
     case("unknown-kind", "B0 4D", "note 102 UnknownKind section 4 sectionKind at 000000B0")
     case("unknown-share", "79 02, B1 4D", "note 103 UnknownShare section 2 shareKind at 00000079")
+    # 138 (hex) bytes follow the section headers. Sections 1 and 3 have no name.
+    case("name-offset-at-the-end", "44 00000138", "note 121 NameOutside section 1 nameOffset at 00000044")
+    case("name-offset-past-the-end", "44 7FFFFFFF", "note 121 NameOutside section 1 nameOffset at 00000044")
+    case("name-offset-below-minus-one", "7C FFFFFFFE", "note 121 NameOutside section 3 nameOffset at 0000007C")
     case("section-reserved", "43 01, B3 FF", """
 note 101 ReservedNotZero section 0 reservedA at 00000043
 note 101 ReservedNotZero section 4 reservedA at 000000B3""")
@@ -253,6 +257,11 @@ def loader() -> None:
     case("loader-of-55-bytes", "8C 00000037", """
 note 113 UnownedBytes container at 00000137 length 173
 error 11 LoaderShort loader mainSection at 00000100""")
+    # Nothing has 100 to 1E4 then.
+    case("loader-past-the-end", "90 00001000", """
+note 113 UnownedBytes container at 00000100 length 228
+error 6 SectionOutside section 3 containerOffset at 00000090
+error 11 LoaderShort section 3 containerOffset at 00000090""")
     # What follows the import table isn't its relocation headers, and is read as such. Rows 2 to 8 are instructions, names, keys
     # and exports; the two bytes after the first two are 0 in row 7 alone.
     case("relocation-headers-past-the-end", "120 FFFFFFFF", """
@@ -528,11 +537,14 @@ error 13 BadName library 0 nameOffset at 00000138
 error 13 BadName library 1 nameOffset at 00000150""".strip()]), cut=0x170)
     case("cut-in-the-loader-header", "", "\n".join([*sections_outside[3:], """
 error 11 LoaderShort loader mainSection at 00000100""".strip()]), cut=0x137)
-    case("cut-in-section-0", "", "\n".join([*sections_outside, """
-error 11 LoaderShort loader mainSection at 00000100""".strip()]), cut=0xCF)
-    case("cut-in-the-section-headers", "", "\n".join(["""
-error 1 TooShort container at 00000000""".strip(), *sections_outside[:4], """
-error 11 LoaderShort loader mainSection at 00000100""".strip()]), cut=0xB3)
+    # The loader section, which is section 3, begins past the end. So do the names of sections 0 and 2, without the last headers.
+    outside = "error 11 LoaderShort section 3 containerOffset at 00000090"
+    case("cut-in-section-0", "", "\n".join([*sections_outside[:4], outside, sections_outside[4]]), cut=0xCF)
+    case("cut-in-the-section-headers", "", "\n".join([
+        "error 1 TooShort container at 00000000",
+        sections_outside[0], "note 121 NameOutside section 0 nameOffset at 00000028", sections_outside[1],
+        sections_outside[2], "note 121 NameOutside section 2 nameOffset at 00000060", sections_outside[3], outside,
+    ]), cut=0xB3)
     case("container-header-alone", "", """
 error 1 TooShort container at 00000000
 error 10 NoLoader container at 00000000""", cut=0x28)
@@ -849,15 +861,16 @@ SAID = [
 ]
 MEMBER_RESOURCES = [{"type": "cfrg", "id": 0, "name": None, "offset": 0x294, "length": 80, "attributes": 0}]
 MEMBER_FRAGMENTS = [{
-    "name": "Calc", "offset": 0x88, "size": 492, "row": 0, "at": 0x2B4, "architecture": "pwpc", "usage": 1, "where": 1,
+    "name": "Calc", "offset": 0x88, "size": 492, "row": 0, "at": 0x2B4, "architecture": "pwpc", "usage": 1, "usage_text": "application",
+    "where": 1, "where_text": "data",
     "current": 0x01206003, "current_text": "1.2b3", "olddef": 0x01008000, "olddef_text": "1.0", "level": 0, "stack": 65536,
     "directory": 5, "place": 8, "length": 492, "space": 7, "instance": 9, "extensions": 0,
 }]
 
 
 # The bytes of the whole container whose change isn't seen in its report: the code, what a packed block holds, the data and the traceback
-# bytes, which no rule reads; and the offset of a name, if there is no name before and after.
-UNSEEN = [(0x44, 0x48), (0x7C, 0x80), (0x98, 0x9C), (0xC0, 0xD0), (0xD1, 0xD9), (0xE0, 0x100), (0x1E4, 0x1EC)]
+# bytes, which no rule reads.
+UNSEEN = [(0xC0, 0xD0), (0xD1, 0xD9), (0xE0, 0x100), (0x1E4, 0x1EC)]
 
 # Names of each byte but zero, 17 bytes long.
 NAMES = [bytes(range(start, start + 17)) for start in range(1, 256, 17)]
@@ -897,6 +910,33 @@ def shared_by_sections(count: int, length: int) -> bytes:
 def headers_and_zeros(count: int, length: int) -> bytes:
     """So many headers of containers without sections, and zeros, which each of them has to itself."""
     return (b"Joy!peffpwpc" + struct.pack(">IIIIIHHI", 1, 0, 0, 0, 0, 0, 0, 0)) * count + bytes(length)
+
+
+def members_of_sections(count: int, sections: int) -> bytes:
+    """MacBinary with so many members, all at one container with so many sections, whose last one ends past the fork."""
+    empty = struct.pack(">iIIIIIBBBB", -1, 0, 0, 0, 0, 0, 1, 1, 4, 0)
+    last = struct.pack(">iIIIIIBBBB", -1, 0, 0, 0, 8, 40 + 28 * sections, 4, 4, 4, 0)
+    made = b"Joy!peffpwpc" + struct.pack(">IIIIIHHI", 1, 0, 0, 0, 0, sections, 0, 0) + empty * (sections - 1) + last
+    return mac_binary(made, resource_fork(b"cfrg", 0, fragments(*[(b"Same", 1, 0, len(made))] * count)))
+
+
+def relocated_again(count: int) -> bytes:
+    """A container with a section of one word, to which so many relocation headers add by one program."""
+    head = b"Joy!peffpwpc" + struct.pack(">IIIIIHHI", 1, 0, 0, 0, 0, 2, 1, 0)
+    data = struct.pack(">iIIIIIBBBB", -1, 0, 4, 4, 4, 96, 1, 1, 4, 0)
+    start = 56 + 12 * count
+    own = struct.pack(">iIIIIIBBBB", -1, 0, 0, 0, start + 2, 112, 4, 4, 4, 0)
+    tables = struct.pack(">iIiIiIIIIIIIII", -1, 0, -1, 0, -1, 0, 0, 0, count, start, start + 2, start + 2, 0, 0)
+    return head + data + own + bytes(4) + bytes(12) + tables + struct.pack(">HHII", 0, 0, 1, 0) * count + bytes.fromhex("4000")
+
+
+def overlapping(count: int) -> bytes:
+    """A container of so many sections that all have the same four bytes, and of the loader section."""
+    at = 40 + 28 * (count + 1)
+    head = b"Joy!peffpwpc" + struct.pack(">IIIIIHHI", 1, 0, 0, 0, 0, count + 1, count, 0)
+    data = struct.pack(">iIIIIIBBBB", -1, 0, 4, 4, 4, at, 1, 1, 4, 0) * count
+    own = struct.pack(">iIIIIIBBBB", -1, 0, 0, 0, 56, at + 4, 4, 4, 4, 0)
+    return head + data + own + bytes(4) + struct.pack(">iIiIiIIIIIIIII", -1, 0, -1, 0, -1, 0, 0, 0, 0, 56, 56, 56, 0, 0)
 
 
 def reordered(contents: bytes, order: List[int], count: int, instantiated: int) -> bytes:
