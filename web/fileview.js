@@ -20,7 +20,7 @@ const USAGES = ["import library", "application", "drop-in addition", "stub libra
 const LOCATORS = ["in memory", "data fork", "resource"];
 
 /** What the view shows of a report in its own way. */
-const SHOWN = ["file", "data", "size", "format"];
+const SHOWN = ["file", "file_bytes", "data", "data_bytes", "size", "format"];
 
 /** Returns the view of a file that can't be read. */
 export function unreadableView({ path, name, why }) {

@@ -48,19 +48,6 @@ static void test_linked_and_listed(void)
     EXPECT(memcmp(text, lines, LINES) == 0);
 }
 
-/* A part in the middle, the last part, and one after the end. */
-static void test_parts_of_lines(void)
-{
-    uint8_t part[7] = {0};
-    size_t written = 7;
-    EXPECT(pef_list_part(container, LENGTH, 10, part, 7, &written) == PEF_OK && written == 7);
-    EXPECT(memcmp(part, "current", 7) == 0);
-    EXPECT(pef_list_part(container, LENGTH, LINES - 3, part, 7, &written) == PEF_OK && written == 3);
-    EXPECT(memcmp(part, "00\nrent", 7) == 0);
-    EXPECT(pef_list_part(container, LENGTH, LINES + 1, part, 7, &written) == PEF_OK && written == 0);
-    EXPECT(memcmp(part, "00\nrent", 7) == 0);
-}
-
 /* A container is read part by part. */
 static void test_parts(void)
 {
@@ -136,7 +123,6 @@ static void test_refusals(void)
     EXPECT(pef_link(TEXT("# a\nsection a\n"), buffer, 8, &written, &line) == PEF_SCRIPT_BAD_LINE);
     EXPECT(line == 2 && written == 3);
     EXPECT(pef_list(TEXT(script), buffer, 8, &written) == PEF_BAD_TAG && written == 3);
-    EXPECT(pef_list_part(TEXT(script), 0, buffer, 8, &written) == PEF_BAD_TAG && written == 3);
     EXPECT(pef_name(PEF_BAD_TAG, &name) == PEF_OK && is_named(name, "BadTag"));
     EXPECT(pef_name(59, &name) == PEF_NOT_THERE && is_named(name, "BadTag"));
 }
@@ -236,7 +222,6 @@ int main(void)
 {
     link_script();
     test_linked_and_listed();
-    test_parts_of_lines();
     test_parts();
     test_tables();
     test_relocations();

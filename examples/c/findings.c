@@ -100,6 +100,52 @@ static void test_more_notes(void)
     expect(pef_more_notes(NULL, 0, 0, NULL, 0, &count) == PEF_OK && count == 0, "none of no bytes");
 }
 
+static void put(uint8_t *at, size_t length, uint64_t number)
+{
+    while (length-- > 0) {
+        at[length] = (uint8_t)number;
+        number >>= 8;
+    }
+}
+
+/* A section of one word, to which 100,000 relocation headers add by one program, so that each but the first has a note. The section is
+ * at 96, the loader section at 112 with a header of 56 bytes, and the program of one halfword comes last. */
+static void test_many_notes(void)
+{
+    enum { HEADERS = 100000, START = 56 + 12 * HEADERS, LENGTH = 112 + START + 2, LAST = HEADERS - 1 };
+    struct pef_finding found[PLACES];
+    size_t count = 7;
+    uint8_t *bytes = calloc(1, LENGTH);
+    if (bytes == NULL)
+        exit(2);
+    memcpy(bytes, "Joy!peffpwpc\0\0\0\1", 16);
+    put(bytes + 32, 4, 2 << 16 | 1);
+    uint8_t *section = bytes + 40, *own = bytes + 68, *loader = bytes + 112;
+    memset(section, 0xff, 4);
+    put(section + 8, 4, 4);
+    put(section + 12, 4, 4);
+    put(section + 16, 4, 4);
+    put(section + 20, 4, 96);
+    put(section + 24, 4, 0x01010400);
+    memset(own, 0xff, 4);
+    put(own + 16, 4, START + 2);
+    put(own + 20, 4, 112);
+    put(own + 24, 4, 0x04040400);
+    for (size_t entry = 0; entry < 3; entry++)
+        memset(loader + 8 * entry, 0xff, 4);
+    put(loader + 32, 4, HEADERS);
+    put(loader + 36, 4, START);
+    put(loader + 40, 4, START + 2);
+    put(loader + 44, 4, START + 2);
+    for (size_t header = 0; header < HEADERS; header++)
+        put(loader + 56 + 12 * header, 8, 1);
+    put(loader + START, 2, 0x4000);
+    expect(pef_findings(bytes, LENGTH, 0, found, PLACES, &count) == PEF_OK && count == 0, "no finding of 100,000 programs");
+    expect(pef_more_notes(bytes, LENGTH, LAST - 1, found, PLACES, &count) == PEF_OK && count == 1, "a note on each program but the first");
+    expect_finding(&found[0], PEF_NOTE_WORD_RELOCATED_TWICE, PEF_PROGRAM_PART, LAST, 0, 112 + START, 0);
+    free(bytes);
+}
+
 /* A word that is relocated past its section. The section has 8 bytes, and its program, a run of two words (4001), is changed to a run
  * of three (4002): the third is at 8. */
 static void test_detail(void)
@@ -327,6 +373,7 @@ int main(int count, char **words)
         test_by_hand();
         test_out_of_order();
         test_more_notes();
+        test_many_notes();
         test_detail();
     }
     printf("%zu tried, %zu wrong\n", tried, wrong);

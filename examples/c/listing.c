@@ -148,18 +148,23 @@ static size_t write_long_lines(char *text)
     return (size_t)(end - text);
 }
 
-/* A listing of 4,002 lines, at once and in a part. */
+/* A listing of 4,002 lines, at once and in two parts. */
 static void test_long_listing(void)
 {
-    static uint8_t bytes[LONG_LENGTH], buffer[LONG_ROOM], part[100];
+    static uint8_t bytes[LONG_LENGTH], buffer[LONG_ROOM];
     static char text[LONG_ROOM];
+    struct pef_listing listing = PEF_NO_LISTING;
     size_t written = 0;
     write_long_container(bytes);
     size_t length = write_long_lines(text);
     EXPECT(pef_list(bytes, LONG_LENGTH, buffer, LONG_ROOM, &written) == PEF_OK && written == length);
     EXPECT(memcmp(buffer, text, length) == 0);
-    EXPECT(pef_list_part(bytes, LONG_LENGTH, 100000, part, 100, &written) == PEF_OK && written == 100);
-    EXPECT(memcmp(part, text + 100000, 100) == 0);
+    EXPECT(pef_list_open(&listing, bytes, LONG_LENGTH) == PEF_OK);
+    EXPECT(pef_list_next(&listing, buffer, 100000, &written) == PEF_OK && written == 100000);
+    EXPECT(memcmp(buffer, text, 100000) == 0);
+    EXPECT(pef_list_next(&listing, buffer, LONG_ROOM, &written) == PEF_OK && written == length - 100000);
+    EXPECT(memcmp(buffer, text + 100000, length - 100000) == 0);
+    pef_list_free(&listing);
 }
 
 int main(void)

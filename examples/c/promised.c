@@ -52,7 +52,6 @@ static void test_null_slices(void)
     expect(pef_section_name(NULL, 0, 0, &bytes) == PEF_TOO_SHORT, "pef_section_name of null");
     expect(pef_loader(NULL, 0, &loader) == PEF_TOO_SHORT, "pef_loader of null");
     expect(pef_list(NULL, 0, NULL, 0, &count) == PEF_TOO_SHORT && count == 7, "pef_list of null");
-    expect(pef_list_part(NULL, 0, 0, NULL, 0, &count) == PEF_TOO_SHORT && count == 7, "pef_list_part of null");
     expect(pef_container_place(NULL, 0, &place) == PEF_TOO_SHORT && place.part == PEF_NOWHERE, "pef_container_place of null");
     expect(pef_findings(NULL, 0, 0, NULL, 0, &count) == PEF_OK && count == 0, "pef_findings of null to no places");
     expect(pef_findings(NULL, 0, 0, &finding, 1, &count) == PEF_OK && count == 1 && finding.number == PEF_TOO_SHORT, "pef_findings of null");
@@ -83,8 +82,6 @@ static void test_null_slices(void)
     count = 7;
     expect(pef_fixups(container, container_length, 0, 0, NULL, 0, &count) == PEF_OK && count == 0, "pef_fixups to no places");
     expect(pef_export_named(container, container_length, NULL, 0, &number, &export) == PEF_NOT_THERE && number == 7, "an export without a name");
-    count = 7;
-    expect(pef_list_part(container, container_length, 1 << 20, NULL, 0, &count) == PEF_OK && count == 0, "no part of a listing");
 }
 
 /* A fragment whose name and container have no bytes: it is there, and refused as such. */

@@ -769,14 +769,18 @@ static void add_numbered(struct pef_context *context, size_t number, struct pef_
     EXPECT(pef_add(context, TEXT(fragment_names[number]), BYTES(container)) == PEF_OK);
 }
 
-/* The last of as many fragments as a context may have is the first of the closure. */
+/* The last of as many fragments as a context may have is the first of the closure, and the last that is released. */
 static void expect_reversed(struct pef_context *context)
 {
-    size_t order[PEF_MAX_FRAGMENTS], init_order[PEF_MAX_FRAGMENTS], count = 0, init_count = 0;
+    size_t order[PEF_MAX_FRAGMENTS], init_order[PEF_MAX_FRAGMENTS], new_fragments[PEF_MAX_FRAGMENTS], released[PEF_MAX_FRAGMENTS], count = 0;
     EXPECT(pef_fragments(context, 0, order, PEF_MAX_FRAGMENTS, &count) == PEF_OK && count == PEF_MAX_FRAGMENTS);
-    EXPECT(pef_init_order(context, 0, init_order, PEF_MAX_FRAGMENTS, &init_count) == PEF_OK && init_count == PEF_MAX_FRAGMENTS);
-    for (size_t i = 0; i < count; i++)
-        EXPECT(order[i] == PEF_MAX_FRAGMENTS - 1 - i && init_order[i] == order[i]);
+    EXPECT(pef_init_order(context, 0, init_order, PEF_MAX_FRAGMENTS, &count) == PEF_OK && count == PEF_MAX_FRAGMENTS);
+    EXPECT(pef_new_fragments(context, 0, new_fragments, PEF_MAX_FRAGMENTS, &count) == PEF_OK && count == PEF_MAX_FRAGMENTS);
+    EXPECT(pef_released_by(context, 0, released, PEF_MAX_FRAGMENTS, &count) == PEF_OK && count == PEF_MAX_FRAGMENTS);
+    size_t right = 0;
+    for (size_t i = 0; i < PEF_MAX_FRAGMENTS; i++)
+        right += order[i] == PEF_MAX_FRAGMENTS - 1 - i && init_order[i] == order[i] && new_fragments[i] == order[i] && released[i] == i;
+    EXPECT(right == PEF_MAX_FRAGMENTS);
 }
 
 /* The word of each fragment is the address of the next one's. The library of the last is weak and missing, so its word is 0. They lie

@@ -1,5 +1,5 @@
 /*
- * Refuses each growth in turn: refused SCRIPT links the script, lists its container at once, a part of it, and in parts, and
+ * Refuses each growth in turn: refused SCRIPT links the script, lists its container at once and in parts, and
  * finds the notes on that with bytes after it that need memory, once for each growth that these calls ask for. The call has to return PEF_OUT_OF_MEMORY and to write nothing; or, where it can do without the growth, to
  * return what it returns with memory. No block is left behind, and the same call works when it is made again.
  */
@@ -11,7 +11,7 @@
 enum { ROOM = 1 << 20 };
 
 /* One of the calls, the bytes that it takes, and what it writes when it has memory. */
-enum kind { LINK, LIST, PART, PARTS, REPORT, NOTES };
+enum kind { LINK, LIST, PARTS, REPORT, NOTES };
 
 struct trial {
     const char *name;
@@ -71,8 +71,6 @@ static uint32_t call(const struct trial *trial, uint8_t *out, size_t *written)
         return pef_link(trial->bytes, trial->length, out, ROOM, written, &line);
     case LIST:
         return pef_list(trial->bytes, trial->length, out, ROOM, written);
-    case PART:
-        return pef_list_part(trial->bytes, trial->length, 50, out, ROOM, written);
     case PARTS:
         return list_in_parts(trial->bytes, trial->length, out, written);
     case REPORT:
@@ -131,14 +129,13 @@ static bool sweep(struct trial *trial)
 
 int main(int count, char **words)
 {
-    static uint8_t container[ROOM], lines[ROOM], part[ROOM], parts[ROOM], object[ROOM], numbers[ROOM];
+    static uint8_t container[ROOM], lines[ROOM], parts[ROOM], object[ROOM], numbers[ROOM];
     if (count != 2) {
         fputs("usage: refused SCRIPT\n", stderr);
         return 2;
     }
     struct trial link = {.name = "pef_link", .kind = LINK, .wanted = container};
     struct trial list = {.name = "pef_list", .kind = LIST, .wanted = lines};
-    struct trial list_part = {.name = "pef_list_part", .kind = PART, .wanted = part};
     struct trial list_parts = {.name = "pef_list_open, pef_list_next", .kind = PARTS, .wanted = parts};
     struct trial report = {.name = "pef_report_open_container", .kind = REPORT, .wanted = object};
     struct trial notes = {.name = "pef_more_notes", .kind = NOTES, .wanted = numbers};
@@ -152,10 +149,9 @@ int main(int count, char **words)
     free(script);
     list.bytes = container;
     list.length = link.wanted_length;
-    list_part.bytes = list_parts.bytes = report.bytes = container;
-    list_part.length = list_parts.length = report.length = list.length;
-    right = right && sweep(&list) && sweep(&list_part) && sweep(&list_parts) && sweep(&report);
-    right = right && list_part.wanted_length == list.wanted_length - 50 && memcmp(part, lines + 50, list_part.wanted_length) == 0;
+    list_parts.bytes = report.bytes = container;
+    list_parts.length = report.length = list.length;
+    right = right && sweep(&list) && sweep(&list_parts) && sweep(&report);
     right = right && list_parts.wanted_length == list.wanted_length && memcmp(parts, lines, list.wanted_length) == 0;
     memset(container + link.wanted_length, 1, 6);
     notes.bytes = container;

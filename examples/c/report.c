@@ -8,7 +8,7 @@
 enum { ROOM = 4096, UNWRITTEN = 0x7A };
 
 /* The report on no bytes under the name `a b`, as docs/INSPECT.md has it. */
-static const char empty[] = "{\"file\":\"a%20b\",\"size\":0,\"format\":\"other\",\"forks\":[],\"mac\":null,\"resources\":[],\"fragments\":[],\"containers\":[],\"errors\":[],\"notes\":[]}\n";
+static const char empty[] = "{\"file\":\"a b\",\"file_bytes\":\"a%20b\",\"size\":0,\"format\":\"other\",\"forks\":[],\"mac\":null,\"resources\":[],\"fragments\":[],\"containers\":[],\"errors\":[],\"notes\":[]}\n";
 
 /* The object of the bytes `Joy!` as a container. */
 static const char refused[] =

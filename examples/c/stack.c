@@ -95,11 +95,6 @@ static void call_list(void)
     answer = pef_list(it.at, it.length, room, ROOM, &written);
 }
 
-static void call_list_part(void)
-{
-    answer = pef_list_part(it.at, it.length, 100, room, ROOM, &written);
-}
-
 static struct pef_report report;
 
 static void call_report_open(void)
@@ -325,7 +320,6 @@ static void measure_container(const char *what)
 {
     measure("pef_container_place", what, call_container_place);
     measure("pef_list", what, call_list);
-    measure("pef_list_part", what, call_list_part);
     measure_within(REPORT_LIMIT, "pef_report_open", what, call_report_open);
     measure_within(REPORT_LIMIT, "pef_report_open_container", what, call_report_open_container);
     measure("pef_report_next", what, call_report_next);

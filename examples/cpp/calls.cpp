@@ -85,7 +85,7 @@ static void test_parts()
     expect("the rest", rest.find("export answer class 1 section 0") != std::string::npos && moved.rest().empty());
     expect("a listing that was moved", thrown([&] { listing.rest(); }).number == PEF_NOT_OPEN);
     std::string report = pef::report("a file", contents).rest();
-    expect("a report", report.find("{\"file\":\"a%20file\"") == 0 && report.back() == '\n');
+    expect("a report", report.find("{\"file\":\"a file\"") == 0 && report.back() == '\n');
     expect("no listing", thrown([] { pef::listing none(""); }).number == PEF_TOO_SHORT);
 }
 

@@ -358,7 +358,6 @@ _OF_FRAGMENT: List[Any] = _IN_HANDLE + [ctypes.c_uint32, ctypes.c_size_t]
 _CALLS: Dict[str, List[Any]] = {
     "pef_link": _IN + _ROOM + _SIZE * 2,
     "pef_list": _IN + _ROOM + _SIZE,
-    "pef_list_part": _IN + [ctypes.c_size_t] + _ROOM + _SIZE,
     "pef_list_open": _IN_HANDLE + _IN,
     "pef_list_next": _IN_HANDLE + _ROOM + _SIZE,
     "pef_list_free": _IN_HANDLE,
@@ -574,7 +573,7 @@ def report(contents: bytes, path: Text = "") -> Dict[str, Any]:
     members are those of docs/INSPECT.md. `path` is what the report calls the file. Raises PefError: 99.
 
     >>> report(b"Joy!", "a file")["file"]
-    'a%20file'
+    'a file'
     """
     found: Dict[str, Any] = json.loads(_report("pef_report_open", path.encode() if isinstance(path, str) else path, contents))
     return found

@@ -144,6 +144,7 @@ codes! {
     NoteUnownedBytes = PEF_NOTE_UNOWNED_BYTES,
     NoteWordRelocatedTwice = PEF_NOTE_WORD_RELOCATED_TWICE,
     NoteSectionsOutOfOrder = PEF_NOTE_SECTIONS_OUT_OF_ORDER,
+    NoteNameOutside = PEF_NOTE_NAME_OUTSIDE,
     RoomTooSmall = PEF_ROOM_TOO_SMALL,
     NotThere = PEF_NOT_THERE,
     NotOpen = PEF_NOT_OPEN,

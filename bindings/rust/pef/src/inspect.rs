@@ -75,7 +75,7 @@ pub fn findings(bytes: &[u8]) -> Result<Vec<Finding>, Error> {
 ///
 /// let mut text = String::new();
 /// pef::Report::of_file("a file", b"no container")?.read_to_string(&mut text)?;
-/// assert!(text.starts_with(r#"{"file":"a%20file""#) && text.ends_with("}\n"));
+/// assert!(text.starts_with(r#"{"file":"a file""#) && text.ends_with("}\n"));
 /// # }
 /// # Ok::<(), Box<dyn std::error::Error>>(())
 /// ```

@@ -412,6 +412,9 @@ mod native {
     mod contexts {
         use super::*;
 
+        /// Missing libraries, each with its name.
+        type MissingRows<'a> = Vec<(&'a [u8], sys::pef_missing)>;
+
         /// The names that come with an error.
         #[derive(Default)]
         pub(crate) struct Names<'a> {
@@ -475,12 +478,7 @@ mod native {
             }
 
             /// Missing libraries from a number on, at most so many, with their names. An error comes with its names.
-            pub(crate) fn missing(
-                &mut self,
-                name: &[u8],
-                from: usize,
-                most: usize,
-            ) -> Result<Vec<(&'a [u8], sys::pef_missing)>, (Number, Names<'a>)> {
+            pub(crate) fn missing(&mut self, name: &[u8], from: usize, most: usize) -> Result<MissingRows<'a>, (Number, Names<'a>)> {
                 let mut names = sys::PEF_NO_NAMES;
                 let context = &mut self.0;
                 // SAFETY: the context is borrowed alone. The call fills as many places as it counts.

@@ -128,10 +128,10 @@ fn a_report_on_a_file() {
     two.extend([0; 4]);
     two.extend(damaged());
     let said = text(Report::of_file("two of them", &two).unwrap());
-    let begins = format!("{{\"file\":\"two%20of%20them\",\"size\":{}", two.len());
+    let begins = format!("{{\"file\":\"two of them\",\"file_bytes\":\"two%20of%20them\",\"size\":{}", two.len());
     assert!(said.starts_with(&begins) && said.ends_with("}\n"), "{said}");
     assert!(said.contains("\"offset\":128"), "{said}");
-    assert!(text(Report::of_file(b"caf\xE9", b"").unwrap()).starts_with("{\"file\":\"caf%E9\""));
+    assert!(text(Report::of_file(b"caf\xE9", b"").unwrap()).starts_with("{\"file\":null,\"file_bytes\":\"caf%E9\""));
     // a report has what it was made of no more
     let report = {
         let bytes = damaged();
