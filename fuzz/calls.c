@@ -193,11 +193,6 @@ static void list(const uint8_t *bytes, size_t length)
         fails("pef_list, one byte short", (uint32_t)again);
     if (pef_list(bytes, length, room, written, &again) != PEF_OK || again != written || room[written - 1] != '\n')
         fails("pef_list, with room", (uint32_t)again);
-    size_t from = written / 3, left = written - from;
-    uint8_t *part = malloc(left);
-    if (part == NULL || pef_list_part(bytes, length, from, part, left, &again) != PEF_OK || again != left || memcmp(part, room + from, left) != 0)
-        fails("pef_list_part", (uint32_t)again);
-    free(part);
     list_in_parts(bytes, length, room, written);
 }
 
