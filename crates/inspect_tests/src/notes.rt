@@ -68,13 +68,18 @@ const ODDITIES: &[Oddity] = &[
         &[(107, 180, 8)],
         &[(113, 186, 6), (110, 168, 0)],
     ),
-    // The two sections at 219 share three bytes, and the program goes back to the word at 4.
-    (RICH, &[], &[(107, 377, 4)], &[(112, 172, 3), (114, 377, 4)]),
+    // The two sections at 219 share three bytes, and the program goes back to the word at 4. The nameOffset of section 5 is 7FFFFFFF (hex).
+    (
+        RICH,
+        &[],
+        &[(121, 180, 0), (107, 377, 4)],
+        &[(112, 172, 3), (114, 377, 4)],
+    ),
     // The first library's current version, and its reserved bytes.
     (
         RICH,
         &[(301, 1), (313, 7)],
-        &[(104, 297, 0), (101, 314, 0), (107, 377, 4)],
+        &[(121, 180, 0), (104, 297, 0), (101, 314, 0), (107, 377, 4)],
         &[(112, 172, 3), (114, 377, 4)],
     ),
 ];
