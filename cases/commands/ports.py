@@ -28,7 +28,7 @@ CASES = [
     Case("a full device for an error", ["list", "a"], {"a": b"Joy!"}, stderr=OUTPUT_FAILED, status=1, printed_to="/dev/full"),
     # the memory is more than is printed at once
     Case("a full device for a long answer", ["show"], stdin=b"section d data process 4 100000\n", stderr=OUTPUT_FAILED, status=1, printed_to="/dev/full"),
-    # who reads no more needs no explanation
+    # there is no explanation if nobody reads the output
     Case("an answer that nobody reads", ["list", "a"], {"a": containers.EMPTY}, status=1, printed_to="|"),
     Case("an error that nobody reads", ["list", "a"], {"a": b"Joy!"}, status=1, printed_to="|"),
     Case("a report that nobody reads", ["inspect", "a", "a"], {"a": bytes(100)}, status=1, printed_to="|"),

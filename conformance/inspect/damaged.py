@@ -537,7 +537,7 @@ error 13 BadName library 0 nameOffset at 00000138
 error 13 BadName library 1 nameOffset at 00000150""".strip()]), cut=0x170)
     case("cut-in-the-loader-header", "", "\n".join([*sections_outside[3:], """
 error 11 LoaderShort loader mainSection at 00000100""".strip()]), cut=0x137)
-    # The loader section, which is section 3, begins past the end. So do the names of sections 0 and 2, without the last headers.
+    # Section 3 is the loader section, and begins past the end. If the section headers are cut, the names of sections 0 and 2 do, too.
     outside = "error 11 LoaderShort section 3 containerOffset at 00000090"
     case("cut-in-section-0", "", "\n".join([*sections_outside[:4], outside, sections_outside[4]]), cut=0xCF)
     case("cut-in-the-section-headers", "", "\n".join([
