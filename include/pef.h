@@ -177,8 +177,8 @@ struct pef_bytes {
 #define PEF_NOTE_NAME_OUTSIDE 121
 
 /* Only this library returns these: the caller's buffer is too small; there is no such thing; the context isn't open; a
- * fragment is added after a connection was given; the context has as many fragments as it may; the granule is none; the
- * options have another size. */
+ * fragment of an open connection was prepared without the weak library that is added; the context has as many fragments as
+ * it may; the granule is none; the options have another size. */
 #define PEF_ROOM_TOO_SMALL 200
 #define PEF_NOT_THERE 201
 #define PEF_NOT_OPEN 202

@@ -224,8 +224,8 @@ pub const PEF_NOTE_SECTIONS_OUT_OF_ORDER: u32 = 116;
 pub const PEF_NOTE_NAME_OUTSIDE: u32 = 121;
 
 // Only this library returns these: the caller's buffer is too small; there is no such thing; the context isn't open; a
-// fragment is added after a connection was given; the context has as many fragments as it may; the granule is none; the
-// options have another size.
+// fragment of an open connection was prepared without the weak library that is added; the context has as many fragments as
+// it may; the granule is none; the options have another size.
 pub const PEF_ROOM_TOO_SMALL: u32 = 200;
 
 pub const PEF_NOT_THERE: u32 = 201;
