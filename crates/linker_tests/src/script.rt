@@ -136,7 +136,8 @@ fn library<'a>(script: &Script<'a>, l: usize) -> Option<(&'a [u8], u32, u32, Lib
 
 fn import<'a>(script: &Script<'a>, j: usize) -> Option<(&'a [u8], u8, bool, usize)> {
     let import = script.import(j)?;
-    Some((import.name, import.class, import.weak, import.library))
+    let fields = import.fields;
+    Some((import.name, fields.class, fields.weak, import.library))
 }
 
 /// A section: its name, its kind and share, its alignment and how many bytes it has.
@@ -155,7 +156,8 @@ fn section<'a>(script: &Script<'a>, k: usize) -> Option<Header<'a>> {
 
 fn export<'a>(script: &Script<'a>, e: usize) -> Option<(&'a [u8], u8, i32, u32)> {
     let export = script.export(e)?;
-    Some((export.name, export.class, export.section, export.value))
+    let fields = export.fields;
+    Some((export.name, fields.class, fields.section, fields.value))
 }
 
 fn has_tables(script: &Script) -> bool {

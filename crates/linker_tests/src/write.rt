@@ -395,7 +395,7 @@ fn push_contents(rt: &impl Abort, alloc: Global, text: &mut String) {
 /// Returns the first import of a library, and how many it has.
 fn imports_of(rt: &impl Abort, loader: &Loader<'_>, l: usize) -> (u32, u32) {
     let library = loader.library(l).expect(rt, "a library");
-    (library.first, library.count)
+    (library.fields.first, library.fields.count)
 }
 
 /// Returns the library of an import.

@@ -3,7 +3,9 @@
 use Rattle.std.specs.Prelude.{ℕ, ℤ, pos, negsuc, true, ◌==◌, ◌||◌, Bool, List, if◌then◌else◌}
 use Rattle.pef_format.specs.declared.export.ExportValue.{ExportValue}
 use Rattle.pef_format.specs.declared.export.ExportValue.TheVariants.{Absolute, InSection, Reexport}
-use Rattle.pef_format.specs.declared.export.ExportView.{ExportView}
+use Rattle.pef_format.specs.declared.export.ExportFields.{ExportFields}
+use Rattle.pef_format.specs.declared.named.Named.{Named}
+use Rattle.std.specs.Borrow.{Bor}
 
 -- the sections of an absolute value (-2) and of an import that is passed on (-3)
 
@@ -30,6 +32,10 @@ pub record Export : Type 0 where
   pub section : ℤ
   pub value : ℕ
 
+-- a view of an exported symbol
+abbrev pub ExportView : Type 0
+ExportView = Named ExportFields (Bor (List ℕ))
+
 -- the symbol that a view shows
 abbrev pub export_seen : ExportView → Export
-export_seen v = record { name = v.name.now; class = v.class; section = v.section; value = v.value }
+export_seen v = record { name = v.name.now; class = v.fields.class; section = v.fields.section; value = v.fields.value }

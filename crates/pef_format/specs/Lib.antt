@@ -3,3 +3,4 @@ pub mod Symbols
 pub mod Exports
 pub mod Entries
 pub mod Places
+pub mod Rows

@@ -1,7 +1,8 @@
 -- What the codes of symbols and libraries mean (PEFImportedSymbol, PEFExportedSymbol and
 -- PEFImportedLibrary, in PEFBinaryFormat.h; Mac OS Runtime Architectures, "PEF Structure").
 use Rattle.std.specs.Prelude.{ℕ, ◌+◌, ◌==◌, not, bit_and, Bool, List, if◌then◌else◌, nat_le}
-use Rattle.pef_format.specs.declared.import.ImportView.{ImportView}
+use Rattle.std.specs.Borrow.{Bor}
+use Rattle.pef_format.specs.declared.import.Imported.{Imported}
 use Rattle.pef_format.specs.declared.symbol.LibraryOptions.{LibraryOptions}
 use Rattle.pef_format.specs.declared.symbol.SymbolClass.{SymbolClass}
 use Rattle.pef_format.specs.declared.symbol.SymbolClass.TheVariants.{Code, Data, TransitionVector, Toc, Glue}
@@ -48,6 +49,14 @@ pub record Import : Type 0 where
   pub weak : Bool
   pub library : ℕ
 
+-- a view of an imported symbol
+abbrev pub ImportView : Type 0
+ImportView = Imported (Bor (List ℕ)) ℕ
+
 -- the symbol that a view shows
 abbrev pub import_seen : ImportView → Import
-import_seen v = record { name = v.name.now; class = v.class; weak = v.weak; library = v.library }
+import_seen v = record { name = v.name.now; class = v.fields.class; weak = v.fields.weak; library = v.library }
+
+-- an imported symbol with another kind of name
+abbrev pub import_named : {A B L : Type 0} → (A → B) → Imported A L → Imported B L
+import_named f import = record { fields = import.fields; name = f import.name; library = import.library }

@@ -2,6 +2,7 @@ ghost use Rattle.std.specs.Prelude.{◌≡◌};
 ghost use Rattle.pef_format.specs.Exports.{is_export_section, value_of};
 
 use crate::layout::{ABSOLUTE_EXPORT, REEXPORTED_IMPORT};
+use crate::named::Named;
 use crate::symbol::SymbolClass;
 
 /// What an exported symbol is.
@@ -39,10 +40,9 @@ pub fn is_export_section(section: i32) -> bool
     section >= 0 || matches!(section, ABSOLUTE_EXPORT | REEXPORTED_IMPORT)
 }
 
-/// An exported symbol with its name.
+/// The fields of an exported symbol (PEFExportedSymbol), without its name.
 #[derive(Clone, Copy, Debug, PartialEq, Eq)]
-pub struct ExportView<'a> {
-    pub name: &'a [u8],
+pub struct ExportFields {
     /// The low four bits of the class byte.
     pub class: u8,
     /// The section that the value is an offset in, or [`ABSOLUTE_EXPORT`], or
@@ -51,20 +51,23 @@ pub struct ExportView<'a> {
     pub value: u32,
 }
 
-impl<'a> ExportView<'a> {
+impl ExportFields {
     ghost use Rattle.pef_format.specs.Symbols.{class_of};
 
     /// Returns what the symbol means.
     pub fn value(self) -> ExportValue
-        ensures { result ≡ value_of self.entry.section self.entry.value }
+        ensures { result ≡ value_of self.section self.value }
     {
         ExportValue::from_fields(self.section, self.value)
     }
 
     /// Returns what the symbol is an address of.
     pub fn class(self) -> SymbolClass
-        ensures { result ≡ class_of self.entry.class }
+        ensures { result ≡ class_of self.class }
     {
         SymbolClass::from_code(self.class)
     }
 }
+
+/// An exported symbol with its name.
+pub type ExportView<'a> = Named<ExportFields, &'a [u8]>;

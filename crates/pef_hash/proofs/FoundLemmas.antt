@@ -8,8 +8,7 @@ use Rattle.std.proofs.lemmas.Option.{cond_some, same_Some}
 use Rattle.byteorder.specs.Endian.{big_number}
 use Rattle.pef_words.specs.Bytes.{part_of}
 use Rattle.pef_words.specs.Refusals.{◌>>=◌}
-use Rattle.pef_hash.specs.declared.exports.Entry.{Entry}
-use Rattle.pef_hash.specs.Exports.{ExportTable, entry_of, has_table, key_of, name_of, slot_count, slot_first, slot_word_of}
+use Rattle.pef_hash.specs.Exports.{Entry, ExportTable, entry_of, has_table, key_of, name_of, slot_count, slot_first, slot_word_of}
 use Rattle.pef_hash.specs.Regular.{IsCounted, IsRegular, IsSearchable, names_length}
 use Rattle.pef_hash.specs.Word.{hash_word, slot}
 use Rattle.pef_hash.specs.Kept.Searches.{IsCountedBefore, IsEndOf, leads_to}
@@ -41,9 +40,9 @@ part-length bytes from n part is =
     let rest = length-drop from bytes in
     ap length (sym met.1) ∙ length-take-le n (drop from bytes) (omega arith)
 
-entry_part : (e : Option Entry) (strings : List ℕ) (n : ℕ) (name : List ℕ) → (e >>= (λ entry. part_of strings entry.name_offset n)) ≡ Some name → length name ≡ n
+entry_part : (e : Option Entry) (strings : List ℕ) (n : ℕ) (name : List ℕ) → (e >>= (λ entry. part_of strings entry.name n)) ≡ Some name → length name ≡ n
 entry_part None strings n name is = absurd (cc)
-entry_part (Some e) strings n name is = part-length strings e.name_offset n name is
+entry_part (Some e) strings n name is = part-length strings e.name n name is
 
 pub name_short : (t : ExportTable) (i key : ℕ) (name : List ℕ) → key_of t i ≡ Some key → name_of t i ≡ Some name → key < 2 ^ 32 → length name < 2 ^ 16
 unfolding name_of

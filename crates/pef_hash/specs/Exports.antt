@@ -7,7 +7,8 @@ use Rattle.std.specs.Option.{option_map_or}
 use Rattle.std.specs.Str.{bytes_eq}
 use Rattle.pef_words.specs.Bytes.{number_at, part_of, signed_at}
 use Rattle.pef_words.specs.Refusals.{◌>>=◌, first_among}
-use Rattle.pef_hash.specs.declared.exports.Entry.{Entry}
+use Rattle.pef_format.specs.declared.export.ExportFields.{ExportFields}
+use Rattle.pef_format.specs.declared.named.Named.{Named}
 use Rattle.pef_hash.specs.Limits.{index_limit, most_power}
 
 -- a table of 2^power slots, then count keys, then count exports, as its bytes from the first slot on, and the string
@@ -61,6 +62,10 @@ slot_first word = word % index_limit
 unfoldable pub key_of : ExportTable → ℕ → Option ℕ
 key_of t i = if nat_lt i t.count then number_at 4 t.bytes (key_place t.power i) else None
 
+-- an export, and where its name begins
+abbrev pub Entry : Type 0
+Entry = Named ExportFields ℕ
+
 -- an export in its 10 bytes: a class byte, whose low four bits count, with a name offset of 24 bits, then a value and a
 -- section
 unfoldable pub entry_at : List ℕ → ℕ → Option Entry
@@ -68,7 +73,7 @@ entry_at bytes at = do
   word ← number_at 4 bytes at
   value ← number_at 4 bytes (at + 4)
   section ← signed_at w16 2 bytes (at + 8)
-  Some (record { class = word / 2 ^ 24 % 16; name_offset = word % 2 ^ 24; value = value; section = section })
+  Some (record { fields = record { class = word / 2 ^ 24 % 16; section = section; value = value }; name = word % 2 ^ 24 })
 
 -- export i
 unfoldable pub entry_of : ExportTable → ℕ → Option Entry
@@ -79,7 +84,7 @@ unfoldable pub name_of : ExportTable → ℕ → Option (List ℕ)
 name_of t i = do
   key ← key_of t i
   entry ← entry_of t i
-  part_of t.strings entry.name_offset (key / 2 ^ 16)
+  part_of t.strings entry.name (key / 2 ^ 16)
 
 -- whether export i has this name
 abbrev pub is_named : ExportTable → List ℕ → ℕ → Bool

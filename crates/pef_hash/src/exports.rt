@@ -16,23 +16,15 @@ use pef_format::layout::{
     CLASS_COUNT, CLASS_SHIFT, EXPORT_CLASS_AND_NAME_AT, EXPORT_SECTION_AT, EXPORT_SIZE,
     EXPORT_VALUE_AT, KEY_LENGTH_SHIFT, KEY_SIZE, MAX_HASH_TABLE_POWER, MAX_NAME_LENGTH, SLOT_SIZE,
 };
+use pef_format::{ExportFields, Named};
 use pef_words::Cut;
 use std::ops::Range;
 
 /// How many bytes at the ends of two names are compared first.
 const END_LENGTH: usize = 8;
 
-/// An export without its name.
-#[derive(Clone, Copy, Debug, PartialEq, Eq)]
-pub struct Entry {
-    /// The low four bits of the class byte.
-    pub class: u8,
-    /// Where the name begins in the string table.
-    pub name_offset: u32,
-    pub value: u32,
-    /// The section that the value is an offset in. A negative number means that the value isn't an offset.
-    pub section: i32,
-}
+/// An export, and where its name begins in the string table.
+pub type Entry = Named<ExportFields, u32>;
 
 /// A view of an export hash table, which it borrows.
 #[derive(Clone, Copy, Debug)]
@@ -173,7 +165,7 @@ impl<'a> Exports<'a> {
     {
         let length = self.key(i)? >> KEY_LENGTH_SHIFT;
         let entry = self.entry(i)?;
-        let name = Cut::new(self.strings).part(entry.name_offset as usize, length as usize)?;
+        let name = Cut::new(self.strings).part(entry.name as usize, length as usize)?;
         Some(name.bytes())
     }
 
@@ -308,10 +300,12 @@ fn read_entry(table: Cut, at: usize) -> Option<Entry>
     let word = table.u32_at(at + EXPORT_CLASS_AND_NAME_AT)?;
     let value = table.u32_at(at + EXPORT_VALUE_AT)?;
     let section = table.i16_at(at + EXPORT_SECTION_AT)?;
-    Some(Entry {
-        class: (word >> CLASS_SHIFT) as u8 % CLASS_COUNT,
-        name_offset: word % (1 << CLASS_SHIFT),
-        value,
-        section: i32::from(section),
+    Some(Named {
+        fields: ExportFields {
+            class: (word >> CLASS_SHIFT) as u8 % CLASS_COUNT,
+            section: i32::from(section),
+            value,
+        },
+        name: word % (1 << CLASS_SHIFT),
     })
 }

@@ -141,7 +141,7 @@ module _ (limits : Limits) (c : Contained) where
       (λ run. each-found IsNote (λ (w : ℕ × ℕ). note_at c (WordOutsideImage w.1) part.Program k w.0) (word_outside image run) (λ w. refl)))
 
   note-libraries : (l : Loaded) (n : ℕ) → AreNotes (all_among (library_row c l) 0 n)
-  note-libraries l n = each-among IsNote (library_row c l) 0 n (λ i. each-or IsNote (λ v. all_met (library_notes c i v)) (loader.library_versions l i) (λ v. each-met IsNote (library_notes c i v) (refl, (refl, tt))))
+  note-libraries l n = each-among IsNote (library_row c l) 0 n (λ i. each-or IsNote (λ v. all_met (library_notes c i v)) (loader.library_fields l i) (λ v. each-met IsNote (library_notes c i v) (refl, (refl, tt))))
 
   note-relocations : (l : Loaded) (n : ℕ) → AreNotes (all_among (relocation_row c l) 0 n)
   note-relocations l n = each-among IsNote (relocation_row c l) 0 n (λ k. each-or IsNote (λ reserved. all_met (relocation_notes c k reserved)) (loader.relocation_reserved l k) (λ reserved. each-met IsNote (relocation_notes c k reserved) (refl, tt)))

@@ -31,7 +31,7 @@ abbrev pub first_of_container : Result Contained ViewFault → Option Finding
 first_of_container (Ok c) = first_of_loader c (loaded_of c.header.instantiated_section_count c.loader)
 first_of_container (Err f) = Some (view_finding f)
 
--- the error of some bytes that is reported, with its place
+-- the error of some bytes that is reported, and where `inspect` says that it is
 unfoldable pub first_reported : List ℕ → Option Finding
 first_reported bytes = first_of_container (container_of bytes)
 

@@ -24,7 +24,7 @@ use Rattle.pef_loader.specs.Partial as loader
 use Rattle.pef_loader.specs.Partial.{ExportRow, exports_in, rows_in}
 use Rattle.pef_loader.specs.Places.{place_of}
 use Rattle.pef_loader.specs.declared.fault.LoaderFault.{LoaderFault}
-use Rattle.pef_loader.specs.declared.partial.LibraryVersions.{LibraryVersions}
+use Rattle.pef_format.specs.declared.library.LibraryFields.{LibraryFields}
 use Rattle.pef_reloc.specs.Verified.{verified}
 use Rattle.pef_reloc.specs.declared.fault.RelocFault.{RelocFault}
 use Rattle.pef_reloc.specs.declared.fault.RelocFault.TheVariants.{WordOutside}
@@ -91,14 +91,14 @@ section_notes c i s = (is_name_outside c s.name_offset, note_at c NameOutside pa
 abbrev pub section_row : Contained → ℕ → List Finding
 section_row c i = option_map_or (λ s. all_met (section_notes c i s)) (views.header_in c i) []
 
--- the tests of library i
-abbrev pub library_notes : Contained → ℕ → LibraryVersions → List (Bool × Finding)
-library_notes c i v = (nat_lt v.current v.old_imp, note_at c VersionBelowOldest part.Library i 4)
-    ∷ (not (v.reserved == 0), note_at c ReservedNotZero part.Library i 21)
+-- the tests of library i: its fields and its reserved bytes
+abbrev pub library_notes : Contained → ℕ → LibraryFields × ℕ → List (Bool × Finding)
+library_notes c i v = (nat_lt v.0.current v.0.old_imp, note_at c VersionBelowOldest part.Library i 4)
+    ∷ (not (v.1 == 0), note_at c ReservedNotZero part.Library i 21)
     ∷ []
 
 abbrev pub library_row : Contained → Loaded → ℕ → List Finding
-library_row c l i = option_map_or (λ v. all_met (library_notes c i v)) (loader.library_versions l i) []
+library_row c l i = option_map_or (λ v. all_met (library_notes c i v)) (loader.library_fields l i) []
 
 -- an offset is past the end of an instantiated section. The end itself isn't
 abbrev pub is_past : Contained → ℕ → ℕ → Bool
@@ -131,7 +131,7 @@ is_past_value c (Reexport import) = false
 
 -- the test of export i
 abbrev pub export_notes : Contained → ℕ → ExportRow → List (Bool × Finding)
-export_notes c i r = (is_past_value c (value_of r.section r.value), note_at c ExportOutside part.Export i 4) ∷ []
+export_notes c i r = (is_past_value c (value_of r.fields.section r.fields.value), note_at c ExportOutside part.Export i 4) ∷ []
 
 abbrev pub export_row : Contained → Loaded → ℕ → List Finding
 export_row c l i = option_map_or (λ r. all_met (export_notes c i r)) (loader.export_row l i) []

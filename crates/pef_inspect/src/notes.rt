@@ -363,8 +363,8 @@ impl<'c, 'a> Rows for Libraries<'c, 'a> {
 
     fn take_row<S: Findings>(&mut self, i: u32, sink: &mut S) -> Result<(), S::Error> {
         let container = self.container;
-        match self.loader.library_versions(i as usize) {
-            Some(library) => {
+        match self.loader.library_fields(i as usize) {
+            Some((library, reserved)) => {
                 let tests = [
                     (
                         library.old_imp > library.current,
@@ -377,7 +377,7 @@ impl<'c, 'a> Rows for Libraries<'c, 'a> {
                         ),
                     ),
                     (
-                        library.reserved != 0,
+                        reserved != 0,
                         note_at(
                             container,
                             Note::ReservedNotZero,
@@ -494,7 +494,7 @@ fn export_note(
 ) -> Option<Finding>
     ensures { option_to_list result ≡ all_met (export_notes (partly container.now) i (export_seen export.entry)) }
 {
-    let value = ExportValue::from_fields(export.section, export.value);
+    let value = export.fields.value();
     if !is_past_value(container, value) {
         return None;
     }

@@ -10,18 +10,15 @@ use Rattle.pef_words.specs.Findings.{all_met, first_fault, found_in}
 use Rattle.pef_words.specs.Refusals.{◌>>=◌, first_among, first_met, unless}
 use Rattle.pef_words.proofs.Laws.Findings.{first_fault-append, first_fault-met, first_fault-among, result_err-unless}
 use Rattle.pef_words.proofs.Laws.Refusals.{neither}
-use Rattle.pef_hash.specs.Exports.{entry_at, entry_of, export_place, has_table, slot_place}
+use Rattle.pef_hash.specs.Exports.{Entry, entry_at, entry_of, export_place, has_table, slot_place}
 use Rattle.pef_hash.specs.Limits.{most_power}
-use Rattle.pef_hash.specs.declared.exports.Entry.{Entry}
 use Rattle.pef_loader.specs.declared.header.LoaderHeader.{LoaderHeader}
-use Rattle.pef_loader.specs.declared.library.LibraryEntry.{LibraryEntry}
-use Rattle.pef_loader.specs.declared.import.ImportEntry.{ImportEntry}
 use Rattle.pef_loader.specs.declared.reloc.RelocEntry.{RelocEntry}
 use Rattle.pef_loader.specs.declared.fault.LoaderFault.{LoaderFault}
 use Rattle.pef_loader.specs.declared.fault.LoaderFault.TheVariants.{LoaderShort, BadTableOffset, BadExportTable}
 use Rattle.pef_loader.specs.Header.{header_of, import_place, imports_from, library_place, reloc_place, relocs_from, tables_end}
-use Rattle.pef_loader.specs.Library.{library_at, library_refusal, library_tests}
-use Rattle.pef_loader.specs.Import.{import_at, import_refusal, import_tests}
+use Rattle.pef_loader.specs.Library.{LibraryEntry, library_at, library_refusal, library_tests}
+use Rattle.pef_loader.specs.Import.{ImportEntry, import_at, import_refusal, import_tests}
 use Rattle.pef_loader.specs.Reloc.{instructions_of, reloc_at, reloc_in, reloc_refusal, reloc_tests}
 use Rattle.pef_loader.specs.Export.{export_refusal, export_table, export_tests, has_exports}
 use Rattle.pef_loader.specs.Loader.{IsLoader, Loaded, entry_tests, fault_if, judged, loaded_of, reloc_of}

@@ -7,19 +7,16 @@ use Rattle.std.proofs.lemmas.Bool.{not-false, le-leb, leb-false, ltb-false, ltb-
 use Rattle.pef_words.specs.Bytes.{name_at, part_of}
 use Rattle.pef_words.specs.Refusals.{◌>>=◌, first_among, first_met}
 use Rattle.pef_words.proofs.Laws.Refusals.{first_unmet, none_among, some_among, unless_ok}
-use Rattle.pef_hash.specs.Exports.{entry_of, name_of}
+use Rattle.pef_hash.specs.Exports.{Entry, entry_of, name_of}
 use Rattle.pef_hash.proofs.Laws.{IsFirstNamed, export_named-some}
-use Rattle.pef_hash.specs.declared.exports.Entry.{Entry}
 use Rattle.std.specs.Result.{result_unwrap_or}
 use Rattle.pef_loader.specs.declared.header.LoaderHeader.{LoaderHeader}
-use Rattle.pef_loader.specs.declared.library.LibraryEntry.{LibraryEntry}
-use Rattle.pef_loader.specs.declared.import.ImportEntry.{ImportEntry}
 use Rattle.pef_loader.specs.declared.reloc.RelocEntry.{RelocEntry}
 use Rattle.pef_loader.specs.declared.fault.LoaderFault.{LoaderFault}
 use Rattle.pef_loader.specs.declared.fault.LoaderFault.TheVariants.{LoaderShort, BadTableOffset, BadExportTable}
 use Rattle.pef_loader.specs.Header.{header_of, is_entry, tables_end}
-use Rattle.pef_loader.specs.Library.{library_at, library_refusal, library_tests, owns}
-use Rattle.pef_loader.specs.Import.{import_at, import_refusal, import_tests, owner_at, owner_of}
+use Rattle.pef_loader.specs.Library.{LibraryEntry, library_at, library_refusal, library_tests, owns}
+use Rattle.pef_loader.specs.Import.{ImportEntry, import_at, import_refusal, import_tests, owner_at, owner_of}
 use Rattle.pef_loader.specs.Reloc.{instructions_of, reloc_at, reloc_in, reloc_refusal, reloc_tests}
 use Rattle.pef_format.specs.Exports.{Export}
 use Rattle.pef_loader.specs.Export.{export_in, export_refusal, export_table, export_tests, has_exports, has_section}
@@ -80,22 +77,22 @@ some_if (Some x) some = (x, refl)
 -- each library is there, with a name, and its imports are among all
 pub record IsLibrary (l : Loaded) (entry : LibraryEntry) : Type 0 where
   pub name : List ℕ
-  pub named : name_at l.bytes (l.header.strings_offset + entry.name_offset) ≡ Some name
-  pub range : entry.first + entry.count ≤ l.header.import_count
+  pub named : name_at l.bytes (l.header.strings_offset + entry.name) ≡ Some name
+  pub range : entry.fields.first + entry.fields.count ≤ l.header.import_count
 
 pub library_is : (l : Loaded) (i : ℕ) → IsLoader l → i < l.header.library_count → (entry : LibraryEntry) × (library_at l.bytes i ≡ Some entry) × IsLibrary l entry
 unfolding library_tests
 library_is l i ok under =
     let part = refused_not (library_at l.bytes i) (λ e. library_tests l.bytes l.header i e) BadTableOffset (none_among (library_refusal l.bytes l.header) 0 l.header.library_count i (accepted l ok).libraries (omega arith) (omega arith)) in
-    let name = first_unmet (is_none (name_at l.bytes (l.header.strings_offset + part.0.name_offset))) _ _ part.2 in
-    let range = first_unmet (nat_lt l.header.import_count (part.0.first + part.0.count)) _ _ name.1 in
+    let name = first_unmet (is_none (name_at l.bytes (l.header.strings_offset + part.0.name))) _ _ part.2 in
+    let range = first_unmet (nat_lt l.header.import_count (part.0.fields.first + part.0.fields.count)) _ _ name.1 in
     let there = some_if _ name.0 in
     (part.0, part.1, record { name = there.0; named = there.1; range = ltb-false l.header.import_count _ range.0 })
 
 -- each import is there, with a name
 pub record IsImport (l : Loaded) (entry : ImportEntry) : Type 0 where
   pub name : List ℕ
-  pub named : name_at l.bytes (l.header.strings_offset + entry.name_offset) ≡ Some name
+  pub named : name_at l.bytes (l.header.strings_offset + entry.name) ≡ Some name
 
 -- the owner of an import is one of the libraries
 pub owner-below : (bytes : List ℕ) (h : LoaderHeader) (j x : ℕ) → owner_of bytes h j ≡ Some x → x < h.library_count
@@ -109,7 +106,7 @@ pub import_is : (l : Loaded) (j : ℕ) → IsLoader l → j < l.header.import_co
 unfolding import_tests
 import_is l j ok under =
     let part = refused_not (import_at l.bytes l.header j) (λ e. import_tests l.bytes l.header j e) BadTableOffset (none_among (import_refusal l.bytes l.header) 0 l.header.import_count j (accepted l ok).imports (omega arith) (omega arith)) in
-    let name = first_unmet (is_none (name_at l.bytes (l.header.strings_offset + part.0.name_offset))) _ _ part.2 in
+    let name = first_unmet (is_none (name_at l.bytes (l.header.strings_offset + part.0.name))) _ _ part.2 in
     let there = some_if _ name.0 in
     (part.0, part.1, record { name = there.0; named = there.1 })
 
@@ -118,7 +115,7 @@ pub import_owned : (l : Loaded) (j : ℕ) → IsLoader l → j < l.header.import
 unfolding import_tests
 import_owned l j ok under =
     let part = refused_not (import_at l.bytes l.header j) (λ e. import_tests l.bytes l.header j e) BadTableOffset (none_among (import_refusal l.bytes l.header) 0 l.header.import_count j (accepted l ok).imports (omega arith) (omega arith)) in
-    let name = first_unmet (is_none (name_at l.bytes (l.header.strings_offset + part.0.name_offset))) _ _ part.2 in
+    let name = first_unmet (is_none (name_at l.bytes (l.header.strings_offset + part.0.name))) _ _ part.2 in
     some_if _ (first_unmet (is_none (owner_of l.bytes l.header j)) _ _ name.1).0
 
 -- each relocation header is there, of an instantiated section, and its instructions lie inside
@@ -149,7 +146,7 @@ reloc_is l k ok under =
 pub record IsExport (l : Loaded) (entry : Entry) (i : ℕ) : Type 0 where
   pub name : List ℕ
   pub named : name_of (export_table l.bytes l.header) i ≡ Some name
-  pub section : IsTrue (has_section l.header l.sections entry.value entry.section)
+  pub section : IsTrue (has_section l.header l.sections entry.fields.value entry.fields.section)
 
 -- of two tests neither of which is met, the second isn't
 second_unmet : (a b : Bool) → (a || b) ≡ false → b ≡ false
@@ -161,7 +158,7 @@ unfolding export_tests
 export_is l i ok under =
     let part = refused_not (entry_of (export_table l.bytes l.header) i) (λ e. export_tests l.bytes l.header l.sections i e) BadExportTable (none_among (export_refusal l.bytes l.header l.sections) 0 l.header.export_count i (accepted l ok).exports (omega arith) (omega arith)) in
     let name = first_unmet (nat_lt (length l.bytes) l.header.strings_offset || is_none (name_of (export_table l.bytes l.header) i)) _ _ part.2 in
-    let section = first_unmet (not (has_section l.header l.sections part.0.value part.0.section)) _ _ name.1 in
+    let section = first_unmet (not (has_section l.header l.sections part.0.fields.value part.0.fields.section)) _ _ name.1 in
     let there = some_if _ (second_unmet _ _ name.0) in
     (part.0, part.1, record { name = there.0; named = there.1; section = not-false _ section.0 })
 
@@ -233,7 +230,7 @@ unfolding named_of export_of export_in
 named_there l name i ok found =
     let named = export_named-some (export_table l.bytes l.header) name i found in
     let is = export_is l i ok named.below in (
-      record { name = name; class = is.0.class; section = is.0.section; value = is.0.value },
+      record { name = name; class = is.0.fields.class; section = is.0.fields.section; value = is.0.fields.value },
       rw (is.1, named.named) refl,
       refl,
       is.2.section,

@@ -5,14 +5,13 @@ use Rattle.std.specs.Option.{option_map_or}
 use Rattle.std.proofs.lemmas.Bool.Decides.{nat_tests}
 use Rattle.pef_words.proofs.Laws.Refusals.{first_among-at, first_among-none}
 use Rattle.pef_loader.specs.declared.header.LoaderHeader.{LoaderHeader}
-use Rattle.pef_loader.specs.declared.library.LibraryEntry.{LibraryEntry}
 use Rattle.pef_loader.specs.Import.{owner_at, owner_of}
-use Rattle.pef_loader.specs.Library.{library_at, owns}
+use Rattle.pef_loader.specs.Library.{LibraryEntry, library_at, owns}
 use Rattle.pef_loader.specs.Kept.Cursors.{AreWithout}
 use Rattle.pef_loader.specs.Kept.Ranges.{AreInOrder, end_of, first_of}
 
 -- a range's first import isn't past its end
-first-end-of : (e : Option LibraryEntry) → option_map_or (λ e. e.first) e 0 ≤ option_map_or (λ e. e.first + e.count) e 0
+first-end-of : (e : Option LibraryEntry) → option_map_or (λ e. e.fields.first) e 0 ≤ option_map_or (λ e. e.fields.first + e.fields.count) e 0
 first-end-of None = omega arith
 first-end-of (Some e) = omega arith
 
@@ -20,7 +19,7 @@ pub first-end : (bytes : List ℕ) (i : ℕ) → first_of bytes i ≤ end_of byt
 first-end bytes i = first-end-of (library_at bytes i)
 
 -- a library has the imports within its range
-owns-of : (j : ℕ) (e : Option LibraryEntry) → (nat_le (option_map_or (λ e. e.first) e 0) j && nat_lt j (option_map_or (λ e. e.first + e.count) e 0)) ≡ option_map_or (λ e. nat_le e.first j && nat_lt j (e.first + e.count)) e false
+owns-of : (j : ℕ) (e : Option LibraryEntry) → (nat_le (option_map_or (λ e. e.fields.first) e 0) j && nat_lt j (option_map_or (λ e. e.fields.first + e.fields.count) e 0)) ≡ option_map_or (λ e. nat_le e.fields.first j && nat_lt j (e.fields.first + e.fields.count)) e false
 owns-of j None = grind (arith, nat_tests)
 owns-of j (Some e) = refl
 
@@ -28,7 +27,7 @@ pub owns_is : (bytes : List ℕ) (j i : ℕ) → (nat_le (first_of bytes i) j &&
 owns_is bytes j i = owns-of j (library_at bytes i)
 
 -- an import that a range ends before isn't in it
-owns-after-of : (j : ℕ) (e : Option LibraryEntry) → option_map_or (λ e. e.first + e.count) e 0 ≤ j → option_map_or (λ e. nat_le e.first j && nat_lt j (e.first + e.count)) e false ≡ false
+owns-after-of : (j : ℕ) (e : Option LibraryEntry) → option_map_or (λ e. e.fields.first + e.fields.count) e 0 ≤ j → option_map_or (λ e. nat_le e.fields.first j && nat_lt j (e.fields.first + e.fields.count)) e false ≡ false
 owns-after-of j None behind = refl
 owns-after-of j (Some e) behind = grind (arith, nat_tests)
 

@@ -6,9 +6,8 @@ use Rattle.pef_words.specs.Refusals.{◌>>=◌, first_met}
 use Rattle.pef_format.specs.declared.export.ExportValue.{ExportValue}
 use Rattle.pef_format.specs.declared.export.ExportValue.TheVariants.{Absolute, InSection, Reexport}
 use Rattle.pef_format.specs.Exports.{Export, is_export_section, value_of}
-use Rattle.pef_hash.specs.Exports.{ExportTable, entry_of, has_table, name_of}
+use Rattle.pef_hash.specs.Exports.{Entry, ExportTable, entry_of, has_table, name_of}
 use Rattle.pef_hash.specs.Regular.{IsSearchable}
-use Rattle.pef_hash.specs.declared.exports.Entry.{Entry}
 use Rattle.pef_loader.specs.declared.header.LoaderHeader.{LoaderHeader}
 use Rattle.pef_loader.specs.declared.fault.LoaderFault.{LoaderFault}
 use Rattle.pef_loader.specs.declared.fault.LoaderFault.TheVariants.{BadExportTable, BadName, BadExportSection}
@@ -45,7 +44,7 @@ has_section h sections value section = is_export_section section && is_there h s
 -- the tests of export i, in order. A name also passes the end if the strings begin after the end
 unfoldable pub export_tests : List ℕ → LoaderHeader → ℕ → ℕ → Entry → List (Bool × LoaderFault)
 export_tests bytes h sections i e = (nat_lt (length bytes) h.strings_offset || is_none (name_of (export_table bytes h) i), BadName (row.Export i))
-    ∷ (not (has_section h sections e.value e.section), BadExportSection i)
+    ∷ (not (has_section h sections e.fields.value e.fields.section), BadExportSection i)
     ∷ []
 
 -- the refusal of export i
@@ -57,4 +56,4 @@ unfoldable pub export_in : List ℕ → LoaderHeader → ℕ → Option Export
 export_in bytes h i = do
   e ← entry_of (export_table bytes h) i
   name ← name_of (export_table bytes h) i
-  Some (record { name = name; class = e.class; section = e.section; value = e.value })
+  Some (record { name = name; class = e.fields.class; section = e.fields.section; value = e.fields.value })

@@ -6,19 +6,24 @@ use Rattle.pef_words.specs.Bytes.{name_at, number_at}
 use Rattle.pef_format.specs.Symbols.{Import}
 use Rattle.pef_words.specs.Refusals.{◌>>=◌, first_among, first_met}
 use Rattle.pef_loader.specs.declared.header.LoaderHeader.{LoaderHeader}
-use Rattle.pef_loader.specs.declared.import.ImportEntry.{ImportEntry}
+use Rattle.pef_format.specs.declared.import.ImportFields.{ImportFields}
+use Rattle.pef_format.specs.declared.named.Named.{Named}
 use Rattle.pef_loader.specs.declared.fault.LoaderFault.{LoaderFault}
 use Rattle.pef_loader.specs.declared.fault.LoaderFault.TheVariants.{BadTableOffset, BadName, OrphanImport}
 use Rattle.pef_loader.specs.declared.fault.NamedRow.TheVariants as row
 use Rattle.pef_loader.specs.Header.{import_place}
 use Rattle.pef_loader.specs.Library.{owns}
 
+-- an import, and where its name begins among the names
+abbrev pub ImportEntry : Type 0
+ImportEntry = Named ImportFields ℕ
+
 -- import j: a class byte, whose high bit says that the symbol may be missing, and a name offset of 24 bits. None if
 -- it passes the end
 unfoldable pub import_at : List ℕ → LoaderHeader → ℕ → Option ImportEntry
 import_at bytes h j = do
   word ← number_at 4 bytes (import_place h j)
-  Some (record { class = word / 2 ^ 24 % 16; weak = word / 2 ^ 31 == 1; name_offset = word % 2 ^ 24 })
+  Some (record { fields = record { class = word / 2 ^ 24 % 16; weak = word / 2 ^ 31 == 1 }; name = word % 2 ^ 24 })
 
 -- i, if library i has import j
 abbrev pub owner_at : List ℕ → ℕ → ℕ → Option ℕ
@@ -30,7 +35,7 @@ owner_of bytes h j = first_among (owner_at bytes j) 0 h.library_count
 
 -- the tests of import j, in order
 unfoldable pub import_tests : List ℕ → LoaderHeader → ℕ → ImportEntry → List (Bool × LoaderFault)
-import_tests bytes h j e = (is_none (name_at bytes (h.strings_offset + e.name_offset)), BadName (row.Import j))
+import_tests bytes h j e = (is_none (name_at bytes (h.strings_offset + e.name)), BadName (row.Import j))
     ∷ (is_none (owner_of bytes h j), OrphanImport j)
     ∷ []
 
@@ -42,6 +47,6 @@ import_refusal bytes h j = option_map_or (λ e. first_met (import_tests bytes h 
 unfoldable pub import_in : List ℕ → LoaderHeader → ℕ → Option Import
 import_in bytes h j = if nat_lt j h.import_count then (do
   e ← import_at bytes h j
-  name ← name_at bytes (h.strings_offset + e.name_offset)
+  name ← name_at bytes (h.strings_offset + e.name)
   owner ← owner_of bytes h j
-  Some (record { name = name; class = e.class; weak = e.weak; library = owner })) else None
+  Some (record { name = name; class = e.fields.class; weak = e.fields.weak; library = owner })) else None

@@ -4,8 +4,13 @@ use Rattle.std.specs.Option.{option_map_or}
 use Rattle.pef_words.specs.Bytes.{name_at, number_at}
 use Rattle.pef_words.specs.Findings.{all_among, all_met, found_in}
 use Rattle.pef_words.specs.Refusals.{◌>>=◌}
+use Rattle.pef_format.specs.Rows.{named}
+use Rattle.pef_format.specs.Symbols.{import_named}
+use Rattle.pef_format.specs.declared.export.ExportFields.{ExportFields}
+use Rattle.pef_format.specs.declared.import.Imported.{Imported}
+use Rattle.pef_format.specs.declared.library.LibraryFields.{LibraryFields}
+use Rattle.pef_format.specs.declared.named.Named.{Named}
 use Rattle.pef_hash.specs.Exports.{ExportTable, entry_of, name_of}
-use Rattle.pef_loader.specs.declared.partial.LibraryVersions.{LibraryVersions}
 use Rattle.pef_loader.specs.declared.fault.LoaderFault.{LoaderFault}
 use Rattle.pef_loader.specs.declared.fault.LoaderFault.TheVariants.{LoaderShort, BadTableOffset, BadExportTable}
 use Rattle.pef_loader.specs.CutNames.{CutName, cut_name}
@@ -29,89 +34,52 @@ abbrev pub exports_in : Loaded → ℕ
 exports_in l = if has_exports l.bytes l.header then l.header.export_count else 0
 
 -- a library, whose name may be missing
-pub record LibraryRow : Type 0 where
-  pub name : Option (List ℕ)
-  pub current : ℕ
-  pub old_imp : ℕ
-  pub count : ℕ
-  pub first : ℕ
-  pub options : ℕ
+abbrev pub LibraryRow : Type 0
+LibraryRow = Named LibraryFields (Option (List ℕ))
 
 abbrev pub library_row : Loaded → ℕ → Option LibraryRow
-library_row l i = if nat_lt i l.header.library_count then option_map (λ e. record {
-  name = name_at l.bytes (l.header.strings_offset + e.name_offset);
-  current = e.current;
-  old_imp = e.old_imp;
-  count = e.count;
-  first = e.first;
-  options = e.options;
-}) (library_at l.bytes i) else None
+library_row l i = if nat_lt i l.header.library_count then option_map (named (λ at. name_at l.bytes (l.header.strings_offset + at))) (library_at l.bytes i) else None
 
 -- where its name begins
 abbrev pub library_name_at : Loaded → ℕ → Option ℕ
-library_name_at l i = if nat_lt i l.header.library_count then option_map (λ e. l.header.strings_offset + e.name_offset) (library_at l.bytes i) else None
+library_name_at l i = if nat_lt i l.header.library_count then option_map (λ e. l.header.strings_offset + e.name) (library_at l.bytes i) else None
 
 -- a library with at most so many bytes of its name
-pub record CutLibraryRow : Type 0 where
-  pub name : Option CutName
-  pub current : ℕ
-  pub old_imp : ℕ
-  pub count : ℕ
-  pub first : ℕ
-  pub options : ℕ
-
-abbrev pub cut_library : ℕ → LibraryRow → CutLibraryRow
-cut_library most row = record {
-  name = option_map (cut_name most) row.name;
-  current = row.current;
-  old_imp = row.old_imp;
-  count = row.count;
-  first = row.first;
-  options = row.options;
-}
+abbrev pub CutLibraryRow : Type 0
+CutLibraryRow = Named LibraryFields (Option CutName)
 
 abbrev pub cut_library_row : ℕ → Loaded → ℕ → Option CutLibraryRow
-cut_library_row most l i = option_map (cut_library most) (library_row l i)
+cut_library_row most l i = option_map (named (option_map (cut_name most))) (library_row l i)
 
--- the versions of a library, and its reserved bytes: one (reservedA) and two (reservedB), at 21
-abbrev pub library_versions : Loaded → ℕ → Option LibraryVersions
-library_versions l i = if nat_lt i l.header.library_count then (do
+-- the fields of a library, and its reserved bytes: one (reservedA) and two (reservedB), at 21
+abbrev pub library_fields : Loaded → ℕ → Option (LibraryFields × ℕ)
+library_fields l i = if nat_lt i l.header.library_count then (do
   e ← library_at l.bytes i
   high ← number_at 1 l.bytes (library_place i + 21)
   low ← number_at 2 l.bytes (library_place i + 21 + 1)
-  Some (record { current = e.current; old_imp = e.old_imp; reserved = high * 0x10000 + low })) else None
+  Some (e.fields, high * 0x10000 + low)) else None
 
 -- an import, whose name or library may be missing
-pub record ImportRow : Type 0 where
-  pub name : Option (List ℕ)
-  pub class : ℕ
-  pub weak : Bool
-  pub library : Option ℕ
+abbrev pub ImportRow : Type 0
+ImportRow = Imported (Option (List ℕ)) (Option ℕ)
 
 abbrev pub import_row : Loaded → ℕ → Option ImportRow
 import_row l j = if nat_lt j l.header.import_count then option_map (λ e. record {
-  name = name_at l.bytes (l.header.strings_offset + e.name_offset);
-  class = e.class;
-  weak = e.weak;
+  fields = e.fields;
+  name = name_at l.bytes (l.header.strings_offset + e.name);
   library = owner_of l.bytes l.header j;
 }) (import_at l.bytes l.header j) else None
 
 -- where its name begins
 abbrev pub import_name_at : Loaded → ℕ → Option ℕ
-import_name_at l j = if nat_lt j l.header.import_count then option_map (λ e. l.header.strings_offset + e.name_offset) (import_at l.bytes l.header j) else None
+import_name_at l j = if nat_lt j l.header.import_count then option_map (λ e. l.header.strings_offset + e.name) (import_at l.bytes l.header j) else None
 
 -- an import with at most so many bytes of its name
-pub record CutImportRow : Type 0 where
-  pub name : Option CutName
-  pub class : ℕ
-  pub weak : Bool
-  pub library : Option ℕ
-
-abbrev pub cut_import : ℕ → ImportRow → CutImportRow
-cut_import most row = record { name = option_map (cut_name most) row.name; class = row.class; weak = row.weak; library = row.library }
+abbrev pub CutImportRow : Type 0
+CutImportRow = Imported (Option CutName) (Option ℕ)
 
 abbrev pub cut_import_row : ℕ → Loaded → ℕ → Option CutImportRow
-cut_import_row most l j = option_map (cut_import most) (import_row l j)
+cut_import_row most l j = option_map (import_named (option_map (cut_name most))) (import_row l j)
 
 -- a relocation header, whose program may be missing
 pub record RelocationRow : Type 0 where
@@ -133,21 +101,22 @@ abbrev pub relocation_reserved : Loaded → ℕ → Option ℕ
 relocation_reserved l k = if nat_lt k l.header.reloc_count then number_at 2 l.bytes (reloc_place l.header k + 2) else None
 
 -- an export, whose name may be missing
-pub record ExportRow : Type 0 where
-  pub name : Option (List ℕ)
-  pub class : ℕ
-  pub section : ℤ
-  pub value : ℕ
+abbrev pub ExportRow : Type 0
+ExportRow = Named ExportFields (Option (List ℕ))
 
 abbrev pub export_row_of : ExportTable → ℕ → Option ExportRow
-export_row_of t i = option_map (λ e. record { name = name_of t i; class = e.class; section = e.section; value = e.value }) (entry_of t i)
+export_row_of t i = option_map (λ e. record { fields = e.fields; name = name_of t i }) (entry_of t i)
 
 abbrev pub export_row : Loaded → ℕ → Option ExportRow
 export_row l i = if has_exports l.bytes l.header then export_row_of (export_table l.bytes l.header) i else None
 
+-- an export with at most so many bytes of its name
+abbrev pub CutExportRow : Type 0
+CutExportRow = Named ExportFields (Option CutName)
+
 -- where its name begins
 abbrev pub export_name_at : Loaded → ℕ → Option ℕ
-export_name_at l i = if has_exports l.bytes l.header then option_map (λ e. l.header.strings_offset + e.name_offset) (entry_of (export_table l.bytes l.header) i) else None
+export_name_at l i = if has_exports l.bytes l.header then option_map (λ e. l.header.strings_offset + e.name) (entry_of (export_table l.bytes l.header) i) else None
 
 -- the tests of each row that is in the bytes
 abbrev pub tests_of_library : Loaded → ℕ → Option (List (Bool × LoaderFault))

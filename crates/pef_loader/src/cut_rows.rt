@@ -8,26 +8,16 @@ use crate::cut_name::{CutName, Names};
 use crate::import::read_import;
 use crate::library::read_library;
 use crate::partial::{PartialImports, PartialLoader};
+use pef_format::{ExportFields, Imported, LibraryFields, Named};
 
 /// An imported library of a loader section that may be damaged, as [`PartialLibrary`](crate::PartialLibrary), with its name cut.
-#[derive(Clone, Copy, Debug)]
-pub struct CutLibrary<'a> {
-    pub name: Option<CutName<'a>>,
-    pub current: u32,
-    pub old_imp: u32,
-    pub count: u32,
-    pub first: u32,
-    pub options: u8,
-}
+pub type CutLibrary<'a> = Named<LibraryFields, Option<CutName<'a>>>;
 
 /// An imported symbol of a loader section that may be damaged, as [`PartialImport`](crate::PartialImport), with its name cut.
-#[derive(Clone, Copy, Debug)]
-pub struct CutImport<'a> {
-    pub name: Option<CutName<'a>>,
-    pub class: u8,
-    pub weak: bool,
-    pub library: Option<usize>,
-}
+pub type CutImport<'a> = Imported<Option<CutName<'a>>, Option<usize>>;
+
+/// An exported symbol of a loader section that may be damaged, as [`PartialExport`](crate::PartialExport), with its name cut.
+pub type CutExport<'a> = Named<ExportFields, Option<CutName<'a>>>;
 
 impl<'a> PartialLoader<'a> {
     ghost use Rattle.pef_loader.specs.PartialViews.{cut_import_seen, cut_library_seen, names_bytes, partly_loaded};
@@ -41,14 +31,10 @@ impl<'a> PartialLoader<'a> {
             return None;
         }
         let library = read_library(self.tables.cut, i)?;
-        let at = self.tables.header.name(library.name_offset);
-        Some(CutLibrary {
+        let at = self.tables.header.name(library.name);
+        Some(Named {
+            fields: library.fields,
             name: self.names().name(at, most),
-            current: library.current,
-            old_imp: library.old_imp,
-            count: library.count,
-            first: library.first,
-            options: library.options,
         })
     }
 
@@ -62,11 +48,10 @@ impl<'a> PartialLoader<'a> {
             return None;
         }
         let import = read_import(self.tables, j)?;
-        let at = self.tables.header.name(import.name_offset);
-        Some(CutImport {
+        let at = self.tables.header.name(import.name);
+        Some(Imported {
+            fields: import.fields,
             name: self.names().name(at, most),
-            class: import.class,
-            weak: import.weak,
             library,
         })
     }

@@ -88,7 +88,12 @@ pub(crate) fn tests_of_export(
             },
         ),
         (
-            !has_section(export.section, export.value, tables.header, sections),
+            !has_section(
+                export.fields.section,
+                export.fields.value,
+                tables.header,
+                sections,
+            ),
             LoaderFault::BadExportSection { export: i },
         ),
     ])

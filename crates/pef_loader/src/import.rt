@@ -6,15 +6,11 @@ ghost use Rattle.pef_loader.specs.Import.{import_at, import_refusal, import_test
 use crate::fault::{LoaderFault, NamedRow, refused_by};
 use crate::header::LoaderTables;
 use pef_format::layout::{CLASS_COUNT, CLASS_SHIFT, WEAK_IMPORT};
+use pef_format::{ImportFields, Named};
 use pef_words::{Cut, first_met};
 
-/// An imported symbol, field by field (PEFImportedSymbol).
-#[derive(Clone, Copy)]
-pub(crate) struct ImportEntry {
-    pub class: u8,
-    pub weak: bool,
-    pub name_offset: u32,
-}
+/// An imported symbol (PEFImportedSymbol), and where its name begins among the names.
+pub(crate) type ImportEntry = Named<ImportFields, u32>;
 
 /// Reads import `j`, or returns `None` if it passes the end.
 #[tactic(auto, unfolding(crate::specs::Import::import_at))]
@@ -24,10 +20,12 @@ pub(crate) fn read_import(tables: LoaderTables<'_>, j: usize) -> Option<ImportEn
 {
     let word = tables.cut.u32_at(tables.header.import(j))?;
     let class_byte = (word >> CLASS_SHIFT) as u8;
-    Some(ImportEntry {
-        class: class_byte % CLASS_COUNT,
-        weak: class_byte & WEAK_IMPORT != 0,
-        name_offset: word % (1 << CLASS_SHIFT),
+    Some(Named {
+        fields: ImportFields {
+            class: class_byte % CLASS_COUNT,
+            weak: class_byte & WEAK_IMPORT != 0,
+        },
+        name: word % (1 << CLASS_SHIFT),
     })
 }
 
@@ -63,7 +61,7 @@ pub(crate) fn import_table(
     let import = read_import(tables, j as usize)?;
     Some([
         (
-            tables.header.name(import.name_offset) >= names_end,
+            tables.header.name(import.name) >= names_end,
             LoaderFault::BadName {
                 of: NamedRow::Import(j),
             },

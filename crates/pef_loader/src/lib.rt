@@ -27,14 +27,13 @@ mod tables;
 mod theorems;
 
 pub use cut_name::{CutName, Names};
-pub use cut_rows::{CutImport, CutLibrary};
+pub use cut_rows::{CutExport, CutImport, CutLibrary};
 pub use fault::{LoaderFault, NamedRow};
 pub use header::{EntryKind, LoaderHeader};
 pub use import_reader::ImportReader;
 pub use library::LibraryView;
 pub use partial::{
-    LibraryVersions, PartialExport, PartialImport, PartialImports, PartialLibrary, PartialLoader,
-    PartialRelocation,
+    PartialExport, PartialImport, PartialImports, PartialLibrary, PartialLoader, PartialRelocation,
 };
 pub use place::{partial_place, place_in};
 pub use program_fault::ProgramFault;

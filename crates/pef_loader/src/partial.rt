@@ -11,7 +11,7 @@ ghost use Rattle.pef_loader.specs.Import.{owner_of};
 ghost use Rattle.pef_loader.specs.Kept.Names.{NamesEndAt};
 ghost use Rattle.pef_loader.specs.Kept.Ranges.{AreInOrder};
 ghost use Rattle.pef_loader.specs.Loader.{entry_tests};
-ghost use Rattle.pef_loader.specs.Partial.{export_row, export_row_of, export_name_at, export_table_tests, exports_in, import_name_at, import_row, library_name_at, library_row, library_versions, partial_of, relocation_reserved, relocation_row, rows_in, table_tests, tests_of_export, tests_of_import, tests_of_library, tests_of_relocation};
+ghost use Rattle.pef_loader.specs.Partial.{export_row, export_row_of, export_name_at, export_table_tests, exports_in, import_name_at, import_row, library_name_at, library_fields, library_row, partial_of, relocation_reserved, relocation_row, rows_in, table_tests, tests_of_export, tests_of_import, tests_of_library, tests_of_relocation};
 ghost use Rattle.pef_loader.specs.Places.{place_of};
 
 use crate::export::{has_exports, tests_of_export, unsearched_exports};
@@ -28,7 +28,7 @@ use crate::tables::entry_table;
 use pef_format::layout::{
     IMPORT_SIZE, LIBRARY_RESERVED_AT, LIBRARY_SIZE, RELOCATION_HEADER_SIZE, RELOCATION_RESERVED_AT,
 };
-use pef_format::{Part, Place};
+use pef_format::{ExportFields, Imported, LibraryFields, Named, Part, Place};
 use pef_hash::Exports;
 use pef_views::PartialContainer;
 use pef_words::Cut;
@@ -51,43 +51,12 @@ pub struct PartialLoader<'a> {
     ghost tabled: { ForSome exports (λ e. table_of e ≡ export_table tables.cut.bytes.now tables.header) },
 }
 
-/// An imported library of a loader section that may be damaged.
-#[derive(Clone, Copy, Debug)]
-pub struct PartialLibrary<'a> {
-    /// `None` if no zero byte follows in the loader section.
-    pub name: Option<&'a [u8]>,
-    /// The version of the library's definition that the fragment was linked with.
-    pub current: u32,
-    /// The oldest version of an implementation that the fragment accepts.
-    pub old_imp: u32,
-    /// How many imports the library has.
-    pub count: u32,
-    /// The first of them.
-    pub first: u32,
-    /// The options byte.
-    pub options: u8,
-}
+/// An imported library of a loader section that may be damaged. Its name is `None` if no zero byte follows in the loader section.
+pub type PartialLibrary<'a> = Named<LibraryFields, Option<&'a [u8]>>;
 
-/// The versions of an imported library, and its reserved bytes as a number.
-#[derive(Clone, Copy, Debug, PartialEq, Eq)]
-pub struct LibraryVersions {
-    pub current: u32,
-    pub old_imp: u32,
-    pub reserved: u32,
-}
-
-/// An imported symbol of a loader section that may be damaged.
-#[derive(Clone, Copy, Debug)]
-pub struct PartialImport<'a> {
-    /// `None` if no zero byte follows in the loader section.
-    pub name: Option<&'a [u8]>,
-    /// The low four bits of the class byte.
-    pub class: u8,
-    /// Whether the symbol may be missing.
-    pub weak: bool,
-    /// The number of the first library whose range has it, if there is one.
-    pub library: Option<usize>,
-}
+/// An imported symbol of a loader section that may be damaged. Its name is `None` if no zero byte follows in the loader section. Its
+/// library is the first whose range has it, if there is one.
+pub type PartialImport<'a> = Imported<Option<&'a [u8]>, Option<usize>>;
 
 /// A relocation header of a loader section that may be damaged.
 #[derive(Clone, Copy, Debug)]
@@ -102,17 +71,8 @@ pub struct PartialRelocation<'a> {
     pub program: Option<&'a [u8]>,
 }
 
-/// An exported symbol of a loader section that may be damaged.
-#[derive(Clone, Copy, Debug)]
-pub struct PartialExport<'a> {
-    /// `None` if it extends past the end of the loader section.
-    pub name: Option<&'a [u8]>,
-    /// The low four bits of the class byte.
-    pub class: u8,
-    /// The section that the value is an offset in, or a negative number.
-    pub section: i32,
-    pub value: u32,
-}
+/// An exported symbol of a loader section that may be damaged. Its name is `None` if it extends past the end of the loader section.
+pub type PartialExport<'a> = Named<ExportFields, Option<&'a [u8]>>;
 
 impl<'a> PartialLoader<'a> {
     ghost use Rattle.pef_loader.specs.PartialViews.{export_seen, import_seen, library_seen, partly_loaded, relocation_seen};
@@ -258,16 +218,12 @@ impl<'a> PartialLoader<'a> {
             return None;
         }
         let library = read_library(self.tables.cut, i)?;
-        Some(PartialLibrary {
+        Some(Named {
+            fields: library.fields,
             name: self
                 .tables
                 .cut
-                .name_at(self.tables.header.name(library.name_offset)),
-            current: library.current,
-            old_imp: library.old_imp,
-            count: library.count,
-            first: library.first,
-            options: library.options,
+                .name_at(self.tables.header.name(library.name)),
         })
     }
 
@@ -279,13 +235,13 @@ impl<'a> PartialLoader<'a> {
             return None;
         }
         let library = read_library(self.tables.cut, i)?;
-        Some(self.tables.header.name(library.name_offset))
+        Some(self.tables.header.name(library.name))
     }
 
-    /// Returns the versions and the reserved bytes of library `i`, or `None` past the last one that is in the loader section.
-    /// No name is looked for.
-    pub fn library_versions(&self, i: usize) -> Option<LibraryVersions>
-        ensures { result ≡ library_versions (partly_loaded self.now) i }
+    /// Returns the fields of library `i` and its reserved bytes as a number, or `None` past the last one that is in the loader
+    /// section. No name is looked for.
+    pub fn library_fields(&self, i: usize) -> Option<(LibraryFields, u32)>
+        ensures { result ≡ library_fields (partly_loaded self.now) i }
     {
         if i >= self.tables.header.library_count as usize {
             return None;
@@ -294,11 +250,7 @@ impl<'a> PartialLoader<'a> {
         let at = library_place(i) + LIBRARY_RESERVED_AT;
         let high = u32::from(self.tables.cut.u8_at(at)?);
         let low = u32::from(self.tables.cut.u16_at(at + 1)?);
-        Some(LibraryVersions {
-            current: library.current,
-            old_imp: library.old_imp,
-            reserved: high * 0x10000 + low,
-        })
+        Some((library.fields, high * 0x10000 + low))
     }
 
     /// Returns import `j`, whose library was looked for, or `None` past the last one that is in the loader section.
@@ -310,13 +262,12 @@ impl<'a> PartialLoader<'a> {
             return None;
         }
         let import = read_import(self.tables, j)?;
-        Some(PartialImport {
+        Some(Imported {
+            fields: import.fields,
             name: self
                 .tables
                 .cut
-                .name_at(self.tables.header.name(import.name_offset)),
-            class: import.class,
-            weak: import.weak,
+                .name_at(self.tables.header.name(import.name)),
             library,
         })
     }
@@ -329,7 +280,7 @@ impl<'a> PartialLoader<'a> {
             return None;
         }
         let import = read_import(self.tables, j)?;
-        Some(self.tables.header.name(import.name_offset))
+        Some(self.tables.header.name(import.name))
     }
 
     /// Returns relocation header `k`, or `None` past the last one that is in the loader section.
@@ -364,9 +315,20 @@ impl<'a> PartialLoader<'a> {
         ensures { option_map export_seen result ≡ export_row (partly_loaded self.now) i }
     {
         match self.exports {
-            Some(exports) => PartialExport::read(exports, i),
+            Some(exports) => PartialLoader::export_at(exports, i),
             None => None,
         }
+    }
+
+    /// Returns export `i`, or `None` past the last one.
+    fn export_at(exports: Exports<'a>, i: usize) -> Option<PartialExport<'a>>
+        ensures { option_map export_seen result ≡ export_row_of (table_of exports.entry) i }
+    {
+        let export = exports.entry(i)?;
+        Some(Named {
+            fields: export.fields,
+            name: exports.name(i),
+        })
     }
 
     /// Returns where the name of export `i` begins in the loader section, or `None` past the last one and if the export table
@@ -377,7 +339,7 @@ impl<'a> PartialLoader<'a> {
         match self.exports {
             Some(exports) => {
                 let entry = exports.entry(i)?;
-                Some(self.tables.header.name(entry.name_offset))
+                Some(self.tables.header.name(entry.name))
             }
             None => None,
         }
@@ -474,23 +436,6 @@ fn exports_in<'a>(tables: LoaderTables<'a>) -> Option<Exports<'a>>
         return None;
     }
     Some(unsearched_exports(tables))
-}
-
-impl<'a> PartialExport<'a> {
-    ghost use Rattle.pef_loader.specs.PartialViews.{export_seen};
-
-    /// Returns export `i`, or `None` past the last one.
-    fn read(exports: Exports<'a>, i: usize) -> Option<PartialExport<'a>>
-        ensures { option_map export_seen result ≡ export_row_of (table_of exports.entry) i }
-    {
-        let export = exports.entry(i)?;
-        Some(PartialExport {
-            name: exports.name(i),
-            class: export.class,
-            section: export.section,
-            value: export.value,
-        })
-    }
 }
 
 /// Reads many imports of a loader section that may be damaged, each with its library, and allocates nothing. It is fastest

@@ -28,7 +28,7 @@ pub(crate) fn imports_of(cut: Cut<'_>, i: usize) -> Range<usize>
 #[tactic(auto, unfolding(crate::specs::Library::library_at, pef_words::specs::Bytes::number_at))]
 fn read_range(cut: Cut<'_>, i: usize) -> Option<(u32, u32)>
     requires { i < 2 ^ 32 }
-    ensures { result ≡ option_map (λ e. (e.first, e.count)) (library_at cut.entry.bytes.now i) }
+    ensures { result ≡ option_map (λ e. (e.fields.first, e.fields.count)) (library_at cut.entry.bytes.now i) }
 {
     let at = library_place(i);
     // If the last field is there, all are.

@@ -22,7 +22,7 @@ use crate::library::{LibraryView, read_library, test_library};
 use crate::names::names_end;
 use crate::ranges::are_in_order;
 use crate::reloc::{instructions, read_reloc, test_reloc};
-use pef_format::{EntryPoint, ExportView, ImportView};
+use pef_format::{EntryPoint, ExportView, ImportView, Imported, Named};
 use pef_hash::Exports;
 use pef_views::Container;
 use pef_words::{Cut, first_met};
@@ -141,22 +141,18 @@ impl<'a> Loader<'a> {
     pub fn library(&self, i: usize) -> Option<LibraryView<'a>>
         ensures value { option_map library_seen result ≡ library_of (loaded self.now) i }
         ensures there { IsSome result ↔ (i < (loaded self.now).header.library_count) }
-        ensures range { IfSome result (λ v. v.first + v.count ≤ (loaded self.now).header.import_count) }
+        ensures range { IfSome result (λ v. v.fields.first + v.fields.count ≤ (loaded self.now).header.import_count) }
     {
         if i >= self.tables.header.library_count as usize {
             return None;
         }
         let library = read_library(self.tables.cut, i)?;
-        Some(LibraryView {
+        Some(Named {
+            fields: library.fields,
             name: self
                 .tables
                 .cut
-                .name_at(self.tables.header.name(library.name_offset))?,
-            current: library.current,
-            old_imp: library.old_imp,
-            count: library.count,
-            first: library.first,
-            options: library.options,
+                .name_at(self.tables.header.name(library.name))?,
         })
     }
 
@@ -188,13 +184,12 @@ impl<'a> Loader<'a> {
         ensures library { IfSome result (λ v. v.library < (loaded self.now).header.library_count) }
     {
         let import = read_import(self.tables, j)?;
-        Some(ImportView {
+        Some(Imported {
+            fields: import.fields,
             name: self
                 .tables
                 .cut
-                .name_at(self.tables.header.name(import.name_offset))?,
-            class: import.class,
-            weak: import.weak,
+                .name_at(self.tables.header.name(import.name))?,
             library,
         })
     }
@@ -219,18 +214,16 @@ impl<'a> Loader<'a> {
     pub fn export(&self, i: usize) -> Option<ExportView<'a>>
         ensures value { option_map export_seen result ≡ export_of (loaded self.now) i }
         ensures there { IsSome result ↔ (i < (loaded self.now).header.export_count) }
-        ensures section { IfSome result (λ v. IsTrue (has_section (loaded self.now).header (loaded self.now).sections v.value v.section)) }
+        ensures section { IfSome result (λ v. IsTrue (has_section (loaded self.now).header (loaded self.now).sections v.fields.value v.fields.section)) }
     {
         if i >= self.tables.header.export_count as usize {
             return None;
         }
         let export = self.exports.entry(i)?;
         let name = self.exports.name(i)?;
-        Some(ExportView {
+        Some(Named {
+            fields: export.fields,
             name,
-            class: export.class,
-            section: export.section,
-            value: export.value,
         })
     }
 

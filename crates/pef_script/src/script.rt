@@ -9,7 +9,7 @@ ghost use Rattle.pef_script.specs.Views.{header_in, library_in};
 ghost use Rattle.pef_script.specs.WellFormed.{ScriptHolds};
 
 use crate::{ExportData, LibraryView, Parts, SectionHeader, Versions};
-use pef_format::{ExportView, ImportView};
+use pef_format::{ExportFields, ExportView, ImportFields, ImportView, Imported, Named};
 use pef_reloc::Fixup;
 use std::marker::Model;
 
@@ -128,10 +128,13 @@ impl<'a> Script<'a> {
         ensures { option_map import_seen result ≡ slice_get self.now.imports j }
     {
         let (name, import) = self.parts.imports.get_index(j)?;
-        Some(ImportView {
-            name,
+        let fields = ImportFields {
             class: import.class.code(),
             weak: import.weak,
+        };
+        Some(Imported {
+            fields,
+            name,
             library: import.library as usize,
         })
     }
@@ -170,10 +173,10 @@ impl<'a> Script<'a> {
 fn export_view(name: &[u8], export: ExportData) -> ExportView<'_>
     ensures { export_seen result ≡ export_of (name.entry, export) }
 {
-    ExportView {
-        name,
+    let fields = ExportFields {
         class: export.class.code(),
         section: export.section,
         value: export.value,
-    }
+    };
+    Named { fields, name }
 }

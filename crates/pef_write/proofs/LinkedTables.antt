@@ -54,10 +54,10 @@ import_names-end n (i ∷ imports) each =
     All-cons (λ (i : Import). All (λ b. b ≢ 0) i.name) i imports (no_zero i.name each.0.name.bytes) (import_names-end n imports each.1)
 
 -- a library's imports are there
-ranges_inside : (imports : List Import) (k : ℕ) (libraries : List DescribedLibrary) → All (λ (l : Library). l.first + l.count ≤ length imports) (libraries_from imports k libraries)
+ranges_inside : (imports : List Import) (k : ℕ) (libraries : List DescribedLibrary) → All (λ (l : Library). l.fields.first + l.fields.count ≤ length imports) (libraries_from imports k libraries)
 ranges_inside imports k [] = λ i d under. absurd (omega arith)
 ranges_inside imports k (l ∷ libraries) =
-    All-cons (λ (l : Library). l.first + l.count ≤ length imports) (linked_library imports k l) (libraries_from imports (k + 1) libraries)
+    All-cons (λ (l : Library). l.fields.first + l.fields.count ≤ length imports) (linked_library imports k l) (libraries_from imports (k + 1) libraries)
     (omega (arith, before-next k imports, count_by-le-length (λ (i : Import). nat_lt i.library (k + 1)) imports)) (ranges_inside imports (k + 1) libraries)
 
 -- imports are in the order of their libraries, so the first library that has an import is its own
@@ -69,13 +69,13 @@ owner-from imports k at (l ∷ libraries) zero j x rises there own under =
     let high = counted-found (k + 1) imports j x rises there (omega (arith, own)) in
     let e : at ≡ at + 0 = omega arith in
     let own_library = linked_library imports k l in
-    rw (le-leb own_library.first j low, lt-ltb j (own_library.first + own_library.count) (omega (arith, high, before-next k imports))) (ap Some e)
+    rw (le-leb own_library.fields.first j low, lt-ltb j (own_library.fields.first + own_library.fields.count) (omega (arith, high, before-next k imports))) (ap Some e)
 owner-from imports k at (l ∷ libraries) (suc i) j x rises there own under =
     let low = past-found k imports j x rises there (omega (arith, own)) in
     let past = past-found (k + 1) imports j x rises there (omega (arith, own)) in
     let other = linked_library imports k l in
     let e : at + 1 + i ≡ at + suc i = omega arith in
-    rw (le-leb other.first j low, le-ltb j (other.first + other.count) (omega (arith, past, before-next k imports)))
+    rw (le-leb other.fields.first j low, le-ltb j (other.fields.first + other.fields.count) (omega (arith, past, before-next k imports)))
     (owner-from imports (k + 1) (at + 1) libraries i j x rises there (omega (arith, own)) (omega (arith, under)) ∙ ap Some e)
 
 own_library : (s : DescribedScript) (j : ℕ) (i : Import) → ScriptHolds s → slice_get s.imports j ≡ Some i → first_owner (libraries_from s.imports 0 s.libraries) j ≡ Some i.library

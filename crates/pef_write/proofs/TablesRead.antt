@@ -67,7 +67,7 @@ all-at : {X : Type 0} (P : X → Type 0) (xs : List X) (i : ℕ) (x : X) → ((k
 all-at P xs i x each there = subst P (get_or_from_slice_get xs i x x there) (each i x (slice_get_within xs i x there))
 
 -- a library's fields in their place
-library-if : (bytes : List ℕ) (i at : ℕ) (l : Library) → Reads bytes (56 + 24 * i) 0 (library_entry at l) → library_at bytes i ≡ Some (record { name_offset = at; old_imp = l.old_imp; current = l.current; count = l.count; first = l.first; options = l.options })
+library-if : (bytes : List ℕ) (i at : ℕ) (l : Library) → Reads bytes (56 + 24 * i) 0 (library_entry at l) → library_at bytes i ≡ Some (record { fields = l.fields; name = at })
 unfolding library_at
 library-if bytes i at l r0 =
     let here : 56 + 24 * i + 0 ≡ 56 + 24 * i = omega arith in
@@ -92,7 +92,7 @@ word-offset : (byte at : ℕ) → at < 2 ^ 24 → (byte * 2 ^ 24 + at) % 2 ^ 24 
 word-offset byte at low = omega arith
 
 import-if : (t : LoaderTables) (bytes : List ℕ) (j at : ℕ) (i : Import) → i.class < 16 → at < 2 ^ 24 → Reads bytes (56 + 24 * length t.libraries + 4 * j) 0 (import_entry at i)
-    → import_at bytes (header_read t) j ≡ Some (record { class = i.class; weak = i.weak; name_offset = at })
+    → import_at bytes (header_read t) j ≡ Some (record { fields = record { class = i.class; weak = i.weak }; name = at })
 unfolding import_at
 import-if t bytes j at i class small r =
     let here : 56 + 24 * length t.libraries + 4 * j + 0 ≡ 56 + 24 * length t.libraries + 4 * j = omega arith in
@@ -100,7 +100,7 @@ import-if t bytes j at i class small r =
     rw (first, word-class i.weak i.class at class small, word-weak i.weak i.class at class small, word-offset (class_byte i.weak i.class) at small) refl
 
 export-if : (bytes : List ℕ) (from at : ℕ) (e : Export) → e.class < 16 → at < 2 ^ 24 → cast_signed w16 (cast_unsigned w16 e.section) ≡ e.section → Reads bytes from 0 (export_entry at e)
-    → entry_at bytes from ≡ Some (record { class = e.class; name_offset = at; value = e.value; section = e.section })
+    → entry_at bytes from ≡ Some (record { fields = record { class = e.class; section = e.section; value = e.value }; name = at })
 unfolding entry_at
 export-if bytes from at e class small section r0 =
     let here : from + 0 ≡ from = omega arith in
@@ -118,7 +118,7 @@ reloc-if t bytes i at p r =
 
 module _ (sections : ℕ) (t : LoaderTables) (a : AreTables sections t) where
   -- library i is read, and so is its name
-  library_there : (i : ℕ) (l : Library) → slice_get t.libraries i ≡ Some l → library_at (written_loader t) i ≡ Some (record { name_offset = library_name_at t i; old_imp = l.old_imp; current = l.current; count = l.count; first = l.first; options = l.options })
+  library_there : (i : ℕ) (l : Library) → slice_get t.libraries i ≡ Some l → library_at (written_loader t) i ≡ Some (record { fields = l.fields; name = library_name_at t i })
   library_there i l there =
       let e : 0 + library_name_at t i ≡ library_name_at t i = omega arith in
       let P : ℕ → Type 0 = λ at. Reads (written_loader t) (56 + 24 * i) 0 (library_entry at l) in
@@ -132,11 +132,11 @@ module _ (sections : ℕ) (t : LoaderTables) (a : AreTables sections t) where
   library_accepted : (i : ℕ) (l : Library) → slice_get t.libraries i ≡ Some l → library_refusal (written_loader t) (header_read t) i ≡ None
   unfolding library_tests
   library_accepted i l there =
-      let range = all-at (λ l. l.first + l.count ≤ length t.imports) t.libraries i l a.ranges there in
-      rw (library_there i l there, library_named i l there, le-ltb (length t.imports) (l.first + l.count) range) refl
+      let range = all-at (λ l. l.fields.first + l.fields.count ≤ length t.imports) t.libraries i l a.ranges there in
+      rw (library_there i l there, library_named i l there, le-ltb (length t.imports) (l.fields.first + l.fields.count) range) refl
 
   -- import j is read, and so are its name and its first library
-  import_there : (j : ℕ) (i : Import) → slice_get t.imports j ≡ Some i → import_at (written_loader t) (header_read t) j ≡ Some (record { class = i.class; weak = i.weak; name_offset = import_name_at t j })
+  import_there : (j : ℕ) (i : Import) → slice_get t.imports j ≡ Some i → import_at (written_loader t) (header_read t) j ≡ Some (record { fields = record { class = i.class; weak = i.weak }; name = import_name_at t j })
   import_there j i there =
       let strings = a.fit.strings in
       let inside = stands-inside (strings_of t) (import_name i) (import_name_at t j) (import-name-stands t j i there) in
@@ -196,7 +196,7 @@ module _ (sections : ℕ) (t : LoaderTables) (a : AreTables sections t) where
       rw (lt-ltb k (length t.exports) (slice_get_within t.exports k e there), table-after t, number) refl
 
   export_there : (k : ℕ) (e : Export) → slice_get t.exports k ≡ Some e
-      → entry_of (export_table (written_loader t) (header_read t)) k ≡ Some (record { class = e.class; name_offset = export_name_at t k; value = e.value; section = e.section })
+      → entry_of (export_table (written_loader t) (header_read t)) k ≡ Some (record { fields = record { class = e.class; section = e.section; value = e.value }; name = export_name_at t k })
   unfolding entry_of
   export_there k e there =
       let slots = a.slots in

@@ -58,12 +58,14 @@ ArePlanned (s ∷ sections) (c ∷ certificates) = Planned s.fixups c.program ×
 -- library k with its imports: how many it has, and how many the libraries before it have
 abbrev pub linked_library : List Import → ℕ → DescribedLibrary → Library
 linked_library imports k l = record {
+  fields = record {
+    current = l.current;
+    old_imp = l.old_imp;
+    count = count_by (λ i. i.library == k) imports;
+    first = count_by (λ i. nat_lt i.library k) imports;
+    options = options_code l.options;
+  };
   name = l.name;
-  current = l.current;
-  old_imp = l.old_imp;
-  count = count_by (λ i. i.library == k) imports;
-  first = count_by (λ i. nat_lt i.library k) imports;
-  options = options_code l.options;
 }
 
 -- libraries, numbered from a number on

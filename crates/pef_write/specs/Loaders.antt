@@ -93,11 +93,11 @@ header_fields t = Word (entry_section t.main)
 -- the fields of an imported library whose name is at an offset (PEFImportedLibrary)
 abbrev pub library_entry : ℕ → Library → List Field
 library_entry at l = Word at
-    ∷ Word l.old_imp
-    ∷ Word l.current
-    ∷ Word l.count
-    ∷ Word l.first
-    ∷ Byte l.options
+    ∷ Word l.fields.old_imp
+    ∷ Word l.fields.current
+    ∷ Word l.fields.count
+    ∷ Word l.fields.first
+    ∷ Byte l.fields.options
     ∷ Byte 0
     ∷ Half 0
     ∷ []

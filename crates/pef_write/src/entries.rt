@@ -125,7 +125,7 @@ pub(crate) fn put_exports(
 /// Returns the fields of a library whose name is at `at`, with `count` imports from number `first` on
 /// (PEFImportedLibrary).
 fn library_entry(library: LibraryView<'_>, at: u32, first: u32, count: u32) -> [Field; 8]
-    ensures { result ≡ library_entry at (record { name = library.entry.name.now; current = library.entry.current; old_imp = library.entry.old_imp; count = count; first = first; options = options_code library.entry.options }) }
+    ensures { result ≡ library_entry at (record { fields = record { current = library.entry.current; old_imp = library.entry.old_imp; count = count; first = first; options = options_code library.entry.options }; name = library.entry.name.now }) }
 {
     [
         Field::Word(at),
@@ -141,11 +141,11 @@ fn library_entry(library: LibraryView<'_>, at: u32, first: u32, count: u32) -> [
 
 /// Returns the fields of an import whose name is at `at` (PEFImportedSymbol).
 fn import_entry(import: ImportView<'_>, at: u32) -> [Field; 1]
-    requires class { import.class < 16 }
+    requires class { import.fields.class < 16 }
     requires at { at < 2 ^ 24 }
     ensures { result ≡ import_entry at (import_seen import.entry) }
 {
-    let class = class_byte(import.weak, import.class);
+    let class = class_byte(import.fields.weak, import.fields.class);
     [Field::Word(u32::from(class) * CLASS_UNIT + at)]
 }
 
@@ -159,14 +159,14 @@ fn class_byte(weak: bool, class: u8) -> u8
 
 /// Returns the fields of an export whose name is at `at` (PEFExportedSymbol).
 fn export_entry(export: ExportView<'_>, at: u32) -> [Field; 3]
-    requires class { export.class < 16 }
-    requires section { FitsSigned w16 export.section }
+    requires class { export.fields.class < 16 }
+    requires section { FitsSigned w16 export.fields.section }
     requires at { at < 2 ^ 24 }
     ensures { result ≡ export_entry at (export_seen export.entry) }
 {
     [
-        Field::Word(u32::from(export.class) * CLASS_UNIT + at),
-        Field::Word(export.value),
-        Field::Half((export.section as i16).cast_unsigned()),
+        Field::Word(u32::from(export.fields.class) * CLASS_UNIT + at),
+        Field::Word(export.fields.value),
+        Field::Half((export.fields.section as i16).cast_unsigned()),
     ]
 }

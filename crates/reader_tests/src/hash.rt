@@ -1,3 +1,4 @@
+use pef_format::{ExportFields, Named};
 use pef_hash::{Entry, Exports, Table, build, hash_word, power_for, slot};
 use std::process::Abort;
 
@@ -116,17 +117,21 @@ const TWO: &[u8] = &[
 ];
 
 const ENTRIES: &[Entry] = &[
-    Entry {
-        class: 0,
-        name_offset: 0,
-        value: 5,
-        section: 0,
+    Named {
+        fields: ExportFields {
+            class: 0,
+            section: 0,
+            value: 5,
+        },
+        name: 0,
     },
-    Entry {
-        class: 2,
-        name_offset: 1,
-        value: 6,
-        section: -2,
+    Named {
+        fields: ExportFields {
+            class: 2,
+            section: -2,
+            value: 6,
+        },
+        name: 1,
     },
 ];
 

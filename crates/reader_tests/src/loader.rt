@@ -127,7 +127,7 @@ type Exported<'a> = (&'a [u8], SymbolClass, ExportValue);
 
 fn exported<'a>(loader: &Loader<'a>, i: usize) -> Option<Exported<'a>> {
     let export = loader.export(i)?;
-    Some((export.name, export.class(), export.value()))
+    Some((export.name, export.fields.class(), export.fields.value()))
 }
 
 /// Where `main`, `init` and `term` are: a section and an offset.
@@ -198,13 +198,14 @@ const NEEDED: &[Needed<'static>] = &[(b"L", 5, 3, 2, 0, WEAK), (b"M", 1, 0, 2, 1
 
 fn needed<'a>(loader: &Loader<'a>, i: usize) -> Option<Needed<'a>> {
     let library = loader.library(i)?;
+    let fields = library.fields;
     Some((
         library.name,
-        library.current,
-        library.old_imp,
-        library.count,
-        library.first,
-        library.options(),
+        fields.current,
+        fields.old_imp,
+        fields.count,
+        fields.first,
+        fields.options(),
     ))
 }
 
@@ -228,7 +229,8 @@ const IMPORTED: &[Imported<'static>] = &[
 
 fn imported<'a>(import: Option<ImportView<'a>>) -> Option<Imported<'a>> {
     let import = import?;
-    Some((import.name, import.class(), import.weak, import.library))
+    let fields = import.fields;
+    Some((import.name, fields.class(), fields.weak, import.library))
 }
 
 /// Tests an import, or that there is none.

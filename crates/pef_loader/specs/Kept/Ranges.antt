@@ -5,10 +5,10 @@ use Rattle.pef_loader.specs.Library.{library_at}
 
 -- where the imports of library i begin and end
 abbrev pub first_of : List ℕ → ℕ → ℕ
-first_of bytes i = option_map_or (λ e. e.first) (library_at bytes i) 0
+first_of bytes i = option_map_or (λ e. e.fields.first) (library_at bytes i) 0
 
 abbrev pub end_of : List ℕ → ℕ → ℕ
-end_of bytes i = option_map_or (λ e. e.first + e.count) (library_at bytes i) 0
+end_of bytes i = option_map_or (λ e. e.fields.first + e.fields.count) (library_at bytes i) 0
 
 -- the ranges of the n libraries follow one another
 abbrev pub AreInOrder : List ℕ → ℕ → Type 0

@@ -46,11 +46,11 @@ abbrev pub EntryFits : Option (ℕ × ℕ) → Type 0
 EntryFits entry = (entry_section entry < 2 ^ 32) × (entry_offset entry < 2 ^ 32)
 
 pub record LibraryFits (l : Library) : Type 0 where
-  pub old_imp : l.old_imp < 2 ^ 32
-  pub current : l.current < 2 ^ 32
-  pub count : l.count < 2 ^ 32
-  pub first : l.first < 2 ^ 32
-  pub options : l.options < 2 ^ 8
+  pub old_imp : l.fields.old_imp < 2 ^ 32
+  pub current : l.fields.current < 2 ^ 32
+  pub count : l.fields.count < 2 ^ 32
+  pub first : l.fields.first < 2 ^ 32
+  pub options : l.fields.options < 2 ^ 8
 
 -- a program is of whole halfwords
 pub record ProgramFits (p : ProgramEntry) : Type 0 where

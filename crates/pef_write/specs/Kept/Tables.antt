@@ -40,7 +40,7 @@ HasNoZero name = All (λ b. b ≢ 0) name
 
 -- import j is one of a library's
 abbrev pub has_import : ℕ → Library → Bool
-has_import j l = nat_le l.first j && nat_lt j (l.first + l.count)
+has_import j l = nat_le l.fields.first j && nat_lt j (l.fields.first + l.fields.count)
 
 -- the first of some libraries that has import j
 abbrev pub first_owner : List Library → ℕ → Option ℕ
@@ -86,7 +86,7 @@ pub record AreTables (sections : ℕ) (t : LoaderTables) : Type 0 where
   pub term : IfSome t.term (λ entry. entry.0 < sections)
   pub library_names : All (λ l. HasNoZero l.name) t.libraries
   pub import_names : All (λ i. HasNoZero i.name) t.imports
-  pub ranges : All (λ l. l.first + l.count ≤ length t.imports) t.libraries
+  pub ranges : All (λ l. l.fields.first + l.fields.count ≤ length t.imports) t.libraries
   pub owned : (j : ℕ) (i : Import) → slice_get t.imports j ≡ Some i → first_owner t.libraries j ≡ Some i.library
   pub programs : All (λ p. p.section < sections) t.programs
   pub power : t.power ≤ 30

@@ -48,7 +48,7 @@ libraries-preserved c =
     let first : c.libraries.first ≡ count_before k imports = c.libraries.invariant.first in
     let count : c.imports_end-end.result - c.libraries.first ≡ count_of k imports = omega (arith, c.imports_end-end.ensures, first, before-next k imports) in
     let size = longer c.libraries.strings.items l.name c.put_entry.new.strings.items c.in_ok-put_entry.ensures.name in
-    let read : ℕ → ℕ → Library = λ count first. record { name = l.name; current = l.current; old_imp = l.old_imp; count = count; first = first; options = options_code l.options } in
+    let read : ℕ → ℕ → Library = λ count first. record { fields = record { current = l.current; old_imp = l.old_imp; count = count; first = first; options = options_code l.options }; name = l.name } in
     let at : c.len-at.result ≡ length c.libraries.strings.items = omega arith in
     let fields = c.library_entry-entry.ensures ∙ ap (λ n. library_entry n (read (c.imports_end-end.result - c.libraries.first) c.libraries.first)) at ∙ ap₂ (λ n m. library_entry (length c.libraries.strings.items) (read n m)) count first in
     let entry = c.in_ok-put_entry.ensures.entry ∙ ap (λ f. c.libraries.out.items ++ spelled f) fields in

@@ -1,8 +1,6 @@
 -- Each export below their count is there, with a name.
-use Rattle.std.proofs.Common.{◌≡◌, ◌∙◌, ap, refl, sym, arith}
-use Rattle.std.specs.Int.{w32, cast_signed, cast_unsigned}
+use Rattle.std.proofs.Common.{◌∙◌, ap, refl, sym, arith}
 use Rattle.std.proofs.lemmas.Bool.{le-ltb}
-use Rattle.std.proofs.lemmas.Int.{to_z-of_z}
 use Rattle.pef_hash.specs.Exports.{entry_of, name_of}
 use Rattle.pef_loader.specs.Export.{export_in}
 use Rattle.pef_loader.specs.Loader.{export_of}
@@ -29,13 +27,11 @@ returns-in_err-name-clause-there c =
 pub returns-clause-value : goal.returns-clause-value
 unfolding export_of export_in
 returns-clause-value c =
-    let cast : cast_signed w32 (cast_unsigned w32 c.in_ok-export.export.section) ≡ c.in_ok-export.export.section = search (arith, to_z-of_z) in
     let at = c.in_ok-export.ensures ∙ ap (λ t. entry_of t c.args.i) c.args.self.now.tabled in
     let named = c.in_ok-name.ensures ∙ ap (λ t. name_of t c.args.i) c.args.self.now.tabled in
-    rw (← at, ← named, cast) refl
+    rw (← at, ← named) refl
 
 pub returns-clause-section : goal.returns-clause-section
 returns-clause-section c =
-    let cast : cast_signed w32 (cast_unsigned w32 c.in_ok-export.export.section) ≡ c.in_ok-export.export.section = search (arith, to_z-of_z) in
     let at = c.in_ok-export.ensures ∙ ap (λ t. entry_of t c.args.i) c.args.self.now.tabled in
-    rw cast (export_with (loaded c.args.self.now) c.args.i c.in_ok-export.export c.args.self.now.accepted (omega arith) (sym at)).section
+    (export_with (loaded c.args.self.now) c.args.i c.in_ok-export.export c.args.self.now.accepted (omega arith) (sym at)).section
