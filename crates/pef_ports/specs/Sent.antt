@@ -2,6 +2,10 @@
 use Rattle.std.specs.Prelude.{◌≡◌, ℕ, List, ◌++◌, Result, Ok, Err}
 use Rattle.pef_ports.specs.Ports.{Stream, Grows, LastFailed, NoneFailed}
 
+-- the bytes that wait in a page
+pub record Waiting : Type 0 where
+  pub items : List ℕ
+
 -- of the bytes in the page and then the text, a prefix was written and this is left
 pub record Prints (before after : Stream) (page left text : List ℕ) : Type 0 where
   pub sent : List ℕ

@@ -4,5 +4,5 @@ use Rattle.pef_ports.proofs.page.send.Goals as goal
 
 pub returns : goal.returns
 returns g c =
-    let same : c.try_extend_from_slice.new.self.items ≡ c.args.page.now.items = search rules in
+    let same : c.append.new.self.items ≡ c.args.page.now.items = search rules in
     rw (← same) c.send_anew.ensures

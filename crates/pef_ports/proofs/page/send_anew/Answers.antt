@@ -10,5 +10,5 @@ pub returns : goal.returns
 returns g c =
     let out = c.in_ok-flush.ensures.sends in
     let empty : c.flush.new.page.items ≡ [] = search rules in
-    let empty_still : c.try_extend_from_slice.new.self.items ≡ c.flush.new.page.items = search rules in
+    let empty_still : c.append.new.self.items ≡ c.flush.new.page.items = search rules in
     rw (empty_still) (Sends-then c.write_all.result (g.W.Sink.stream c.write_all.new.out) c.flush.new.page.items c.args.bytes.now out (rw (empty) c.write_all.ensures))
