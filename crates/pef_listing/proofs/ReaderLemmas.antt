@@ -1,7 +1,5 @@
 -- Lines that are printed one after the other.
 use Rattle.std.proofs.Common.{◌≡◌, ℕ, ◌+◌, ◌-◌, ◌<◌, ◌≤◌, Bool, true, false, if◌then◌else◌, List, [], ◌∷◌, ◌++◌, Some, Result, Ok, Err, IsErrAnd, OnOk, OnErr, length, refl, sym, ap, ◌∙◌, subst, append_assoc, length-append, length-drop, ◌⊎◌, inl, inr, drop, min, take, arith}
-use Rattle.std.proofs.Math.ListN.{drop_of_length-le}
-use Rattle.std.proofs.Math.Seq.{drop-nil}
 use Rattle.std.proofs.lemmas.List.{append-nil, drop-append-le, drop-drop, take-append-le, take_min}
 use Rattle.std.proofs.lemmas.Result.{err_from_is_err_and}
 use Rattle.pef_loader.specs.Loader.{Loaded, reloc_of}
@@ -15,11 +13,11 @@ use Rattle.pef_views.specs.Container.{Contained}
 use Rattle.pef_views.specs.declared.header.Header as header
 use Rattle.pef_reloc.specs.Instrs.{halfwords_of}
 use Rattle.pef_listing.specs.Instructions.{halfwords_text, instr_text, kind_name, numbers_of, numbers_text, program_text}
-use Rattle.pef_listing.specs.Left.{Grows, SendsNext, from_relocation, from_export, lines_at, lines_from, lines_left, text_left}
+use Rattle.pef_listing.specs.Left.{Grows, SendsNext, from_relocation, from_export, lines_at, lines_from, lines_left}
 use Rattle.pef_listing.specs.Listing.{container_text, each_text, entries_lines, export_lines, import_lines, library_lines, listing_text, reloc_header_text, reloc_lines, reloc_text, section_lines}
 use Rattle.pef_listing.specs.declared.line_reader.LineReader.{LineReader}
 use Rattle.pef_listing.specs.declared.reader.ListingReader.{ListingReader}
-use Rattle.pef_listing.specs.declared.line_reader.Place.TheVariants.{Header}
+use Rattle.pef_listing.specs.declared.line_reader.ListingCursor.TheVariants.{Header}
 use Rattle.pef_listing.proofs.PartLemmas.{each_text-more}
 
 -- the next part of those with numbers comes first
@@ -137,21 +135,6 @@ read-front waiting lines n count is (inr none) =
 pub read-more : (made lines : List ℕ) (read count : ℕ) → count ≤ length made - read → drop (read + count) made ++ lines ≡ drop count (drop read made ++ lines)
 read-more made lines read count under =
     sym (drop-append-le count (drop read made) lines (omega (arith, under, length-drop read made)) ∙ ap (λ (xs : List ℕ). xs ++ lines) (drop-drop count read made))
-
--- if no byte waits and no line is left, no text is left
-none-left : (made lines : List ℕ) (read : ℕ) → length made ≤ read → lines ≡ [] → drop read made ++ lines ≡ []
-none-left made lines read past none = ap (λ (xs : List ℕ). xs ++ lines) (drop_of_length-le made {i = read} past) ∙ none
-
--- past the end of a text there is nothing
-passed-all : (text : List ℕ) (from left : ℕ) → drop from text ≡ [] → drop (from + left) text ≡ []
-passed-all text from left none = sym (drop-drop left from text) ∙ ap (λ (xs : List ℕ). drop left xs) none ∙ drop-nil left
-
--- where no byte comes all of the text was passed
-pub skip-ended : (r : ListingReader) (text : List ℕ) (from left asked : ℕ) → text_left r ≡ drop from text → 0 < asked → length r.made.items ≤ r.read → (asked ≤ length r.made.items - r.read) ⊎ (lines_left r.lines ≡ []) → text_left r ≡ drop (from + left) text
-skip-ended r text from left asked is some past (inl under) = absurd (omega (arith, under))
-skip-ended r text from left asked is some past (inr none) =
-    let nothing : text_left r ≡ [] = none-left r.made.items (lines_left r.lines) r.read past none in
-    nothing ∙ sym (passed-all text from left (sym is ∙ nothing))
 
 -- what a reader has made, as bytes that wait
 pub enough-waits : (r : ListingReader) (n : ℕ) → (n ≤ length r.made.items - r.read) ⊎ (lines_left r.lines ≡ []) → (n ≤ length (drop r.read r.made.items)) ⊎ (lines_left r.lines ≡ [])

@@ -9,8 +9,8 @@ use Rattle.pef_views.specs.Container.{Contained}
 use Rattle.pef_views.specs.Views.{contained}
 use Rattle.pef_listing.specs.Instructions.{program_text}
 use Rattle.pef_listing.specs.Listing.{container_text, each_text, entries_lines, export_lines, import_lines, library_lines, reloc_lines, section_lines}
-use Rattle.pef_listing.specs.declared.line_reader.Place.{Place}
-use Rattle.pef_listing.specs.declared.line_reader.Place.TheVariants.{Header, Section, Library, Import, Entries, Relocation, Instruction, Export}
+use Rattle.pef_listing.specs.declared.line_reader.ListingCursor.{ListingCursor}
+use Rattle.pef_listing.specs.declared.line_reader.ListingCursor.TheVariants.{Header, Section, Library, Import, Entries, Relocation, Instruction, Export}
 use Rattle.pef_listing.specs.declared.line_reader.LineReader.{LineReader}
 use Rattle.pef_listing.specs.declared.reader.ListingReader.{ListingReader}
 
@@ -38,7 +38,7 @@ abbrev pub from_section : Contained → Loaded → ℕ → List ℕ
 from_section c l i = lines_from (section_lines c) c.header.section_count i ++ from_library l 0
 
 -- the lines from a place on
-abbrev pub lines_at : Contained → Loaded → Place → List ℕ
+abbrev pub lines_at : Contained → Loaded → ListingCursor → List ℕ
 lines_at c l Header = container_text c.header ++ from_section c l 0
 lines_at c l (Section i) = from_section c l i
 lines_at c l (Library i) = from_library l i
@@ -53,7 +53,7 @@ abbrev pub lines_left : LineReader → List ℕ
 lines_left r = lines_at (contained r.listing.container) (loaded r.listing.loader) r.place
 
 -- a step over some lines: it went past them; or no line was left; or it failed, and went nowhere
-abbrev pub Steps : {E : Type 0} → Result Bool E → Place → Place → List ℕ → List ℕ → List ℕ → Type 0
+abbrev pub Steps : {E : Type 0} → Result Bool E → ListingCursor → ListingCursor → List ℕ → List ℕ → List ℕ → Type 0
 Steps (Ok true) place place' lines rest left = (0 < length lines) × (left ≡ rest)
 Steps (Ok false) place place' lines rest left = (lines ≡ []) × (rest ≡ []) × (left ≡ [])
 Steps (Err fault) place place' lines rest left = place' ≡ place

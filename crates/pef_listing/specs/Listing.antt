@@ -8,6 +8,7 @@ use Rattle.pef_format.specs.Exports.{Export}
 use Rattle.pef_format.specs.Symbols.{Import}
 use Rattle.pef_views.specs.Container.{Contained, Section, section_of, section_name_of}
 use Rattle.pef_views.specs.declared.header.Header.{Header}
+use Rattle.pef_format.specs.declared.library.LibraryFields.{LibraryFields}
 use Rattle.pef_loader.specs.Library.{Library}
 use Rattle.pef_loader.specs.Loader.{Loaded, export_of, import_of, init_of, library_of, main_of, reloc_of, term_of}
 use Rattle.pef_reloc.specs.Unrolled.{instrs_of}
@@ -46,13 +47,17 @@ section_text i s name =
     ++ codes " default " ++ word_text s.header.default_address
     ++ codes " name " ++ section_name_text name ++ codes "\n"
 
--- the line of a library, with its options in two hex digits
+-- the words of a library's line, with its options in two hex digits
+unfoldable pub library_words : List ℕ → LibraryFields → List ℕ
+library_words name fields =
+    codes "library " ++ name
+    ++ codes " current " ++ decimal fields.current
+    ++ codes " oldimp " ++ decimal fields.old_imp
+    ++ codes " options " ++ hex_text (fields.options ∷ [])
+
+-- the line of a library
 unfoldable pub library_text : Library → List ℕ
-library_text l =
-    codes "library " ++ name_text l.name
-    ++ codes " current " ++ decimal l.current
-    ++ codes " oldimp " ++ decimal l.old_imp
-    ++ codes " options " ++ hex_text (l.options ∷ []) ++ codes "\n"
+library_text l = library_words (name_text l.name) l.fields ++ codes "\n"
 
 -- `weak` for an import that may be missing, otherwise `strong`
 abbrev pub strength_text : Bool → List ℕ

@@ -8,22 +8,7 @@ ghost use Rattle.pef_listing.specs.Instructions.{halfwords_text, instr_text, num
 ghost use Rattle.pef_ports.specs.Sent.{Sends};
 
 use pef_ports::{Page, Piece, Sink, StreamFault, print_pieces, send};
-use pef_reloc::{Instr, Program, Spelling, instr_numbers, kind_name};
-
-/// Prints the lines of a program's instructions. Repeats aren't unrolled.
-pub fn print_program<W: Sink>(
-    out: &mut W,
-    page: &mut Page,
-    program: &Program<'_>,
-) -> Result<(), StreamFault>
-    ensures { Sends result (W.stream out.old) (W.stream out.new) page.old.items page.new.items (program_text (instrs_of (program_bytes program.now))) }
-{
-    let mut instrs = program.instrs();
-    while let Some(instr) = instrs.next_instr() {
-        print_instr(out, page, instr)?;
-    }
-    Ok(())
-}
+use pef_reloc::{Instr, Spelling, instr_numbers, kind_name};
 
 /// Prints the line of an instruction.
 #[tactic(auto, unfolding(crate::specs::Instructions::instr_text))]

@@ -11,10 +11,12 @@ mod line_reader;
 mod lines;
 mod listing;
 mod reader;
+mod words;
 
 pub use fault::ListFault;
 pub use instructions::print_instr;
-pub use line_reader::{LineReader, Place};
+pub use line_reader::{LineReader, ListingCursor};
 pub use listing::Listing;
 pub use pef_reloc::{InstrNumbers, instr_numbers, kind_name};
 pub use reader::ListingReader;
+pub use words::LibraryWords;

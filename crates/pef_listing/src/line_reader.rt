@@ -12,7 +12,7 @@ use std::alloc::Global;
 
 /// A place in a listing: what is printed next.
 #[derive(Clone, Copy, Debug)]
-pub enum Place<'a> {
+pub enum ListingCursor<'a> {
     /// The container's header.
     Header,
     /// The section with this number, or what comes after the sections.
@@ -35,7 +35,7 @@ pub enum Place<'a> {
 #[derive(Drop)]
 pub struct LineReader<'a> {
     listing: Listing<'a>,
-    place: Place<'a>,
+    place: ListingCursor<'a>,
     imports: ImportReader<'a>,
     names: LibraryName<'a>,
     ghost imports_of: { imports.loader ≡ listing.loader },
@@ -49,7 +49,7 @@ impl<'a> LineReader<'a> {
     ghost use Rattle.pef_reloc.specs.Views.{listed};
     ghost use Rattle.pef_listing.specs.Instructions.{program_text};
     ghost use Rattle.pef_listing.specs.Left.{Grows, SendsNext, from_entries, from_export, from_import, from_library, from_relocation, from_section, lines_at, lines_left};
-    ghost use Rattle.pef_listing.specs.declared.line_reader.Place.TheVariants.{Header};
+    ghost use Rattle.pef_listing.specs.declared.line_reader.ListingCursor.TheVariants.{Header};
 
     /// Returns a reader at the first line.
     pub(crate) fn new(listing: Listing<'a>) -> LineReader<'a>
@@ -58,21 +58,21 @@ impl<'a> LineReader<'a> {
     {
         LineReader {
             listing,
-            place: Place::Header,
+            place: ListingCursor::Header,
             imports: ImportReader::new(listing.loader),
             names: LibraryName::new(listing.loader),
         }
     }
 
     /// Returns the place of the next line.
-    pub fn place(&self) -> Place<'a>
+    pub fn place(&self) -> ListingCursor<'a>
         ensures { result ≡ self.now.place }
     {
         self.place
     }
 
     /// Goes to a place in the listing.
-    pub fn go_to(&mut self, place: Place<'a>)
+    pub fn go_to(&mut self, place: ListingCursor<'a>)
         ensures listing { self.new.listing ≡ self.old.listing }
         ensures place { self.new.place ≡ place.entry }
     {
@@ -86,14 +86,14 @@ impl<'a> LineReader<'a> {
         ensures next { SendsNext result (W.stream out.old) (W.stream out.new) page.old.items page.new.items self.old self.new }
     {
         match self.place {
-            Place::Header => self.print_container(out, page),
-            Place::Section(i) => self.print_section(out, page, i),
-            Place::Library(i) => self.print_library(out, page, i),
-            Place::Import(j) => self.print_import(out, page, j),
-            Place::Entries => self.print_entries(out, page),
-            Place::Relocation(k) => self.print_relocation(out, page, k),
-            Place::Instruction(instrs, k) => self.print_instruction(out, page, instrs, k),
-            Place::Export(i) => self.print_export(out, page, i),
+            ListingCursor::Header => self.print_container(out, page),
+            ListingCursor::Section(i) => self.print_section(out, page, i),
+            ListingCursor::Library(i) => self.print_library(out, page, i),
+            ListingCursor::Import(j) => self.print_import(out, page, j),
+            ListingCursor::Entries => self.print_entries(out, page),
+            ListingCursor::Relocation(k) => self.print_relocation(out, page, k),
+            ListingCursor::Instruction(instrs, k) => self.print_instruction(out, page, instrs, k),
+            ListingCursor::Export(i) => self.print_export(out, page, i),
         }
     }
 
@@ -127,7 +127,7 @@ impl<'a> LineReader<'a> {
         ensures next { SendsNext result (W.stream out.old) (W.stream out.new) page.old.items page.new.items self.old self.new }
     {
         print_header(out, page, self.listing.container.header())?;
-        self.place = Place::Section(0);
+        self.place = ListingCursor::Section(0);
         Ok(true)
     }
 
@@ -149,7 +149,7 @@ impl<'a> LineReader<'a> {
             return self.print_library(out, page, 0);
         }
         parts.print_at(out, page, i)?;
-        self.place = Place::Section(i + 1);
+        self.place = ListingCursor::Section(i + 1);
         Ok(true)
     }
 
@@ -171,7 +171,7 @@ impl<'a> LineReader<'a> {
             return self.print_import(out, page, 0);
         }
         parts.print_at(out, page, i)?;
-        self.place = Place::Library(i + 1);
+        self.place = ListingCursor::Library(i + 1);
         Ok(true)
     }
 
@@ -193,7 +193,7 @@ impl<'a> LineReader<'a> {
             unreachable!()
         };
         print_import(out, page, &mut self.names, j, import)?;
-        self.place = Place::Import(j + 1);
+        self.place = ListingCursor::Import(j + 1);
         Ok(true)
     }
 
@@ -208,7 +208,7 @@ impl<'a> LineReader<'a> {
             return self.print_relocation(out, page, 0);
         }
         print_entries(out, page, loader)?;
-        self.place = Place::Relocation(0);
+        self.place = ListingCursor::Relocation(0);
         Ok(true)
     }
 
@@ -229,7 +229,7 @@ impl<'a> LineReader<'a> {
         }
         let relocation = Relocations { loader }.at(k);
         relocation.print_header(out, page)?;
-        self.place = Place::Instruction(relocation.program.instrs(), k + 1);
+        self.place = ListingCursor::Instruction(relocation.program.instrs(), k + 1);
         Ok(true)
     }
 
@@ -250,7 +250,7 @@ impl<'a> LineReader<'a> {
             return self.print_relocation(out, page, k);
         };
         print_instr(out, page, instr)?;
-        self.place = Place::Instruction(left, k);
+        self.place = ListingCursor::Instruction(left, k);
         Ok(true)
     }
 
@@ -272,7 +272,7 @@ impl<'a> LineReader<'a> {
             return Ok(false);
         }
         parts.print_at(out, page, i)?;
-        self.place = Place::Export(i + 1);
+        self.place = ListingCursor::Export(i + 1);
         Ok(true)
     }
 }

@@ -11,9 +11,9 @@ ghost use Rattle.pef_listing.specs.Listed.{AreReadable};
 ghost use Rattle.pef_listing.specs.Listing.{container_text, each_text, entry_text, export_lines, import_lines, library_lines, library_name, magnitude, reloc_header_text, reloc_lines, section_lines, section_name_text, sign_text, strength_text};
 ghost use Rattle.pef_ports.specs.Pieces.{piece_text};
 
-use crate::instructions::print_program;
+use crate::words::LibraryWords;
 use pef_format::{ExportView, ImportView};
-use pef_loader::{ImportReader, Loader};
+use pef_loader::Loader;
 use pef_ports::{
     Decimal, Escaped, Hex, Joined, Page, Piece, Printed, Sink, StreamFault, Verbatim, print_pieces,
 };
@@ -37,20 +37,6 @@ pub trait Lines {
         requires { i < many self.now }
         ensures some { 0 < length (text self.now i) }
         ensures sends { Sends result (W.stream out.old) (W.stream out.new) page.old.items page.new.items (text self.now i) };
-}
-
-/// Prints the lines of all parts, in order.
-pub fn print_each<L: Lines, W: Sink>(
-    out: &mut W,
-    page: &mut Page,
-    lines: &L,
-) -> Result<(), StreamFault>
-    ensures { Sends result (W.stream out.old) (W.stream out.new) page.old.items page.new.items (each_text (L.text lines.now) 0 (L.many lines.now)) }
-{
-    for i in 0..lines.len() {
-        lines.print_at(out, page, i)?;
-    }
-    Ok(())
 }
 
 /// Prints the line of a container's header.
@@ -156,47 +142,17 @@ impl<'a> Lines for Libraries<'a> {
         self.loader.libraries()
     }
 
-    #[tactic(auto, unfolding(crate::specs::Listing::library_lines, crate::specs::Listing::library_text))]
+    #[tactic(auto, unfolding(crate::specs::Listing::library_lines, crate::specs::Listing::library_text, crate::specs::Listing::library_words))]
     fn print_at<W: Sink>(&self, out: &mut W, page: &mut Page, i: usize) -> Result<(), StreamFault> {
         let Some(library) = self.loader.library(i) else {
             unreachable!()
         };
-        print_pieces(
-            out,
-            page,
-            &[
-                Piece::Text(b"library "),
-                Piece::Name(library.name),
-                Piece::Text(b" current "),
-                Piece::Number(u64::from(library.current)),
-                Piece::Text(b" oldimp "),
-                Piece::Number(u64::from(library.old_imp)),
-                Piece::Text(b" options "),
-                Piece::Byte(library.options),
-                Piece::Text(b"\n"),
-            ],
-        )
-    }
-}
-
-/// Prints the lines of the imported symbols. Their libraries are found for many imports at once, and the name of a library
-/// is read once for imports that follow one another.
-pub fn print_imports<W: Sink>(
-    out: &mut W,
-    page: &mut Page,
-    loader: Loader<'_>,
-) -> Result<(), StreamFault>
-    ensures { Sends result (W.stream out.old) (W.stream out.new) page.old.items page.new.items (each_text (import_lines (loaded loader.entry)) 0 (loaded loader.entry).header.import_count) }
-{
-    let mut imports = ImportReader::new(loader);
-    let mut names = LibraryName::new(loader);
-    for j in 0..loader.imports() {
-        let Some(import) = imports.import(j) else {
-            unreachable!()
+        let words = LibraryWords {
+            name: Escaped(library.name),
+            fields: library.fields,
         };
-        print_import(out, page, &mut names, j, import)?;
+        Joined(words, Verbatim(b"\n")).print(out, page)
     }
-    Ok(())
 }
 
 /// Prints the line of import `j`.
@@ -214,12 +170,12 @@ pub fn print_import<'a, W: Sink>(
     ensures same { names.new.loader ≡ names.old.loader }
 {
     let library = names.of(import.library);
-    let class = u64::from(import.class);
+    let class = u64::from(import.fields.class);
     let number = Joined(Verbatim(b"import "), Decimal(j as u64));
     let name = Joined(Joined(number, Verbatim(b" ")), Escaped(import.name));
     let owner = Joined(Joined(name, Verbatim(b" of ")), Escaped(library));
     let kind = Joined(Joined(owner, Verbatim(b" class ")), Decimal(class));
-    Joined(kind, Verbatim(strength(import.weak))).print(out, page)
+    Joined(kind, Verbatim(strength(import.fields.weak))).print(out, page)
 }
 
 /// The name of the library that was asked for last.
@@ -293,13 +249,13 @@ impl<'a> Lines for Exported<'a> {
             unreachable!()
         };
         let section = section_number(export);
-        let class = u64::from(export.class);
+        let class = u64::from(export.fields.class);
         let magnitude = u64::from(section.magnitude);
         let name = Joined(Verbatim(b"export "), Escaped(export.name));
         let kind = Joined(Joined(name, Verbatim(b" class ")), Decimal(class));
         let sign = Joined(Joined(kind, Verbatim(b" section ")), Verbatim(section.sign));
         let number = Joined(Joined(sign, Decimal(magnitude)), Verbatim(b" value "));
-        Joined(Joined(number, Hex(export.value)), Verbatim(b"\n")).print(out, page)
+        Joined(Joined(number, Hex(export.fields.value)), Verbatim(b"\n")).print(out, page)
     }
 }
 
@@ -308,22 +264,6 @@ impl<'a> Lines for Exported<'a> {
 pub struct Relocations<'a> {
     pub loader: Loader<'a>,
     pub ghost readable: { AreReadable (loaded loader) },
-}
-
-impl<'a> Lines for Relocations<'a> {
-    ghost many = { λ l. (loaded l.loader).header.reloc_count };
-
-    ghost text = { λ l. reloc_lines (loaded l.loader) };
-
-    fn len(&self) -> usize {
-        self.loader.relocs()
-    }
-
-    fn print_at<W: Sink>(&self, out: &mut W, page: &mut Page, i: usize) -> Result<(), StreamFault> {
-        let relocation = self.at(i);
-        relocation.print_header(out, page)?;
-        print_program(out, page, &relocation.program)
-    }
 }
 
 impl<'a> Relocations<'a> {
@@ -409,12 +349,12 @@ struct SectionNumber {
 
 /// Returns the number of the section that an export is in.
 fn section_number(export: ExportView<'_>) -> SectionNumber
-    ensures sign { result.sign.now ≡ sign_text export.entry.section }
-    ensures magnitude { result.magnitude ≡ magnitude export.entry.section }
+    ensures sign { result.sign.now ≡ sign_text export.entry.fields.section }
+    ensures magnitude { result.magnitude ≡ magnitude export.entry.fields.section }
 {
     SectionNumber {
-        sign: if export.section < 0 { b"-" } else { b"" },
-        magnitude: export.section.unsigned_abs(),
+        sign: if export.fields.section < 0 { b"-" } else { b"" },
+        magnitude: export.fields.section.unsigned_abs(),
     }
 }
 

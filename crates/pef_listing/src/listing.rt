@@ -4,15 +4,12 @@ ghost use Rattle.pef_words.specs.Refusals.{result_map};
 ghost use Rattle.pef_views.specs.Views.{contained};
 ghost use Rattle.pef_loader.specs.Views.{loaded};
 ghost use Rattle.pef_ports.specs.Sent.{Sends};
-ghost use Rattle.pef_listing.specs.Listing.{container_lines, entries_lines, imported_lines};
+ghost use Rattle.pef_listing.specs.Listing.{entries_lines};
 ghost use Rattle.pef_listing.specs.Listed.{AreReadable, listed_of, program_refusal, programs_fault};
 
 use crate::fault::ListFault;
 use crate::line_reader::LineReader;
-use crate::lines::{
-    Exported, Libraries, Relocations, Sections, print_each, print_entry, print_header,
-    print_imports,
-};
+use crate::lines::print_entry;
 use pef_loader::{Loader, ProgramFault};
 use pef_ports::{Page, Sink, StreamFault};
 use pef_reloc::Program;
@@ -64,12 +61,12 @@ impl<'a> Listing<'a> {
     pub fn print<W: Sink>(&self, out: &mut W, page: &mut Page) -> Result<(), StreamFault>
         ensures { Sends result (W.stream out.old) (W.stream out.new) page.old.items page.new.items (listing_text (parts self.now).container (parts self.now).loader) }
     {
-        let loader = self.loader;
-        print_container(out, page, self.container)?;
-        print_imported(out, page, loader)?;
-        print_entries(out, page, loader)?;
-        print_each(out, page, &Relocations { loader })?;
-        print_each(out, page, &Exported { loader })
+        let mut lines = self.lines();
+        let mut more = true;
+        'each: while more {
+            more = lines.print_next(out, page)?;
+        }
+        Ok(())
     }
 
     /// Returns a reader of the lines, by which a caller prints them one after the other.
@@ -78,30 +75,6 @@ impl<'a> Listing<'a> {
     {
         LineReader::new(self)
     }
-}
-
-/// Prints what a container is: its header and its sections.
-fn print_container<W: Sink>(
-    out: &mut W,
-    page: &mut Page,
-    container: Container<'_>,
-) -> Result<(), StreamFault>
-    ensures { Sends result (W.stream out.old) (W.stream out.new) page.old.items page.new.items (container_lines (contained container.entry)) }
-{
-    print_header(out, page, container.header())?;
-    print_each(out, page, &Sections { container })
-}
-
-/// Prints what a container needs: its libraries and its imports.
-fn print_imported<W: Sink>(
-    out: &mut W,
-    page: &mut Page,
-    loader: Loader<'_>,
-) -> Result<(), StreamFault>
-    ensures { Sends result (W.stream out.old) (W.stream out.new) page.old.items page.new.items (imported_lines (loaded loader.entry)) }
-{
-    print_each(out, page, &Libraries { loader })?;
-    print_imports(out, page, loader)
 }
 
 /// Prints where a container is entered.

@@ -5,9 +5,6 @@ use pef_ports::Text;
 use std::alloc::{AllocError, Global};
 use std::mem::replace;
 
-/// How many bytes are made at once, at most, to be passed over.
-const SKIPPED: usize = 16_384;
-
 /// A reader of the text of a listing, part by part. Each line is made once, however small the parts are.
 #[derive(Drop)]
 pub struct ListingReader<'a> {
@@ -54,28 +51,6 @@ impl<'a> ListingReader<'a> {
         front.copy_from_slice(next);
         self.read += count;
         Ok(count)
-    }
-
-    /// Passes over the next `count` bytes, or over all that are left.
-    ///
-    /// # Errors
-    ///
-    /// If an allocation fails, a part of them may be passed.
-    pub fn skip(&mut self, alloc: Global, count: usize) -> Result<(), AllocError>
-        ensures passed { OnOk result (text_left self.new ≡ drop count (text_left self.old)) }
-        ensures part { OnErr result ((k : ℕ) × (k ≤ count) × (text_left self.new ≡ drop k (text_left self.old))) }
-    {
-        let mut left = count;
-        'parts: while left > 0 {
-            self.make(alloc, left.min(SKIPPED))?;
-            let passed = (self.made.len() - self.read).min(left);
-            if passed == 0 {
-                break 'parts;
-            }
-            self.read += passed;
-            left -= passed;
-        }
-        Ok(())
     }
 
     /// Makes lines until `wanted` bytes wait to be read, or all that are left.

@@ -1,18 +1,25 @@
--- Text after text.
-use Rattle.pef_ports.proofs.Laws.Sending.{Prints-then, Sends-short, Sends-then, StopsShort-longer, StopsShort-then}
+-- Lines are sent one after the other.
+use Rattle.pef_ports.proofs.Laws.Sending.{Sends-short, sent-all, sent-nothing}
+use Rattle.pef_listing.specs.Left.{lines_left}
+use Rattle.pef_listing.proofs.ReaderLemmas.{next-sent, next-short}
 use Rattle.pef_listing.proofs.listing.Listing.print.Goals as goal
 
-pub returns-in_err-print_container : goal.returns-in_err-print_container
-returns-in_err-print_container g c = Sends-short _ c.from_residual.result _ c.from_residual.ensures.1 (StopsShort-longer _ (StopsShort-longer _ (StopsShort-longer _ (StopsShort-longer _ c.in_err-print_container.ensures))))
+pub each-init : goal.each-init
+each-init g c = record {
+  sent = rw (← c.lines-lines.ensures) (sent-nothing (g.W.Sink.stream c.args.out.now) c.args.page.now.items (lines_left c.lines-lines.result));
+  ended = λ no. absurd (cc no);
+}
 
-pub returns-in_err-print_imported : goal.returns-in_err-print_imported
-returns-in_err-print_imported g c = Sends-short _ c.from_residual-in_err-print_imported.result _ c.from_residual-in_err-print_imported.ensures.1 (StopsShort-longer _ (StopsShort-longer _ (StopsShort-longer _ (StopsShort-then c.in_ok-print_container.ensures c.in_err-print_imported.ensures))))
+pub returns-in_err-more : goal.returns-in_err-more
+returns-in_err-more g c = Sends-short _ c.from_residual.result _ c.from_residual.ensures.1 (next-short _ c.each.lines c.print_next.new.self c.each.invariant.sent c.in_err-more.ensures.next)
 
-pub returns-in_err-print_entries : goal.returns-in_err-print_entries
-returns-in_err-print_entries g c = Sends-short _ c.from_residual-in_err-print_entries.result _ c.from_residual-in_err-print_entries.ensures.1 (StopsShort-longer _ (StopsShort-longer _ (StopsShort-then (Prints-then c.in_ok-print_container.ensures c.in_ok-print_imported.ensures) c.in_err-print_entries.ensures)))
+pub each-smaller : goal.each-smaller
+each-smaller g c = rw c.each-test.true (next-sent c.in_ok-more.more c.each.lines c.print_next.new.self c.each.invariant.sent c.in_ok-more.ensures.next).2
 
-pub returns-in_err-print_each : goal.returns-in_err-print_each
-returns-in_err-print_each g c = Sends-short _ c.from_residual-in_err-print_each.result _ c.from_residual-in_err-print_each.ensures.1 (StopsShort-longer _ (StopsShort-then (Prints-then (Prints-then c.in_ok-print_container.ensures c.in_ok-print_imported.ensures) c.in_ok-print_entries.ensures) c.in_err-print_each.ensures))
+pub each-preserved : goal.each-preserved
+each-preserved g c =
+    let next = next-sent c.in_ok-more.more c.each.lines c.print_next.new.self c.each.invariant.sent c.in_ok-more.ensures.next in
+    record { sent = next.0; ended = next.1 }
 
 pub returns : goal.returns
-returns g c = Sends-then c.print_each-2.result (g.W.Sink.stream c.print_each-2.new.out) _ _ (Prints-then (Prints-then (Prints-then c.in_ok-print_container.ensures c.in_ok-print_imported.ensures) c.in_ok-print_entries.ensures) c.in_ok-print_each.ensures) c.print_each-2.ensures
+returns g c = sent-all c.each.invariant.sent (c.each.invariant.ended c.each-test.false)
