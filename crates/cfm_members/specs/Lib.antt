@@ -1,7 +1,7 @@
 pub mod Contents
 pub mod Faults
 pub mod Forks
-pub mod FragmentFaults
+pub mod MemberLookupFaults
 pub mod Fragments
 pub mod Kept
 pub mod Kinds

@@ -6,14 +6,14 @@ ghost use Rattle.mac_forks.specs.Views.{part_seen};
 ghost use Rattle.cfm_members.specs.Contents.{FileForks, all_from, file_forks, readable, rest_from, rest_in};
 
 use crate::forks::Forks;
-use mac_forks::{ForkFault, MacFile, Part};
+use mac_forks::{ForkBytes, ForkFault, MacFile};
 
 /// The bytes of a file, with the forks of it that can be read.
 #[derive(Clone, Copy, Debug)]
 pub struct Contents<'a> {
     pub bytes: &'a [u8],
-    data_fork: Option<Part<'a>>,
-    resource_fork: Option<Part<'a>>,
+    data_fork: Option<ForkBytes<'a>>,
+    resource_fork: Option<ForkBytes<'a>>,
     ghost data: { option_map part_seen data_fork ≡ (file_forks bytes.now).data_fork },
     ghost resource: { option_map part_seen resource_fork ≡ (file_forks bytes.now).resource_fork },
 }
@@ -59,7 +59,7 @@ impl<'a> Contents<'a> {
 }
 
 /// Returns a fork without its error.
-pub fn readable<'a>(fork: Option<Result<Part<'a>, ForkFault>>) -> Option<Part<'a>>
+pub fn readable<'a>(fork: Option<Result<ForkBytes<'a>, ForkFault>>) -> Option<ForkBytes<'a>>
     ensures { option_map part_seen result ≡ readable (option_map (result_map part_seen) fork.entry) }
 {
     match fork {
@@ -69,7 +69,7 @@ pub fn readable<'a>(fork: Option<Result<Part<'a>, ForkFault>>) -> Option<Part<'a
 }
 
 /// Returns the bytes of a fork from a place of the file on, if the fork has the place.
-fn rest_in<'a>(fork: Option<Part<'a>>, place: usize) -> Option<&'a [u8]>
+fn rest_in<'a>(fork: Option<ForkBytes<'a>>, place: usize) -> Option<&'a [u8]>
     ensures { option_copied result ≡ rest_in (option_map part_seen fork.entry) place }
 {
     match fork {

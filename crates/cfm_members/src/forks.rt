@@ -3,14 +3,14 @@ ghost use Rattle.pef_words.specs.Refusals.{result_map};
 ghost use Rattle.mac_forks.specs.Views.{mac_file_seen, part_seen};
 ghost use Rattle.cfm_members.specs.Forks.{data_fork_of, resource_fork_of};
 
-use mac_forks::{ForkFault, MacFile, Part};
+use mac_forks::{ForkBytes, ForkFault, MacFile};
 use mac_resources::ResourceFork;
 
 /// The forks of a file, or the errors of their entries. `None` if the file doesn't have the fork.
 #[derive(Clone, Copy, Debug)]
 pub struct Forks<'a> {
-    pub data_fork: Option<Result<Part<'a>, ForkFault>>,
-    pub resource_fork: Option<Result<Part<'a>, ForkFault>>,
+    pub data_fork: Option<Result<ForkBytes<'a>, ForkFault>>,
+    pub resource_fork: Option<Result<ForkBytes<'a>, ForkFault>>,
 }
 
 impl<'a> Forks<'a> {

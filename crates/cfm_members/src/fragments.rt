@@ -27,7 +27,7 @@ ghost use Rattle.cfm_members.specs.Fragments.{
 ghost use Rattle.std.specs.Prelude.{◌+◌};
 ghost use Rattle.cfm_members.specs.Fragments.{first_named};
 ghost use Rattle.cfm_members.specs.declared.fault.MemberFault.TheVariants.{FragmentOutside};
-ghost use Rattle.cfm_members.specs.declared.fragment_fault.FragmentFault.TheVariants.{Member as MemberIs};
+ghost use Rattle.cfm_members.specs.declared.member_lookup_fault.MemberLookupFault.TheVariants.{Member as MemberIs};
 ghost use Rattle.cfm_members.specs.Search.{containers_in};
 ghost use Rattle.cfm_members.specs.Members.{all_members, locator_of, table_of};
 ghost use Rattle.cfm_members.specs.Views.{member_seen, row_seen, table_seen};
@@ -35,12 +35,12 @@ ghost use Rattle.cfm_members.specs.Views.{member_seen, row_seen, table_seen};
 use crate::contents::Contents;
 use crate::fault::MemberFault;
 use crate::forks::Forks;
-use crate::fragment_fault::FragmentFault;
 use crate::layout::{CFM_68K, FRAGMENT_TABLE_ID, FRAGMENT_TABLE_TYPE, OFFSET_AT};
 use crate::member::{Locator, Member, lying_part};
+use crate::member_lookup_fault::MemberLookupFault;
 use crate::search::Containers;
 use crate::table::FragmentTable;
-use mac_forks::{ForkFault, MacFile, Part};
+use mac_forks::{ForkBytes, ForkFault, MacFile};
 use mac_resources::{Resource, ResourceFork};
 
 /// Returns the container of the fragment with a name: of the first member of the resource `cfrg` 0 with this name that
@@ -51,7 +51,7 @@ use mac_resources::{Resource, ResourceFork};
 /// The first error of the file's header, of the resource fork's entry, of the fork's header and map, of the table's
 /// bytes and header, and of the container: no fragment has the name, or its bytes aren't there.
 #[tactic(auto, unfolding(crate::specs::Fragments::container_named))]
-pub fn named_container<'a>(bytes: &'a [u8], name: &[u8]) -> Result<&'a [u8], FragmentFault>
+pub fn named_container<'a>(bytes: &'a [u8], name: &[u8]) -> Result<&'a [u8], MemberLookupFault>
     ensures { result_map (λ container. container.now) result ≡ container_named bytes.entry.now name.now }
 {
     container_in_pair(bytes, bytes, name)
@@ -68,26 +68,26 @@ pub fn container_in_pair<'a>(
     bytes: &'a [u8],
     resources: &'a [u8],
     name: &[u8],
-) -> Result<&'a [u8], FragmentFault>
+) -> Result<&'a [u8], MemberLookupFault>
     ensures { result_map (λ container. container.now) result ≡ container_in_pair bytes.entry.now resources.entry.now name.now }
 {
     match MacFile::read(bytes) {
         Ok(file) => container_beside(Forks::of(bytes, &file).data_fork, resources, name),
-        Err(fault) => Err(FragmentFault::Fork(fault)),
+        Err(fault) => Err(MemberLookupFault::Fork(fault)),
     }
 }
 
 /// Returns the container of the fragment with a name, by a data fork and a file with the resource fork.
 fn container_beside<'a>(
-    data_fork: Option<Result<Part<'a>, ForkFault>>,
+    data_fork: Option<Result<ForkBytes<'a>, ForkFault>>,
     resources: &'a [u8],
     name: &[u8],
-) -> Result<&'a [u8], FragmentFault>
+) -> Result<&'a [u8], MemberLookupFault>
     ensures { result_map (λ container. container.now) result ≡ named_beside name.now (option_map (result_map part_seen) data_fork.entry) resources.entry.now (mac_file_of resources.entry.now) }
 {
     let file = match MacFile::read(resources) {
         Ok(file) => file,
-        Err(fault) => return Err(FragmentFault::Fork(fault)),
+        Err(fault) => return Err(MemberLookupFault::Fork(fault)),
     };
     match fork_bytes(Forks::of(resources, &file).resource_fork) {
         Ok(resources) => container_in_forks(data_fork, resources, name),
@@ -102,15 +102,15 @@ fn container_beside<'a>(
 /// Those of [`named_container`], from the resource fork's header on.
 #[tactic(auto, unfolding(crate::specs::Fragments::named_in_forks))]
 pub fn container_in_forks<'a>(
-    data_fork: Option<Result<Part<'a>, ForkFault>>,
+    data_fork: Option<Result<ForkBytes<'a>, ForkFault>>,
     resources: &'a [u8],
     name: &[u8],
-) -> Result<&'a [u8], FragmentFault>
+) -> Result<&'a [u8], MemberLookupFault>
     ensures { result_map (λ container. container.now) result ≡ named_in_forks name.now (option_map (result_map part_seen) data_fork.entry) resources.entry.now }
 {
     let resources = match ResourceFork::read(resources) {
         Ok(resources) => resources,
-        Err(fault) => return Err(FragmentFault::Resource(fault)),
+        Err(fault) => return Err(MemberLookupFault::Resource(fault)),
     };
     let table = match resource_bytes(resources.find(FRAGMENT_TABLE_TYPE, FRAGMENT_TABLE_ID)) {
         Ok(table) => table,
@@ -127,14 +127,14 @@ pub fn container_in_forks<'a>(
 /// # Errors
 ///
 /// The first error of the file's header, of the resource fork's entry, of the fork's header and map, and of the table's bytes and
-/// header. Without a resource fork or the resource it is [`FragmentFault::NoContainer`].
+/// header. Without a resource fork or the resource it is [`MemberLookupFault::NoContainer`].
 #[tactic(auto, unfolding(crate::specs::Fragments::table_in_file))]
-pub fn fragment_table<'a>(bytes: &'a [u8]) -> Result<FragmentTable<'a>, FragmentFault>
+pub fn fragment_table<'a>(bytes: &'a [u8]) -> Result<FragmentTable<'a>, MemberLookupFault>
     ensures { result_map table_seen result ≡ table_in_file bytes.entry.now }
 {
     let file = match MacFile::read(bytes) {
         Ok(file) => file,
-        Err(fault) => return Err(FragmentFault::Fork(fault)),
+        Err(fault) => return Err(MemberLookupFault::Fork(fault)),
     };
     match fork_bytes(Forks::of(bytes, &file).resource_fork) {
         Ok(resources) => table_in_fork(resources),
@@ -143,12 +143,12 @@ pub fn fragment_table<'a>(bytes: &'a [u8]) -> Result<FragmentTable<'a>, Fragment
 }
 
 /// Returns the table of fragments of a resource fork.
-fn table_in_fork<'a>(resources: &'a [u8]) -> Result<FragmentTable<'a>, FragmentFault>
+fn table_in_fork<'a>(resources: &'a [u8]) -> Result<FragmentTable<'a>, MemberLookupFault>
     ensures { result_map table_seen result ≡ table_in_fork (fork_of resources.entry.now) }
 {
     let resources = match ResourceFork::read(resources) {
         Ok(resources) => resources,
-        Err(fault) => return Err(FragmentFault::Resource(fault)),
+        Err(fault) => return Err(MemberLookupFault::Resource(fault)),
     };
     match resource_bytes(resources.find(FRAGMENT_TABLE_TYPE, FRAGMENT_TABLE_ID)) {
         Ok(table) => read_table(table),
@@ -157,12 +157,12 @@ fn table_in_fork<'a>(resources: &'a [u8]) -> Result<FragmentTable<'a>, FragmentF
 }
 
 /// Reads a table of fragments.
-fn read_table<'a>(table: &'a [u8]) -> Result<FragmentTable<'a>, FragmentFault>
+fn read_table<'a>(table: &'a [u8]) -> Result<FragmentTable<'a>, MemberLookupFault>
     ensures { result_map table_seen result ≡ table_read (table_of table.entry.now) }
 {
     match FragmentTable::read(table) {
         Ok(table) => Ok(table),
-        Err(fault) => Err(FragmentFault::Member(fault)),
+        Err(fault) => Err(MemberLookupFault::Member(fault)),
     }
 }
 
@@ -184,39 +184,41 @@ fn numbered_place(bytes: &[u8], number: usize) -> Option<usize>
 }
 
 /// Returns the bytes of a fork.
-fn fork_bytes<'a>(fork: Option<Result<Part<'a>, ForkFault>>) -> Result<&'a [u8], FragmentFault>
+fn fork_bytes<'a>(
+    fork: Option<Result<ForkBytes<'a>, ForkFault>>,
+) -> Result<&'a [u8], MemberLookupFault>
     ensures { result_map (λ bytes. bytes.now) result ≡ fork_bytes (option_map (result_map part_seen) fork.entry) }
 {
     match fork {
         Some(Ok(part)) => Ok(part.bytes),
-        Some(Err(fault)) => Err(FragmentFault::Fork(fault)),
-        None => Err(FragmentFault::NoContainer),
+        Some(Err(fault)) => Err(MemberLookupFault::Fork(fault)),
+        None => Err(MemberLookupFault::NoContainer),
     }
 }
 
 /// Returns the bytes of a resource.
-fn resource_bytes<'a>(resource: Option<Resource<'a>>) -> Result<&'a [u8], FragmentFault>
+fn resource_bytes<'a>(resource: Option<Resource<'a>>) -> Result<&'a [u8], MemberLookupFault>
     ensures { result_map (λ bytes. bytes.now) result ≡ resource_bytes (option_map resource_seen resource.entry) }
 {
     match resource {
         Some(resource) => match resource.contents {
             Ok(part) => Ok(part.bytes),
-            Err(fault) => Err(FragmentFault::Resource(fault)),
+            Err(fault) => Err(MemberLookupFault::Resource(fault)),
         },
-        None => Err(FragmentFault::NoContainer),
+        None => Err(MemberLookupFault::NoContainer),
     }
 }
 
 /// Returns the first member of a table with a name that isn't for CFM-68K.
-fn member_named<'a>(table: &'a [u8], name: &[u8]) -> Result<Member<'a>, FragmentFault>
+fn member_named<'a>(table: &'a [u8], name: &[u8]) -> Result<Member<'a>, MemberLookupFault>
     ensures { result_map member_seen result ≡ named_in name.now (table_of table.entry.now) }
 {
     match FragmentTable::read(table) {
         Ok(table) => match first_named(table, name) {
             Some(member) => Ok(member),
-            None => Err(FragmentFault::NoContainer),
+            None => Err(MemberLookupFault::NoContainer),
         },
-        Err(fault) => Err(FragmentFault::Member(fault)),
+        Err(fault) => Err(MemberLookupFault::Member(fault)),
     }
 }
 
@@ -262,9 +264,9 @@ fn is_named(member: &Member<'_>, name: &[u8]) -> bool
 /// Returns the container of a member.
 fn member_container<'a>(
     member: &Member<'_>,
-    data_fork: Option<Result<Part<'a>, ForkFault>>,
+    data_fork: Option<Result<ForkBytes<'a>, ForkFault>>,
     resources: ResourceFork<'a>,
-) -> Result<&'a [u8], FragmentFault>
+) -> Result<&'a [u8], MemberLookupFault>
     ensures { result_map (λ container. container.now) result ≡ lying_in (member_seen member.now) (option_map (result_map part_seen) data_fork.entry) (fork_seen resources.entry) (locator_of member.now.header) }
 {
     match member.header.locator() {
@@ -282,29 +284,29 @@ fn member_container<'a>(
             let id = ((id % 0x1_0000) as u16).cast_signed();
             resource_bytes(resources.find(type_code, id))
         }
-        Locator::Memory | Locator::Other(_) => Err(FragmentFault::NoContainer),
+        Locator::Memory | Locator::Other(_) => Err(MemberLookupFault::NoContainer),
     }
 }
 
 /// Returns the bytes of the data fork that a member's container is in.
 fn data_bytes<'a>(
     member: &Member<'_>,
-    data_fork: Option<Result<Part<'a>, ForkFault>>,
-) -> Result<&'a [u8], FragmentFault>
+    data_fork: Option<Result<ForkBytes<'a>, ForkFault>>,
+) -> Result<&'a [u8], MemberLookupFault>
     ensures { result_map (λ bytes. bytes.now) result ≡ data_bytes (member_seen member.now) (option_map (result_map part_seen) data_fork.entry) }
 {
     match data_fork {
         Some(Ok(part)) => Ok(part.bytes),
-        Some(Err(fault)) => Err(FragmentFault::Fork(fault)),
+        Some(Err(fault)) => Err(MemberLookupFault::Fork(fault)),
         None => Err(outside(member)),
     }
 }
 
 /// Returns the error of a member whose container isn't in the data fork.
-fn outside(member: &Member<'_>) -> FragmentFault
+fn outside(member: &Member<'_>) -> MemberLookupFault
     ensures { result ≡ MemberIs (FragmentOutside member.now.member (member.now.offset + 24)) }
 {
-    FragmentFault::Member(MemberFault::FragmentOutside {
+    MemberLookupFault::Member(MemberFault::FragmentOutside {
         member: member.member,
         offset: member.offset + OFFSET_AT,
     })

@@ -9,10 +9,10 @@ mod contents;
 mod fault;
 mod file_kind;
 mod forks;
-mod fragment_fault;
 mod fragments;
 mod layout;
 mod member;
+mod member_lookup_fault;
 mod num_version;
 mod reading;
 mod search;
@@ -22,11 +22,11 @@ pub use contents::{Contents, readable};
 pub use fault::MemberFault;
 pub use file_kind::FileKind;
 pub use forks::Forks;
-pub use fragment_fault::FragmentFault;
 pub use fragments::{
     container_in_forks, container_in_pair, fragment_table, named_container, numbered_container,
 };
 pub use member::{Locator, Member, MemberHeader, Usage};
+pub use member_lookup_fault::MemberLookupFault;
 pub use num_version::{NumVersion, Stage};
 pub use search::Containers;
 pub use table::{FragmentTable, Members};

@@ -8,7 +8,7 @@ use crate::layout::{
     APPLICATION, DROP_IN_ADDITION, IMPORT_LIBRARY, IN_DATA_FORK, IN_MEMORY, IN_RESOURCE, OFFSET_AT,
     STUB_LIBRARY, WEAK_STUB_LIBRARY,
 };
-use mac_forks::Part;
+use mac_forks::ForkBytes;
 use pef_words::Cut;
 
 /// The fields of a member (CFragResourceMember). The name follows.
@@ -121,7 +121,7 @@ impl<'a> Member<'a> {
     /// # Errors
     ///
     /// The container passes the end of the fork.
-    pub fn container<'f>(self, data_fork: &'f [u8]) -> Option<Result<Part<'f>, MemberFault>>
+    pub fn container<'f>(self, data_fork: &'f [u8]) -> Option<Result<ForkBytes<'f>, MemberFault>>
         ensures { option_map (result_map part_seen) result ≡ container_in (member_seen self.entry) data_fork.entry.now }
     {
         match self.header.locator() {
@@ -140,7 +140,7 @@ impl<'a> Member<'a> {
 }
 
 /// Returns the `len` bytes from `offset`, or if `len` is 0 all bytes from there. `None` if they pass the end.
-pub(crate) fn lying_part<'f>(fork: &'f [u8], offset: usize, len: usize) -> Option<Part<'f>>
+pub(crate) fn lying_part<'f>(fork: &'f [u8], offset: usize, len: usize) -> Option<ForkBytes<'f>>
     ensures { option_map part_seen result ≡ lies fork.entry.now offset len }
 {
     let len = if len == 0 {
@@ -149,5 +149,5 @@ pub(crate) fn lying_part<'f>(fork: &'f [u8], offset: usize, len: usize) -> Optio
         len
     };
     let bytes = Cut::new(fork).part(offset, len)?.bytes();
-    Some(Part { offset, bytes })
+    Some(ForkBytes { offset, bytes })
 }

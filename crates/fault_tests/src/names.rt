@@ -1,6 +1,6 @@
 use cfm_closure::{BindFault, StoreFault};
 use cfm_memory::{GranuleFault, MemoryFault};
-use cfm_prepare::{AddFault, CloseFault, FragmentFault, PrepareFault};
+use cfm_prepare::{AddFault, CloseFault, FragmentFault, PrepareFault, RemoveFault};
 use pef_cert::CertFault;
 use pef_format::{Part, Place};
 use pef_hash::HashFault;
@@ -88,5 +88,6 @@ fn names_of_fragments(rt: HostRuntime) {
     test_text(&rt, alloc, &PrepareFault::Bind(INIT_LOOP), "InitLoop");
     test_text(&rt, alloc, &StoreFault::OutOfMemory, "OutOfMemory");
     test_text(&rt, alloc, &AddFault::AddedTooLate, "AddedTooLate");
+    test_text(&rt, alloc, &RemoveFault::StillNamed, "StillNamed");
     test_text(&rt, alloc, &CloseFault::BadConnection, "BadConnection");
 }

@@ -4,14 +4,14 @@ use Rattle.mac_forks.specs.declared.apple.AppleFile.{AppleFile}
 use Rattle.mac_forks.specs.declared.mac_binary.MacBinary.{MacBinary}
 use Rattle.mac_forks.specs.declared.mac_file.MacFile.{MacFile}
 use Rattle.mac_forks.specs.declared.mac_file.MacFile.TheVariants as file
-use Rattle.mac_forks.specs.declared.part.Part.{Part}
+use Rattle.mac_forks.specs.declared.fork_bytes.ForkBytes.{ForkBytes}
 use Rattle.mac_forks.specs.Apple.{AppleIs}
 use Rattle.mac_forks.specs.MacBinary.{MacBinaryIs}
 use Rattle.mac_forks.specs.MacFile.{MacFileIs, bare, mac_binary, apple}
 use Rattle.mac_forks.specs.Parts.{Lying}
 
 -- the part that a view shows
-abbrev pub part_seen : Part → Lying
+abbrev pub part_seen : ForkBytes → Lying
 part_seen p = record { offset = p.offset; bytes = p.bytes.now }
 
 -- the file in MacBinary that a view shows

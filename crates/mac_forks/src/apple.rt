@@ -25,12 +25,12 @@ ghost use Rattle.mac_forks.specs.Views.{apple_seen, part_seen};
 
 use crate::fault::{ForkFault, entry_at};
 use crate::finder::{FinderInfo, read_finder};
+use crate::fork_bytes::{ForkBytes, part_in};
 use crate::layout::{
     APPLE_DOUBLE, APPLE_ENTRY_COUNT_AT, APPLE_FILLER_AT, APPLE_FILLER_SIZE, APPLE_SIGNATURE_AT,
     APPLE_SINGLE, APPLE_VERSION_1, APPLE_VERSION_2, APPLE_VERSION_AT, ENTRY_ID_AT, ENTRY_LENGTH_AT,
     ENTRY_OFFSET_AT, FILE_DATES, FINDER_INFORMATION, MACINTOSH_INFORMATION,
 };
-use crate::part::{Part, part_in};
 use pef_words::Cut;
 
 /// The header of an AppleSingle or AppleDouble file, field by field, without its filler.
@@ -138,7 +138,7 @@ impl<'a> AppleFile<'a> {
 
     /// Returns the bytes of entry `i`, or the error of its row. `None` past the last one.
     #[tactic(auto, unfolding(crate::specs::Apple::contents_of))]
-    pub fn contents(&self, i: u16) -> Option<Result<Part<'a>, ForkFault>>
+    pub fn contents(&self, i: u16) -> Option<Result<ForkBytes<'a>, ForkFault>>
         ensures { option_map (result_map part_seen) result ≡ contents_of (apple_seen self.now) i }
     {
         if i >= self.header.entry_count {
@@ -161,7 +161,7 @@ impl<'a> AppleFile<'a> {
     }
 
     /// Returns the bytes of the first entry with an id, or its error. `None` if no entry has the id.
-    pub fn find(&self, id: u32) -> Option<Result<Part<'a>, ForkFault>>
+    pub fn find(&self, id: u32) -> Option<Result<ForkBytes<'a>, ForkFault>>
         ensures { option_map (result_map part_seen) result ≡ part_with (apple_seen self.now) id }
     {
         let i = self.position(id)?;
@@ -234,7 +234,7 @@ fn number_if(cut: Cut<'_>, id: u32, i: u16) -> Option<u16>
 }
 
 /// Returns the bytes of entry `i`.
-fn read_contents<'a>(cut: Cut<'a>, i: u16) -> Result<Part<'a>, ForkFault>
+fn read_contents<'a>(cut: Cut<'a>, i: u16) -> Result<ForkBytes<'a>, ForkFault>
     ensures { result_map part_seen result ≡ contents_in cut.entry.bytes.now i }
 {
     let entry = read_entry(cut, i)?;

@@ -8,15 +8,15 @@ mod apple;
 mod crc;
 mod fault;
 mod finder;
+mod fork_bytes;
 mod layout;
 mod mac_binary;
 mod mac_file;
-mod part;
 
 pub use apple::{AppleDates, AppleEntry, AppleFile, AppleHeader};
 pub use crc::crc_16;
 pub use fault::ForkFault;
 pub use finder::FinderInfo;
+pub use fork_bytes::ForkBytes;
 pub use mac_binary::{MacBinary, MacBinaryCuts, MacBinaryExtension, MacBinaryHeader};
 pub use mac_file::{ForkFormat, MacFile, NO_CUTS};
-pub use part::Part;

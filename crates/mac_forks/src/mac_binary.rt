@@ -24,6 +24,7 @@ ghost use Rattle.mac_forks.specs.Views.{mac_binary_seen, part_seen};
 use crate::crc::crc_16;
 use crate::fault::ForkFault;
 use crate::finder::FinderInfo;
+use crate::fork_bytes::{ForkBytes, part_in, part_within};
 use crate::layout::{
     COMMENT_LENGTH_AT, CRC_AT, CREATED_AT, CREATOR_AT, DATA_LENGTH_AT, EXTENDED_FLAGS_AT,
     FILE_TYPE_AT, FINDER_FLAGS_HIGH_AT, FINDER_FLAGS_LOW_AT, FORK_LENGTH_LIMIT, HORIZONTAL_AT,
@@ -32,7 +33,6 @@ use crate::layout::{
     SECOND_HEADER_LENGTH_AT, SIGNATURE_AT, UNPACKED_LENGTH_AT, VERSION_2, VERSION_3, VERSION_AT,
     VERTICAL_AT, WINDOW_AT, ZERO_1_AT, ZERO_2_AT, ZERO_3_AT,
 };
-use crate::part::{Part, part_in, part_within};
 use pef_words::Cut;
 
 /// A MacBinary header up to the dates, field by field, and the fields that versions II and III added.
@@ -93,12 +93,12 @@ pub struct MacBinary<'a> {
     pub is_first_version: bool,
     /// The error of a header whose CRC is wrong.
     pub fault: Option<ForkFault>,
-    pub name: Part<'a>,
+    pub name: ForkBytes<'a>,
     /// The forks, as far as they are there.
-    pub data_fork: Part<'a>,
-    pub resource_fork: Part<'a>,
+    pub data_fork: ForkBytes<'a>,
+    pub resource_fork: ForkBytes<'a>,
     /// `None` if it passes the end.
-    pub comment: Option<Part<'a>>,
+    pub comment: Option<ForkBytes<'a>>,
     pub cuts: MacBinaryCuts,
 }
 
@@ -279,7 +279,7 @@ fn cuts_in(cut: Cut<'_>, header: MacBinaryHeader) -> MacBinaryCuts
 }
 
 /// Returns the error of a part, if it passes the end.
-fn cut_of(fault: ForkFault, part: Option<Part<'_>>) -> Option<ForkFault>
+fn cut_of(fault: ForkFault, part: Option<ForkBytes<'_>>) -> Option<ForkFault>
     ensures { result ≡ cut_of fault (option_map part_seen part.entry) }
 {
     match part {
@@ -296,7 +296,7 @@ fn has_forks(cuts: MacBinaryCuts) -> bool
 }
 
 /// Returns the comment, or `None` if it passes the end.
-fn comment_in<'a>(cut: Cut<'a>, header: MacBinaryHeader) -> Option<Part<'a>>
+fn comment_in<'a>(cut: Cut<'a>, header: MacBinaryHeader) -> Option<ForkBytes<'a>>
     ensures { option_map part_seen result ≡ part_in cut.entry.bytes.now (comment_from header) header.extension.comment_length }
 {
     part_in(

@@ -18,9 +18,9 @@ ghost use Rattle.mac_forks.specs.Views.{mac_binary_seen, mac_file_seen, part_see
 use crate::apple::AppleFile;
 use crate::fault::ForkFault;
 use crate::finder::FinderInfo;
+use crate::fork_bytes::ForkBytes;
 use crate::layout::{COMMENT, DATA_FORK, MAC_BINARY_3, REAL_NAME, RESOURCE_FORK};
 use crate::mac_binary::{MacBinary, MacBinaryCuts};
-use crate::part::Part;
 
 /// No part of MacBinary passes the end.
 pub const NO_CUTS: MacBinaryCuts = MacBinaryCuts {
@@ -119,11 +119,11 @@ impl<'a> MacFile<'a> {
     }
 
     /// Returns the data fork, or the error of its entry. `None` if the file doesn't have it. In MacBinary it is as far as it goes.
-    pub fn data_fork(&self) -> Option<Result<Part<'a>, ForkFault>>
+    pub fn data_fork(&self) -> Option<Result<ForkBytes<'a>, ForkFault>>
         ensures { option_map (result_map part_seen) result ≡ data_fork_in (mac_file_seen self.now) }
     {
         match self {
-            MacFile::Bare(bytes) => Some(Ok(Part {
+            MacFile::Bare(bytes) => Some(Ok(ForkBytes {
                 offset: 0,
                 bytes: *bytes,
             })),
@@ -133,7 +133,7 @@ impl<'a> MacFile<'a> {
     }
 
     /// Returns the resource fork, or the error of its entry. `None` if the file doesn't have it. In MacBinary it is as far as it goes.
-    pub fn resource_fork(&self) -> Option<Result<Part<'a>, ForkFault>>
+    pub fn resource_fork(&self) -> Option<Result<ForkBytes<'a>, ForkFault>>
         ensures { option_map (result_map part_seen) result ≡ resource_fork_in (mac_file_seen self.now) }
     {
         match self {
@@ -144,7 +144,7 @@ impl<'a> MacFile<'a> {
     }
 
     /// Returns the name that the file had, or the error of its entry. `None` if there is none.
-    pub fn name(&self) -> Option<Result<Part<'a>, ForkFault>>
+    pub fn name(&self) -> Option<Result<ForkBytes<'a>, ForkFault>>
         ensures { option_map (result_map part_seen) result ≡ name_in (mac_file_seen self.now) }
     {
         match self {
@@ -155,7 +155,7 @@ impl<'a> MacFile<'a> {
     }
 
     /// Returns the comment, or the error of its entry. `None` if there is none, or it passes the end of MacBinary.
-    pub fn comment(&self) -> Option<Result<Part<'a>, ForkFault>>
+    pub fn comment(&self) -> Option<Result<ForkBytes<'a>, ForkFault>>
         ensures { option_map (result_map part_seen) result ≡ comment_in (mac_file_seen self.now) }
     {
         match self {

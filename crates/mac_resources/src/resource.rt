@@ -24,7 +24,7 @@ use crate::fault::ResourceFault;
 use crate::fork::ResourceFork;
 use crate::layout::{ATTRIBUTES_AT, LENGTH_SIZE, NAME_OFFSET_AT, NO_NAME, REFERENCE_SIZE};
 use crate::reference::{Reference, ResourceType, read_reference};
-use mac_forks::Part;
+use mac_forks::ForkBytes;
 use pef_words::Cut;
 
 /// A resource, its place in the map, its name and its bytes.
@@ -40,7 +40,7 @@ pub struct Resource<'a> {
     /// `None` if there is no name.
     pub name: Option<Result<&'a [u8], ResourceFault>>,
     /// The bytes, with their offset in the fork.
-    pub contents: Result<Part<'a>, ResourceFault>,
+    pub contents: Result<ForkBytes<'a>, ResourceFault>,
 }
 
 /// A type and the number of its row.
@@ -195,13 +195,13 @@ impl<'a> ResourceFork<'a> {
         list: ReferenceList,
         row: u16,
         reference: Reference,
-    ) -> Result<Part<'a>, ResourceFault>
+    ) -> Result<ForkBytes<'a>, ResourceFault>
         requires { reference.data_offset < 2 ^ 32 }
         ensures { result_map part_seen result ≡ contents_in (fork_seen self.entry) list row reference }
     {
         let at = reference.data_offset as usize;
         match length_and_bytes(self.area, at) {
-            Some(bytes) => Ok(Part {
+            Some(bytes) => Ok(ForkBytes {
                 offset: self.header.data_offset as usize + at + LENGTH_SIZE,
                 bytes,
             }),

@@ -16,7 +16,7 @@ use Rattle.pef_ports.specs.Names.{name_text}
 use Rattle.pef_rows.specs.Tokens.{path_text}
 use Rattle.pef_rows.specs.Unicode.{text_value}
 use Rattle.mac_rows.specs.MacParts.{MemberTableIs, WrappingIs, member_table_of, resources_in, wrapping_of}
-use Rattle.mac_rows.specs.declared.member_table.Found.{Found}
+use Rattle.mac_rows.specs.declared.member_table.FileError.{FileError}
 
 -- the file that has the data fork
 pub record DataFileIs : Type 0 where
@@ -34,7 +34,7 @@ members_fork None own = readable own
 members_fork (Some other) own = data_fork_in other.bytes (mac_file_of other.bytes)
 
 -- a table of fragments without its error
-abbrev pub whole_table : Option (Result MemberTableIs Found) → Option MemberTableIs
+abbrev pub whole_table : Option (Result MemberTableIs FileError) → Option MemberTableIs
 whole_table None = None
 whole_table (Some (Ok t)) = Some t
 whole_table (Some (Err found)) = None

@@ -12,12 +12,12 @@ use Rattle.cfm_members.specs.Members.{MemberIs, all_members}
 use Rattle.cfm_members.specs.declared.fault.MemberFault.{MemberFault}
 use Rattle.cfm_members.specs.declared.file_kind.FileKind.{FileKind}
 use Rattle.cfm_members.specs.declared.file_kind.FileKind.TheVariants.{Container}
-use Rattle.cfm_members.specs.declared.fragment_fault.FragmentFault.TheVariants.{Fork, Resource, Member, NoContainer}
+use Rattle.cfm_members.specs.declared.member_lookup_fault.MemberLookupFault.TheVariants.{Fork, Resource, Member, NoContainer}
 use Rattle.mac_rows.specs.DataFiles.{DataFileIs, members_fork}
 use Rattle.mac_rows.specs.MacParts.{MemberTableIs, PlaceIs, WrappingIs, elsewhere, lying, member_table_of, missing, place_of, resources_in, wrapping_of}
 use Rattle.mac_rows.specs.declared.file_finding.FileFinding.{FileFinding}
 use Rattle.mac_rows.specs.declared.file_finding.FileFinding.TheVariants.{Error}
-use Rattle.mac_rows.specs.declared.member_table.Found.{Found}
+use Rattle.mac_rows.specs.declared.member_table.FileError.{FileError}
 
 -- the error of the header of a file or of its rows of entries, and of the entry of a fork
 abbrev pub header_faults : Option ForkFault → List FileFinding
@@ -81,7 +81,7 @@ members_faults t [] = []
 members_faults t (row ∷ rows) = row_faults t row ++ members_faults t rows
 
 -- the error of a table of fragments, or those of its members
-abbrev pub table_faults : Option (Result MemberTableIs Found) → List FileFinding
+abbrev pub table_faults : Option (Result MemberTableIs FileError) → List FileFinding
 table_faults None = []
 table_faults (Some (Ok t)) = members_faults t (all_members t.fragments)
 table_faults (Some (Err found)) = Error found ∷ []

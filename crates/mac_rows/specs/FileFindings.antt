@@ -1,11 +1,11 @@
 -- What is found in a file besides its containers, and how it is printed: a line of text, or an object of JSON.
 use Rattle.std.specs.Prelude.{ℕ, Bool, true, false, List, [], ◌∷◌, ◌++◌, Option, None, Some, codes, decimal}
 use Rattle.std.specs.Option.{is_some}
-use Rattle.cfm_members.specs.FragmentFaults.{fragment_fault_name, fragment_fault_number}
+use Rattle.cfm_members.specs.MemberLookupFaults.{member_lookup_fault_name, member_lookup_fault_number}
 use Rattle.pef_rows.specs.Findings.{at_digits, at_word, shown}
 use Rattle.pef_rows.specs.Objects.{separator}
 use Rattle.pef_rows.specs.Tokens.{number_or_null}
-use Rattle.mac_rows.specs.Founds.{found_offset, found_row, part_key}
+use Rattle.mac_rows.specs.FileErrors.{error_offset, error_row, part_key}
 use Rattle.mac_rows.specs.declared.file_finding.FileFinding.{FileFinding}
 use Rattle.mac_rows.specs.declared.file_finding.FileFinding.TheVariants.{Error, BytesAfterForks, FragmentShort, DataForkElsewhere, NotUnpacked}
 use Rattle.mac_rows.specs.declared.file_finding.OtherFormat.{OtherFormat}
@@ -20,14 +20,14 @@ row_digits (Some row) = decimal row
 
 -- what is printed of an error or a note: its number and name, the part of the file, the number of the member, and the place
 abbrev pub finding_number : FileFinding → ℕ
-finding_number (Error found) = fragment_fault_number found.fault
+finding_number (Error found) = member_lookup_fault_number found.fault
 finding_number (BytesAfterForks at len) = 117
 finding_number (FragmentShort at member len) = 118
 finding_number (DataForkElsewhere at member) = 119
 finding_number (NotUnpacked at format) = 120
 
 abbrev pub finding_name : FileFinding → List ℕ
-finding_name (Error found) = fragment_fault_name found.fault
+finding_name (Error found) = member_lookup_fault_name found.fault
 finding_name (BytesAfterForks at len) = codes "BytesAfterForks"
 finding_name (FragmentShort at member len) = codes "FragmentShort"
 finding_name (DataForkElsewhere at member) = codes "DataForkElsewhere"
@@ -41,14 +41,14 @@ finding_part (DataForkElsewhere at member) = codes "fragment"
 finding_part (NotUnpacked at format) = codes "fork"
 
 abbrev pub finding_row : FileFinding → Option ℕ
-finding_row (Error found) = found_row found.fault
+finding_row (Error found) = error_row found.fault
 finding_row (BytesAfterForks at len) = None
 finding_row (FragmentShort at member len) = Some member
 finding_row (DataForkElsewhere at member) = Some member
 finding_row (NotUnpacked at format) = None
 
 abbrev pub finding_offset : FileFinding → Option ℕ
-finding_offset (Error found) = found_offset found
+finding_offset (Error found) = error_offset found
 finding_offset (BytesAfterForks at len) = Some at
 finding_offset (FragmentShort at member len) = Some at
 finding_offset (DataForkElsewhere at member) = Some at

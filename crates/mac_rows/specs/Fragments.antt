@@ -11,7 +11,7 @@ use Rattle.cfm_members.specs.declared.member.Usage.{Usage}
 use Rattle.cfm_members.specs.declared.member.Usage.TheVariants as usage
 use Rattle.pef_ports.specs.Names.{name_text}
 use Rattle.pef_ports.specs.Text.{word_text}
-use Rattle.pef_rows.specs.Tokens.{at_text, member_text, tag_text}
+use Rattle.pef_rows.specs.Tokens.{at_or_dash, at_text, member_text, tag_text}
 use Rattle.pef_rows.specs.Versions.{version_text}
 use Rattle.pef_rows.specs.Objects.{separator}
 use Rattle.pef_rows.specs.Tokens.{number_or_null}
@@ -49,11 +49,6 @@ name_or_mark (Err fault) = codes "?"
 abbrev pub name_of : Result (List ℕ) MemberFault → Option (List ℕ)
 name_of (Ok name) = Some name
 name_of (Err fault) = None
-
--- an offset in the file, or `-`
-abbrev pub at_or_dash : Option ℕ → List ℕ
-at_or_dash None = codes "-"
-at_or_dash (Some at) = at_text at
 
 -- the word for what a member is for, if the format names it
 abbrev pub usage_word : Usage → Option (List ℕ)

@@ -3,7 +3,7 @@ pub mod Faults
 pub mod FileFindings
 pub mod FileNotes
 pub mod Forks
-pub mod Founds
+pub mod FileErrors
 pub mod Fragments
 pub mod MacParts
 pub mod Records

@@ -15,11 +15,11 @@ use Rattle.mac_resources.specs.declared.fault.ResourceFault.{ResourceFault}
 use Rattle.cfm_members.specs.Forks.{resource_fork_of}
 use Rattle.cfm_members.specs.Members.{MemberIs, TableIs, container_in, locator_of, table_of}
 use Rattle.cfm_members.specs.declared.fault.MemberFault.{MemberFault}
-use Rattle.cfm_members.specs.declared.fragment_fault.FragmentFault.TheVariants.{Member, NoContainer}
+use Rattle.cfm_members.specs.declared.member_lookup_fault.MemberLookupFault.TheVariants.{Member, NoContainer}
 use Rattle.cfm_members.specs.declared.member.Locator.{Locator}
 use Rattle.cfm_members.specs.declared.member.Locator.TheVariants as locator
 use Rattle.mac_rows.specs.Sums.{up_to}
-use Rattle.mac_rows.specs.declared.member_table.Found.{Found}
+use Rattle.mac_rows.specs.declared.member_table.FileError.{FileError}
 
 -- the error of a file's header, where the parts of MacBinary end, the error of its rows of entries, and its forks, each with the
 -- error of its entry
@@ -83,13 +83,13 @@ whole (Err fault) = None
 abbrev pub table_part : ForkIs → Option Lying
 table_part fork = resource_with fork 0x6366_7267 (pos 0) >>= (λ r. whole r.contents)
 
-abbrev pub member_table_with : Option Lying → ℕ → ForkIs → ℕ → Result TableIs MemberFault → Result MemberTableIs Found
+abbrev pub member_table_with : Option Lying → ℕ → ForkIs → ℕ → Result TableIs MemberFault → Result MemberTableIs FileError
 member_table_with data_fork base fork table_base (Ok fragments) =
     Ok (record { data_fork = data_fork; fork_base = base; fork = fork; table_base = table_base; fragments = fragments })
 member_table_with data_fork base fork table_base (Err fault) = Err (record { fault = Member fault; base = table_base })
 
 -- the table of fragments, or its error; none if there is no resource `cfrg` 0
-abbrev pub member_table_of : Option Lying → ℕ → ForkIs → Option (Result MemberTableIs Found)
+abbrev pub member_table_of : Option Lying → ℕ → ForkIs → Option (Result MemberTableIs FileError)
 member_table_of data_fork base fork =
     table_part fork >>= (λ part. Some (member_table_with data_fork base fork (up_to (base + part.offset)) (table_of part.bytes)))
 
@@ -97,7 +97,7 @@ member_table_of data_fork base fork =
 -- is at an offset of the file that has its fork, with these bytes
 pub data PlaceIs : Type 0 where
   elsewhere : PlaceIs
-  missing : Found → PlaceIs
+  missing : FileError → PlaceIs
   lying : ℕ → List ℕ → PlaceIs
 
 -- .. in the data fork. Without one, the data fork is in a file that isn't known

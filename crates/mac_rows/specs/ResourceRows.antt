@@ -10,8 +10,7 @@ use Rattle.cfm_members.specs.Contents.{readable}
 use Rattle.pef_listing.specs.Listing.{magnitude, sign_text}
 use Rattle.pef_ports.specs.Names.{name_text}
 use Rattle.pef_rows.specs.Objects.{separator}
-use Rattle.pef_rows.specs.Tokens.{member_text, number_or_null, tag_text}
-use Rattle.mac_rows.specs.Fragments.{at_or_dash}
+use Rattle.pef_rows.specs.Tokens.{at_or_dash, member_text, number_or_null, tag_text}
 use Rattle.mac_rows.specs.MacParts.{WrappingIs, resources_in}
 use Rattle.mac_rows.specs.Sums.{up_to}
 use Rattle.mac_rows.specs.declared.output_format.OutputFormat.{OutputFormat}

@@ -12,8 +12,8 @@ use Rattle.mac_rows.specs.Records.{RecordIs}
 use Rattle.mac_rows.specs.declared.data_file.DataFile.{DataFile}
 use Rattle.mac_rows.specs.declared.fragments.Fragment.{Fragment}
 use Rattle.mac_rows.specs.declared.member_table.MemberTable.{MemberTable}
-use Rattle.mac_rows.specs.declared.member_table.Place.{Place}
-use Rattle.mac_rows.specs.declared.member_table.Place.TheVariants as place
+use Rattle.mac_rows.specs.declared.member_table.ContainerPlace.{ContainerPlace}
+use Rattle.mac_rows.specs.declared.member_table.ContainerPlace.TheVariants as place
 use Rattle.mac_rows.specs.declared.record.FileRecord.{FileRecord}
 use Rattle.mac_rows.specs.declared.wrapping.Wrapping.{Wrapping}
 
@@ -43,7 +43,7 @@ member_table_seen t = record {
 }
 
 -- where a member's container is
-abbrev pub place_seen : Place → PlaceIs
+abbrev pub place_seen : ContainerPlace → PlaceIs
 place_seen place.Elsewhere = elsewhere
 place_seen (place.Missing found) = missing found
 place_seen (place.Lying at bytes) = lying at bytes.now

@@ -7,10 +7,10 @@ ghost use Rattle.mac_forks.specs.Views.{part_seen};
 ghost use Rattle.mac_rows.specs.DataFiles.{data_fork_in, is_data_fork, is_fork_kind, is_readable_fork, is_resource_file, member_table_in, members_fork, paired_line, paired_object, whole_table};
 ghost use Rattle.mac_rows.specs.Views.{data_file_seen, member_table_seen, wrapping_seen};
 
-use crate::member_table::{Found, MemberTable};
+use crate::member_table::{FileError, MemberTable};
 use crate::wrapping::{Wrapping, resources_in};
 use cfm_members::{FileKind, Forks, readable};
-use mac_forks::{ForkFault, MacFile, Part};
+use mac_forks::{ForkBytes, ForkFault, MacFile};
 use pef_ports::{Page, Sink, StreamFault};
 use pef_rows::{Token, print_tokens};
 
@@ -53,7 +53,7 @@ pub fn is_resource_file(bytes: &[u8]) -> bool
 }
 
 /// Returns whether a resource fork can be read.
-fn is_readable_fork(fork: Option<Part<'_>>) -> bool
+fn is_readable_fork(fork: Option<ForkBytes<'_>>) -> bool
     ensures { result ≡ is_readable_fork (option_map part_seen fork.entry) }
 {
     match fork {
@@ -66,8 +66,8 @@ fn is_readable_fork(fork: Option<Part<'_>>) -> bool
 /// file's own.
 pub(crate) fn members_fork<'a>(
     other: Option<DataFile<'a>>,
-    own: Option<Result<Part<'a>, ForkFault>>,
-) -> Option<Part<'a>>
+    own: Option<Result<ForkBytes<'a>, ForkFault>>,
+) -> Option<ForkBytes<'a>>
     ensures { option_map part_seen result ≡ members_fork (option_map data_file_seen other.entry) (option_map (result_map part_seen) own.entry) }
 {
     match other {
@@ -77,7 +77,7 @@ pub(crate) fn members_fork<'a>(
 }
 
 /// Returns the data fork of a file.
-fn data_fork_in<'a>(bytes: &'a [u8]) -> Option<Part<'a>>
+fn data_fork_in<'a>(bytes: &'a [u8]) -> Option<ForkBytes<'a>>
     ensures { option_map part_seen result ≡ data_fork_in bytes.entry.now (mac_file_of bytes.entry.now) }
 {
     match MacFile::read(bytes) {
@@ -105,7 +105,7 @@ pub(crate) fn member_table_in<'a>(
 }
 
 /// Returns a table of fragments without its error.
-fn whole_table<'a>(table: Option<Result<MemberTable<'a>, Found>>) -> Option<MemberTable<'a>>
+fn whole_table<'a>(table: Option<Result<MemberTable<'a>, FileError>>) -> Option<MemberTable<'a>>
     ensures { option_map member_table_seen result ≡ whole_table (option_map (result_map member_table_seen) table.entry) }
 {
     match table {

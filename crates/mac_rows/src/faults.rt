@@ -29,10 +29,10 @@ ghost use Rattle.mac_rows.specs.Views.{data_file_seen, member_table_seen, place_
 
 use crate::data_file::{DataFile, members_fork};
 use crate::file_finding::FileFinding;
-use crate::member_table::{Found, MemberTable, Place};
+use crate::member_table::{ContainerPlace, FileError, MemberTable};
 use crate::wrapping::{Wrapping, resources_in};
-use cfm_members::{FileKind, FragmentFault, Member, MemberFault, readable};
-use mac_forks::{ForkFault, Part};
+use cfm_members::{FileKind, Member, MemberFault, MemberLookupFault, readable};
+use mac_forks::{ForkBytes, ForkFault};
 use mac_resources::{Resource, ResourceFault, ResourceFork};
 use std::alloc::{AllocError, Allocator};
 
@@ -80,8 +80,8 @@ fn find_in_header<A: Allocator>(
     ensures { OnOk result (found.new.items ≡ found.old.items ++ header_faults fault) }
 {
     if let Some(fault) = fault {
-        found.push(FileFinding::Error(Found {
-            fault: FragmentFault::Fork(fault),
+        found.push(FileFinding::Error(FileError {
+            fault: MemberLookupFault::Fork(fault),
             base: 0,
         }))?;
     }
@@ -90,7 +90,7 @@ fn find_in_header<A: Allocator>(
 
 /// Adds the error of the entry of a fork.
 fn find_in_entry<A: Allocator>(
-    fork: Option<Result<Part<'_>, ForkFault>>,
+    fork: Option<Result<ForkBytes<'_>, ForkFault>>,
     found: &mut Vec<FileFinding, A>,
 ) -> Result<(), AllocError>
     ensures { OnOk result (found.new.items ≡ found.old.items ++ entry_faults (option_map (result_map part_seen) fork.entry)) }
@@ -103,8 +103,8 @@ fn find_in_entry<A: Allocator>(
 
 /// Adds the errors of the resources and the fragments of a file with these forks.
 fn find_in_parts<A: Allocator>(
-    data_fork: Option<Part<'_>>,
-    resource: Option<Part<'_>>,
+    data_fork: Option<ForkBytes<'_>>,
+    resource: Option<ForkBytes<'_>>,
     found: &mut Vec<FileFinding, A>,
 ) -> Result<(), AllocError>
     ensures { OnOk result (found.new.items ≡ found.old.items ++ parts_faults (option_map part_seen data_fork.entry) (option_map part_seen resource.entry)) }
@@ -129,8 +129,8 @@ fn add_resource_fault<A: Allocator>(
     ensures { OnOk result (found.new.items ≡ found.old.items ++ resource_fault_list base fault) }
 {
     if let Some(fault) = fault {
-        found.push(FileFinding::Error(Found {
-            fault: FragmentFault::Resource(fault),
+        found.push(FileFinding::Error(FileError {
+            fault: MemberLookupFault::Resource(fault),
             base,
         }))?;
     }
@@ -139,7 +139,7 @@ fn add_resource_fault<A: Allocator>(
 
 /// Adds the errors of a resource fork, which begins at an offset of the file, and of its table of fragments.
 fn find_in_fork<A: Allocator>(
-    data_fork: Option<Part<'_>>,
+    data_fork: Option<ForkBytes<'_>>,
     base: u64,
     fork: ResourceFork<'_>,
     found: &mut Vec<FileFinding, A>,
@@ -196,7 +196,7 @@ fn name_fault(name: Option<Result<&[u8], ResourceFault>>) -> Option<ResourceFaul
 
 /// Adds the error of a table of fragments, or those of its members.
 fn find_in_table<A: Allocator>(
-    table: Option<Result<MemberTable<'_>, Found>>,
+    table: Option<Result<MemberTable<'_>, FileError>>,
     found: &mut Vec<FileFinding, A>,
 ) -> Result<(), AllocError>
     ensures { OnOk result (found.new.items ≡ found.old.items ++ table_faults (option_map (result_map member_table_seen) table.entry)) }
@@ -247,8 +247,8 @@ fn add_member_fault<A: Allocator>(
     ensures { OnOk result (found.new.items ≡ found.old.items ++ member_fault_list base fault) }
 {
     if let Some(fault) = fault {
-        found.push(FileFinding::Error(Found {
-            fault: FragmentFault::Member(fault),
+        found.push(FileFinding::Error(FileError {
+            fault: MemberLookupFault::Member(fault),
             base,
         }))?;
     }
@@ -271,7 +271,7 @@ fn find_in_member<A: Allocator>(
 
 /// Adds the error of a place where a container should be, and where none begins.
 fn find_at_place<A: Allocator>(
-    place: Place<'_>,
+    place: ContainerPlace<'_>,
     found: &mut Vec<FileFinding, A>,
 ) -> Result<(), AllocError>
     ensures { OnOk result (found.new.items ≡ found.old.items ++ place_faults (place_seen place.entry)) }
@@ -286,18 +286,18 @@ fn find_at_place<A: Allocator>(
 }
 
 /// Returns the error of a place where a container should be, and where none begins.
-fn place_fault(place: Place<'_>) -> Option<FileFinding>
+fn place_fault(place: ContainerPlace<'_>) -> Option<FileFinding>
     ensures { option_to_list result ≡ place_faults (place_seen place.entry) }
 {
     match place {
-        Place::Elsewhere => None,
-        Place::Missing(found) => Some(FileFinding::Error(found)),
-        Place::Lying { at, bytes } => {
+        ContainerPlace::Elsewhere => None,
+        ContainerPlace::Missing(found) => Some(FileFinding::Error(found)),
+        ContainerPlace::Lying { at, bytes } => {
             if matches!(FileKind::of(bytes), FileKind::Container) {
                 return None;
             }
-            Some(FileFinding::Error(Found {
-                fault: FragmentFault::NoContainer,
+            Some(FileFinding::Error(FileError {
+                fault: MemberLookupFault::NoContainer,
                 base: at,
             }))
         }

@@ -5,7 +5,7 @@ ghost use Rattle.pef_rows.specs.Tokens.{token_text};
 ghost use Rattle.pef_rows.specs.Objects.{separator};
 ghost use Rattle.mac_rows.specs.FileFindings.{finding_line, finding_members, finding_name, finding_number, finding_object, finding_offset, finding_part, finding_row, finding_start_line, finding_start_object, finding_tail, finding_text, finding_word, findings_text, format_members, format_word, none_of, opener_word, row_digits};
 
-use crate::member_table::Found;
+use crate::member_table::FileError;
 use crate::output_format::OutputFormat;
 use pef_ports::{Page, Sink, StreamFault, send};
 use pef_rows::{Token, at_digits, at_word, number_or_null, print_separator, print_tokens, text_if};
@@ -14,7 +14,7 @@ use pef_rows::{Token, at_digits, at_word, number_or_null, print_separator, print
 #[derive(Clone, Copy, Debug, PartialEq, Eq)]
 pub enum FileFinding {
     /// An error of the wrapping of the file, of its resources or of its fragments.
-    Error(Found),
+    Error(FileError),
     /// `length` bytes follow the forks of MacBinary.
     BytesAfterForks { at: u64, length: u64 },
     /// The container of a member of the table of fragments needs `length` bytes more than the member has.

@@ -10,10 +10,10 @@ ghost use Rattle.mac_rows.specs.Views.{data_file_seen, member_table_seen, place_
 
 use crate::data_file::{DataFile, member_table_in};
 use crate::file_finding::{FileFinding, OtherFormat};
-use crate::member_table::{MemberTable, Place};
+use crate::member_table::{ContainerPlace, MemberTable};
 use crate::wrapping::Wrapping;
 use cfm_members::{Locator, Member, MemberFault, readable};
-use mac_forks::Part;
+use mac_forks::ForkBytes;
 use pef_format::layout::CONTAINER_HEADER_SIZE;
 use pef_report::needed;
 use pef_words::Cut;
@@ -76,8 +76,8 @@ fn after_note(len: usize, end: Option<usize>) -> Option<FileFinding>
 /// Returns the note on a file of another format: on its data fork, or on all bytes of a file without forks.
 fn unpacked_in(
     bytes: &[u8],
-    data_fork: Option<Part<'_>>,
-    resource_fork: Option<Part<'_>>,
+    data_fork: Option<ForkBytes<'_>>,
+    resource_fork: Option<ForkBytes<'_>>,
 ) -> Option<FileFinding>
     ensures { option_to_list result ≡ unpacked_in bytes.now (option_map part_seen data_fork.entry) (option_map part_seen resource_fork.entry) }
 {
@@ -135,13 +135,17 @@ fn row_note(table: MemberTable<'_>, row: Result<Member<'_>, MemberFault>) -> Opt
 }
 
 /// Returns the note on a member whose container is at a place.
-fn placed_note(table: MemberTable<'_>, member: Member<'_>, place: Place<'_>) -> Option<FileFinding>
+fn placed_note(
+    table: MemberTable<'_>,
+    member: Member<'_>,
+    place: ContainerPlace<'_>,
+) -> Option<FileFinding>
     ensures { option_to_list result ≡ placed_notes (member_table_seen table.entry) (member_seen member.entry) (place_seen place.entry) }
 {
     match place {
-        Place::Elsewhere => absent_note(table, member),
-        Place::Missing(_) => None,
-        Place::Lying { bytes, .. } => {
+        ContainerPlace::Elsewhere => absent_note(table, member),
+        ContainerPlace::Missing(_) => None,
+        ContainerPlace::Lying { bytes, .. } => {
             if member.member < MOST_MEASURED {
                 short_note(table, member, needed(bytes), bytes.len() as u64)
             } else {

@@ -3,15 +3,15 @@ ghost use Rattle.pef_ports.specs.Sent.{Sends};
 ghost use Rattle.mac_forks.specs.Views.{part_seen};
 ghost use Rattle.mac_rows.specs.Forks.{between, fork_line, fork_object, forks_json, forks_lines, maybe_line, maybe_object};
 
-use mac_forks::Part;
+use mac_forks::ForkBytes;
 use pef_ports::{Page, Sink, StreamFault, send};
 use pef_rows::{Token, print_tokens};
 
 /// The forks of a file.
 #[derive(Clone, Copy)]
 pub(crate) struct ForkPair<'a> {
-    pub data_fork: Option<Part<'a>>,
-    pub resource_fork: Option<Part<'a>>,
+    pub data_fork: Option<ForkBytes<'a>>,
+    pub resource_fork: Option<ForkBytes<'a>>,
 }
 
 impl<'a> ForkPair<'a> {
@@ -56,7 +56,7 @@ fn print_line<W: Sink>(
     out: &mut W,
     page: &mut Page,
     word: &[u8],
-    fork: Option<Part<'_>>,
+    fork: Option<ForkBytes<'_>>,
 ) -> Result<(), StreamFault>
     ensures { Sends result (W.stream out.old) (W.stream out.new) page.old.items page.new.items (maybe_line word.now (option_map part_seen fork.entry)) }
 {
@@ -72,7 +72,7 @@ fn print_fork_line<W: Sink>(
     out: &mut W,
     page: &mut Page,
     word: &[u8],
-    part: Part<'_>,
+    part: ForkBytes<'_>,
 ) -> Result<(), StreamFault>
     ensures { Sends result (W.stream out.old) (W.stream out.new) page.old.items page.new.items (fork_line word.now (part_seen part.entry)) }
 {
@@ -95,7 +95,7 @@ fn print_object<W: Sink>(
     out: &mut W,
     page: &mut Page,
     word: &[u8],
-    fork: Option<Part<'_>>,
+    fork: Option<ForkBytes<'_>>,
 ) -> Result<(), StreamFault>
     ensures { Sends result (W.stream out.old) (W.stream out.new) page.old.items page.new.items (maybe_object word.now (option_map part_seen fork.entry)) }
 {
@@ -111,7 +111,7 @@ fn print_fork_object<W: Sink>(
     out: &mut W,
     page: &mut Page,
     word: &[u8],
-    part: Part<'_>,
+    part: ForkBytes<'_>,
 ) -> Result<(), StreamFault>
     ensures { Sends result (W.stream out.old) (W.stream out.new) page.old.items page.new.items (fork_object word.now (part_seen part.entry)) }
 {

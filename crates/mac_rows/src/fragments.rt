@@ -8,17 +8,17 @@ ghost use Rattle.pef_ports.specs.Sent.{Sends};
 ghost use Rattle.pef_rows.specs.Tokens.{token_text};
 ghost use Rattle.pef_rows.specs.Objects.{separator};
 ghost use Rattle.mac_rows.specs.DataFiles.{member_table_in};
-ghost use Rattle.mac_rows.specs.Fragments.{architecture_text, at_or_dash, extent_of, fragment_codes, fragment_fields, fragment_in, fragment_json, fragment_line, fragment_name, fragment_numbers, fragment_of, fragment_place, fragment_text, fragment_use, fragment_versions, fragments_text, maybe_fragment, name_of, name_or_mark, stays_first, table_text, usage_word, where_word, word_or_mark};
+ghost use Rattle.mac_rows.specs.Fragments.{architecture_text, extent_of, fragment_codes, fragment_fields, fragment_in, fragment_json, fragment_line, fragment_name, fragment_numbers, fragment_of, fragment_place, fragment_text, fragment_use, fragment_versions, fragments_text, maybe_fragment, name_of, name_or_mark, stays_first, table_text, usage_word, where_word, word_or_mark};
 ghost use Rattle.mac_rows.specs.MacParts.{wrapping_of};
 ghost use Rattle.mac_rows.specs.Views.{data_file_seen, fragment_seen, member_table_seen, place_seen};
 
 use crate::data_file::{DataFile, member_table_in};
-use crate::member_table::{MemberTable, Place};
+use crate::member_table::{ContainerPlace, MemberTable};
 use crate::output_format::OutputFormat;
 use crate::wrapping::Wrapping;
 use cfm_members::{Locator, Member, MemberFault, Usage};
 use pef_ports::{Page, Sink, StreamFault};
-use pef_rows::{Token, number_or_null, print_separator, print_tokens};
+use pef_rows::{Token, at_or_dash, number_or_null, print_separator, print_tokens};
 
 /// A member of a table of fragments, with its place in the file and that of its container.
 #[derive(Clone, Copy)]
@@ -129,12 +129,12 @@ fn fragment_of<'a>(table: MemberTable<'_>, member: Member<'a>) -> Fragment<'a>
 }
 
 /// Returns the offset in the file of a container and its length, if they are known.
-fn extent_of(place: Place<'_>) -> (Option<u64>, u64)
+fn extent_of(place: ContainerPlace<'_>) -> (Option<u64>, u64)
     ensures { result ≡ extent_of (place_seen place.entry) }
 {
     match place {
-        Place::Lying { at, bytes } => (Some(at), bytes.len() as u64),
-        Place::Elsewhere | Place::Missing(_) => (None, 0),
+        ContainerPlace::Lying { at, bytes } => (Some(at), bytes.len() as u64),
+        ContainerPlace::Elsewhere | ContainerPlace::Missing(_) => (None, 0),
     }
 }
 
@@ -413,16 +413,6 @@ fn name_of<'a>(name: Result<&'a [u8], MemberFault>) -> Option<&'a [u8]>
     match name {
         Ok(name) => Some(name),
         Err(_) => None,
-    }
-}
-
-/// Returns an offset in the file, or `-` if there is none.
-pub(crate) fn at_or_dash(offset: Option<u64>) -> Token<'static>
-    ensures { token_text result ≡ at_or_dash offset }
-{
-    match offset {
-        Some(at) => Token::At(at),
-        None => Token::Text(b"-"),
     }
 }
 

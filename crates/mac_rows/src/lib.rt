@@ -4,10 +4,10 @@
 
 mod data_file;
 mod faults;
+mod file_error;
 mod file_finding;
 mod file_notes;
 mod forks;
-mod found;
 mod fragments;
 mod member_table;
 mod output_format;
@@ -23,7 +23,7 @@ pub use faults::find_faults;
 pub use file_finding::{FileFinding, OtherFormat, none_of, print_findings};
 pub use file_notes::find_notes;
 pub use fragments::print_members;
-pub use member_table::Found;
+pub use member_table::FileError;
 pub use output_format::OutputFormat;
 pub use record::{print_record_line, print_record_member};
 pub use resource_row::print_resources;

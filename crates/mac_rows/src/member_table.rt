@@ -8,8 +8,8 @@ ghost use Rattle.mac_rows.specs.MacParts.{data_place, member_table_of, place_of,
 ghost use Rattle.mac_rows.specs.Sums.{up_to};
 ghost use Rattle.mac_rows.specs.Views.{member_table_seen, place_seen};
 
-use cfm_members::{FragmentFault, FragmentTable, Locator, Member};
-use mac_forks::Part;
+use cfm_members::{FragmentTable, Locator, Member, MemberLookupFault};
+use mac_forks::ForkBytes;
 use mac_resources::{Resource, ResourceFork};
 
 /// The resource of a table of fragments: `cfrg` 0.
@@ -19,8 +19,8 @@ const TABLE_ID: i16 = 0;
 
 /// An error of the wrapping of a file, of its resources or of its fragments.
 #[derive(Clone, Copy, Debug, PartialEq, Eq)]
-pub struct Found {
-    pub fault: FragmentFault,
+pub struct FileError {
+    pub fault: MemberLookupFault,
     /// The offset in the file from which the error's offset counts.
     pub base: u64,
 }
@@ -29,7 +29,7 @@ pub struct Found {
 #[derive(Clone, Copy)]
 pub(crate) struct MemberTable<'a> {
     /// The data fork, which may be in another file.
-    pub data_fork: Option<Part<'a>>,
+    pub data_fork: Option<ForkBytes<'a>>,
     /// Where the resource fork begins in the file.
     pub fork_base: u64,
     pub fork: ResourceFork<'a>,
@@ -40,12 +40,12 @@ pub(crate) struct MemberTable<'a> {
 
 /// Where the container of a member is.
 #[derive(Clone, Copy)]
-pub(crate) enum Place<'a> {
+pub(crate) enum ContainerPlace<'a> {
     /// The table doesn't say where, or it is in a file that isn't known, or in a resource with an error of
     /// its own.
     Elsewhere,
     /// It isn't there.
-    Missing(Found),
+    Missing(FileError),
     /// It is at an offset of the file that has its fork, with these bytes.
     Lying { at: u64, bytes: &'a [u8] },
 }
@@ -53,10 +53,10 @@ pub(crate) enum Place<'a> {
 impl<'a> MemberTable<'a> {
     /// Reads the table of fragments of a resource fork, which begins at an offset of the file. `None` if there is none.
     pub(crate) fn read(
-        data_fork: Option<Part<'a>>,
+        data_fork: Option<ForkBytes<'a>>,
         fork_base: u64,
         fork: ResourceFork<'a>,
-    ) -> Option<Result<MemberTable<'a>, Found>>
+    ) -> Option<Result<MemberTable<'a>, FileError>>
         ensures { option_map (result_map member_table_seen) result ≡ member_table_of (option_map part_seen data_fork.entry) fork_base (fork_seen fork.entry) }
     {
         let part = table_part(fork)?;
@@ -69,15 +69,15 @@ impl<'a> MemberTable<'a> {
                 table_base,
                 fragments,
             })),
-            Err(fault) => Some(Err(Found {
-                fault: FragmentFault::Member(fault),
+            Err(fault) => Some(Err(FileError {
+                fault: MemberLookupFault::Member(fault),
                 base: table_base,
             })),
         }
     }
 
     /// Returns where the container of a member is.
-    pub(crate) fn place_of(self, member: Member<'_>) -> Place<'a>
+    pub(crate) fn place_of(self, member: Member<'_>) -> ContainerPlace<'a>
         ensures { place_seen result ≡ place_of (member_table_seen self.entry) (member_seen member.entry) }
     {
         match member.header.locator() {
@@ -86,52 +86,56 @@ impl<'a> MemberTable<'a> {
                 let id = ((id % 0x1_0000) as u16).cast_signed();
                 self.resource_place(member, self.fork.find(type_code, id))
             }
-            Locator::Memory | Locator::Other(_) => Place::Elsewhere,
+            Locator::Memory | Locator::Other(_) => ContainerPlace::Elsewhere,
         }
     }
 
     /// Returns where the container of a member is, which is in the data fork.
-    fn data_place(self, member: Member<'_>) -> Place<'a>
+    fn data_place(self, member: Member<'_>) -> ContainerPlace<'a>
         ensures { place_seen result ≡ data_place (member_table_seen self.entry) (member_seen member.entry) (member_table_seen self.entry).data_fork }
     {
         let Some(fork) = self.data_fork else {
-            return Place::Elsewhere;
+            return ContainerPlace::Elsewhere;
         };
         match member.container(fork.bytes) {
-            Some(Ok(part)) => Place::Lying {
+            Some(Ok(part)) => ContainerPlace::Lying {
                 at: (fork.offset as u64).saturating_add(part.offset as u64),
                 bytes: part.bytes,
             },
-            Some(Err(fault)) => Place::Missing(Found {
-                fault: FragmentFault::Member(fault),
+            Some(Err(fault)) => ContainerPlace::Missing(FileError {
+                fault: MemberLookupFault::Member(fault),
                 base: self.table_base,
             }),
-            None => Place::Elsewhere,
+            None => ContainerPlace::Elsewhere,
         }
     }
 
     /// Returns where the container of a member is, which is in a resource.
-    fn resource_place(self, member: Member<'_>, resource: Option<Resource<'a>>) -> Place<'a>
+    fn resource_place(
+        self,
+        member: Member<'_>,
+        resource: Option<Resource<'a>>,
+    ) -> ContainerPlace<'a>
         ensures { place_seen result ≡ resource_place (member_table_seen self.entry) (member_seen member.entry) (option_map resource_seen resource.entry) }
     {
         let Some(resource) = resource else {
-            return Place::Missing(Found {
-                fault: FragmentFault::NoContainer,
+            return ContainerPlace::Missing(FileError {
+                fault: MemberLookupFault::NoContainer,
                 base: self.table_base.saturating_add(member.offset as u64),
             });
         };
         match resource.contents {
-            Ok(part) => Place::Lying {
+            Ok(part) => ContainerPlace::Lying {
                 at: self.fork_base.saturating_add(part.offset as u64),
                 bytes: part.bytes,
             },
-            Err(_) => Place::Elsewhere,
+            Err(_) => ContainerPlace::Elsewhere,
         }
     }
 }
 
 /// Returns the bytes of the resource `cfrg` 0.
-fn table_part<'a>(fork: ResourceFork<'a>) -> Option<Part<'a>>
+fn table_part<'a>(fork: ResourceFork<'a>) -> Option<ForkBytes<'a>>
     ensures { option_map part_seen result ≡ table_part (fork_seen fork.entry) }
 {
     match fork.find(TABLE_TYPE, TABLE_ID)?.contents {

@@ -10,7 +10,7 @@ ghost use Rattle.mac_rows.specs.Records.{apple_dates, date_digits, date_opened, 
 ghost use Rattle.mac_rows.specs.Views.{record_seen};
 
 use cfm_members::readable;
-use mac_forks::{AppleDates, FinderInfo, ForkFault, MacFile, Part};
+use mac_forks::{AppleDates, FinderInfo, ForkBytes, ForkFault, MacFile};
 use pef_ports::{Page, Sink, StreamFault, send};
 use pef_rows::{Token, number_or_null, print_tokens, text_if};
 
@@ -105,7 +105,7 @@ pub fn print_record_member<W: Sink>(
 }
 
 /// Returns the bytes of a part.
-fn bytes_of<'a>(part: Option<Part<'a>>) -> Option<&'a [u8]>
+fn bytes_of<'a>(part: Option<ForkBytes<'a>>) -> Option<&'a [u8]>
     ensures { option_copied result ≡ option_map (λ part. part.bytes) (option_map part_seen part.entry) }
 {
     match part {

@@ -8,19 +8,17 @@ ghost use Rattle.mac_forks.specs.Views.{part_seen};
 ghost use Rattle.mac_resources.specs.Resources.{all_resources};
 ghost use Rattle.mac_resources.specs.Views.{fork_seen, name_seen, resource_seen, row_seen};
 ghost use Rattle.pef_rows.specs.Objects.{separator};
-ghost use Rattle.pef_rows.specs.Tokens.{token_text};
-ghost use Rattle.mac_rows.specs.Fragments.{at_or_dash};
+ghost use Rattle.pef_rows.specs.Tokens.{at_or_dash, token_text};
 ghost use Rattle.mac_rows.specs.MacParts.{wrapping_of};
 ghost use Rattle.mac_rows.specs.ResourceRows.{contents_at, contents_size, fork_text, known_name, name_if, name_word, part_text, resource_back, resource_front, resource_line, resource_object, resource_rest, resource_start, resource_text, resources_of, resources_text, row_text, still_first};
 
-use crate::fragments::at_or_dash;
 use crate::output_format::OutputFormat;
 use crate::wrapping::{Wrapping, resources_in};
 use cfm_members::readable;
-use mac_forks::Part;
+use mac_forks::ForkBytes;
 use mac_resources::{Resource, ResourceFault, ResourceFork};
 use pef_ports::{Page, Sink, StreamFault};
-use pef_rows::{Token, magnitude, number_or_null, print_separator, print_tokens, sign};
+use pef_rows::{Token, at_or_dash, magnitude, number_or_null, print_separator, print_tokens, sign};
 
 /// Prints the resources of a file whose rows can be read.
 pub fn print_resources<W: Sink>(
@@ -39,7 +37,7 @@ fn print_part<W: Sink>(
     out: &mut W,
     page: &mut Page,
     form: OutputFormat,
-    part: Option<Part<'_>>,
+    part: Option<ForkBytes<'_>>,
 ) -> Result<(), StreamFault>
     ensures { Sends result (W.stream out.old) (W.stream out.new) page.old.items page.new.items (part_text form (option_map part_seen part.entry)) }
 {
@@ -251,7 +249,7 @@ fn print_back<W: Sink>(
 }
 
 /// Returns the offset in the file of the bytes of a resource, if they are there.
-fn contents_at(base: u64, contents: Result<Part<'_>, ResourceFault>) -> Option<u64>
+fn contents_at(base: u64, contents: Result<ForkBytes<'_>, ResourceFault>) -> Option<u64>
     ensures { result ≡ contents_at base (result_map part_seen contents.entry) }
 {
     match contents {
@@ -261,7 +259,7 @@ fn contents_at(base: u64, contents: Result<Part<'_>, ResourceFault>) -> Option<u
 }
 
 /// Returns how many bytes of a resource are there.
-fn contents_size(contents: Result<Part<'_>, ResourceFault>) -> u64
+fn contents_size(contents: Result<ForkBytes<'_>, ResourceFault>) -> u64
     ensures { result ≡ contents_size (result_map part_seen contents.entry) }
 {
     match contents {

@@ -12,7 +12,7 @@ ghost use Rattle.mac_rows.specs.Views.{wrapping_seen};
 
 use crate::forks::ForkPair;
 use cfm_members::{Forks, readable};
-use mac_forks::{AppleFile, ForkFault, MacBinaryCuts, MacFile, NO_CUTS, Part};
+use mac_forks::{AppleFile, ForkBytes, ForkFault, MacBinaryCuts, MacFile, NO_CUTS};
 use mac_resources::{ResourceFault, ResourceFork};
 use pef_ports::{Page, Sink, StreamFault};
 
@@ -26,8 +26,8 @@ pub(crate) struct Wrapping<'a> {
     pub end: Option<usize>,
     /// The error of the first row of an entry that passes the end.
     pub cut: Option<ForkFault>,
-    pub data_fork: Option<Result<Part<'a>, ForkFault>>,
-    pub resource_fork: Option<Result<Part<'a>, ForkFault>>,
+    pub data_fork: Option<Result<ForkBytes<'a>, ForkFault>>,
+    pub resource_fork: Option<Result<ForkBytes<'a>, ForkFault>>,
 }
 
 impl<'a> Wrapping<'a> {
@@ -71,7 +71,7 @@ impl<'a> Wrapping<'a> {
 }
 
 /// Returns the data fork of a file, unless the file is nothing else.
-fn wrapped_data<'a>(file: &MacFile<'a>) -> Option<Result<Part<'a>, ForkFault>>
+fn wrapped_data<'a>(file: &MacFile<'a>) -> Option<Result<ForkBytes<'a>, ForkFault>>
     ensures { option_map (result_map part_seen) result ≡ wrapped_data (mac_file_seen file.now) }
 {
     match file {
@@ -114,7 +114,9 @@ fn row_error_at(file: &AppleFile<'_>, i: u16) -> Option<ForkFault>
 }
 
 /// Reads a resource fork. One without bytes has no resources, and no error.
-pub(crate) fn resources_in<'a>(part: Part<'a>) -> Option<Result<ResourceFork<'a>, ResourceFault>>
+pub(crate) fn resources_in<'a>(
+    part: ForkBytes<'a>,
+) -> Option<Result<ResourceFork<'a>, ResourceFault>>
     ensures { option_map (result_map fork_seen) result ≡ resources_in (part_seen part.entry) }
 {
     if part.bytes.is_empty() {

@@ -1,4 +1,4 @@
-use mac_forks::{ForkFault, Part};
+use mac_forks::{ForkBytes, ForkFault};
 use std::alloc::Global;
 use test_data::changes::{At, change};
 
@@ -34,7 +34,7 @@ pub(crate) fn rewritten(
 
 /// Returns whether a part is there, begins at an offset and has some bytes.
 pub(crate) fn is_part(
-    part: Option<Result<Part<'_>, ForkFault>>,
+    part: Option<Result<ForkBytes<'_>, ForkFault>>,
     offset: usize,
     bytes: &[u8],
 ) -> bool {
@@ -45,7 +45,7 @@ pub(crate) fn is_part(
 }
 
 /// Returns the error of a part, or `None` if it is there or there is none.
-pub(crate) fn part_fault(part: Option<Result<Part<'_>, ForkFault>>) -> Option<ForkFault> {
+pub(crate) fn part_fault(part: Option<Result<ForkBytes<'_>, ForkFault>>) -> Option<ForkFault> {
     match part {
         Some(Err(fault)) => Some(fault),
         _ => None,

@@ -4,9 +4,9 @@ use Rattle.pef_refusals.specs.Names.{closure_name, container_name, loader_name, 
 use Rattle.cfm_closure.specs.Faults as bind
 use Rattle.cfm_closure.specs.declared.fault.BindFault.{BindFault}
 use Rattle.cfm_closure.specs.declared.fault.BindFault.TheVariants as bind_fault
-use Rattle.cfm_members.specs.FragmentFaults.{fragment_fault_name, fragment_fault_number}
-use Rattle.cfm_members.specs.declared.fragment_fault.FragmentFault.{FragmentFault}
-use Rattle.cfm_members.specs.declared.fragment_fault.FragmentFault.TheVariants as file_fault
+use Rattle.cfm_members.specs.MemberLookupFaults.{member_lookup_fault_name, member_lookup_fault_number}
+use Rattle.cfm_members.specs.declared.member_lookup_fault.MemberLookupFault.{MemberLookupFault}
+use Rattle.cfm_members.specs.declared.member_lookup_fault.MemberLookupFault.TheVariants as file_fault
 use Rattle.cfm_prepare.specs.Faults as prepare
 use Rattle.cfm_prepare.specs.FragmentFaults as fragment
 use Rattle.cfm_prepare.specs.declared.fault.PrepareFault.{PrepareFault}
@@ -164,7 +164,7 @@ listing-named (list_fault.View f) = view-named f
 listing-named (list_fault.Loader f place) = loader-named f
 listing-named (list_fault.Reloc program) = reloc-named program.fault
 
-file-named : (f : FragmentFault) → name_of (fragment_fault_number f) ≡ Some (fragment_fault_name f)
+file-named : (f : MemberLookupFault) → name_of (member_lookup_fault_number f) ≡ Some (member_lookup_fault_name f)
 unfolding mac_name
 file-named (file_fault.Fork f) = fork-named f
 file-named (file_fault.Resource f) = resource-named f

@@ -1,7 +1,7 @@
 -- Any error of the product, with its number and its name (docs/ERRORS.md). They are those of the crate that finds it;
 -- 52, 71 and 72 are found by commands alone.
 use Rattle.std.specs.Prelude.{ℕ, List, Option, None, Some, codes}
-use Rattle.cfm_members.specs.FragmentFaults as members
+use Rattle.cfm_members.specs.MemberLookupFaults as members
 use Rattle.cfm_prepare.specs.Faults as prepare
 use Rattle.pef_cert.specs.Text.Faults as cert
 use Rattle.pef_listing.specs.Faults as listing
@@ -20,7 +20,7 @@ fault_number (Certificate fault) = cert.fault_number fault
 fault_number SectionsDiffer = 52
 fault_number (Input fault) = input.fault_number fault
 fault_number (Prepare fault) = prepare.fault_number fault
-fault_number (Fragment fault) = members.fragment_fault_number fault
+fault_number (Fragment fault) = members.member_lookup_fault_number fault
 fault_number (Unreadable path reason) = 71
 fault_number (Unwritable path reason) = 72
 fault_number OutOfMemory = 99
@@ -33,7 +33,7 @@ fault_name (Certificate fault) = cert.fault_name fault
 fault_name SectionsDiffer = codes "SectionsDiffer"
 fault_name (Input fault) = input.fault_name fault
 fault_name (Prepare fault) = prepare.fault_name fault
-fault_name (Fragment fault) = members.fragment_fault_name fault
+fault_name (Fragment fault) = members.member_lookup_fault_name fault
 fault_name (Unreadable path reason) = codes "FileUnreadable"
 fault_name (Unwritable path reason) = codes "FileUnwritable"
 fault_name OutOfMemory = codes "OutOfMemory"

@@ -1,7 +1,7 @@
 ghost use Rattle.std.specs.Prelude.{◌≡◌, option_map};
 ghost use Rattle.pef_faults.specs.Faults.{fault_line, fault_name, fault_number, fault_path, fault_reason};
 
-use cfm_members::FragmentFault;
+use cfm_members::MemberLookupFault;
 use cfm_prepare::PrepareFault;
 use pef_cert::CertFault;
 use pef_listing::ListFault;
@@ -25,7 +25,7 @@ pub enum Fault<'a> {
     /// A fragment isn't prepared.
     Prepare(PrepareFault<'a>),
     /// The container of a fragment isn't found in a file.
-    Fragment(FragmentFault),
+    Fragment(MemberLookupFault),
     /// The file at this path couldn't be read, for this reason.
     Unreadable { path: &'a [u8], reason: FileReason },
     /// The file at this path couldn't be written, for this reason.
@@ -173,13 +173,13 @@ impl<'a> From<PrepareFault<'a>> for Fault<'a> {
     }
 }
 
-impl<'a> From<FragmentFault> for Fault<'a> {
+impl<'a> From<MemberLookupFault> for Fault<'a> {
     ghost use Rattle.std.specs.Prelude.{◌≡◌};
     ghost use Rattle.pef_faults.specs.declared.fault.Fault.TheVariants.{Fragment};
 
     ghost from_gives = { λ fault e. e ≡ Fragment fault };
 
-    fn from(fault: FragmentFault) -> Fault<'a> {
+    fn from(fault: MemberLookupFault) -> Fault<'a> {
         Fault::Fragment(fault)
     }
 }

@@ -1,7 +1,7 @@
 //! Any error of the product: its number, its name, the names of fragments, libraries and symbols that it gives, and what
 //! is known of it beyond these.
 //!
-//! [`Fault`] holds what the other crates report. Commands and the library for C ask it alone. A [`Note`] is what is known
+//! [`Fault`] holds what the other crates report. Commands and the library for C ask it alone. A [`Explanation`] is what is known
 //! beyond the line of an error, and [`print_note`] says it.
 #![tactic(auto)]
 
@@ -13,4 +13,4 @@ pub mod theorems;
 
 pub use fault::Fault;
 pub use names::Names;
-pub use notes::{Excerpt, Note, Reason, ScriptNote, note_of, print_note};
+pub use notes::{Excerpt, Explanation, Reason, ScriptNote, note_of, print_note};

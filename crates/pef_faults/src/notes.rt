@@ -25,7 +25,7 @@ const FOLDER: &[u8] =
 
 /// What is known of an error beyond its line.
 #[derive(Clone, Copy, Debug, PartialEq, Eq)]
-pub enum Note {
+pub enum Explanation {
     /// No more than the line says.
     Nothing,
     /// Where it is in a container.
@@ -53,7 +53,7 @@ pub enum Note {
 
 /// Returns what is known of an error beyond its line.
 #[tactic(auto, unfolding(crate::specs::Notes::Notes::note_of))]
-pub fn note_of(fault: &Fault<'_>) -> Note
+pub fn note_of(fault: &Fault<'_>) -> Explanation
     ensures { result ≡ note_of fault.now }
 {
     match fault {
@@ -61,17 +61,17 @@ pub fn note_of(fault: &Fault<'_>) -> Note
         Fault::Listing(fault) => list_note(*fault),
         Fault::Prepare(fault) => prepare_note(fault),
         Fault::Unreadable { reason, .. } => unread_note(*reason),
-        Fault::Unwritable { reason, .. } => Note::File(*reason),
+        Fault::Unwritable { reason, .. } => Explanation::File(*reason),
         Fault::Certificate(_)
         | Fault::SectionsDiffer
         | Fault::Input(_)
         | Fault::Fragment(_)
-        | Fault::OutOfMemory => Note::Nothing,
+        | Fault::OutOfMemory => Explanation::Nothing,
     }
 }
 
 /// Returns what is known of a script that is refused.
-fn script_fault_note(fault: ScriptFault, text: &[u8]) -> Note
+fn script_fault_note(fault: ScriptFault, text: &[u8]) -> Explanation
     ensures { result ≡ script_fault_note fault text.now }
 {
     match fault {
@@ -80,17 +80,17 @@ fn script_fault_note(fault: ScriptFault, text: &[u8]) -> Note
             line,
             earlier,
             ..
-        } => Note::Script(script_note(fault, line, earlier, text)),
-        ScriptFault::OutOfMemory => Note::Nothing,
+        } => Explanation::Script(script_note(fault, line, earlier, text)),
+        ScriptFault::OutOfMemory => Explanation::Nothing,
     }
 }
 
 /// Returns what is known of a container that can't be listed.
-fn list_note(fault: ListFault) -> Note
+fn list_note(fault: ListFault) -> Explanation
     ensures { result ≡ list_note fault }
 {
     match fault {
-        ListFault::Reloc(program) => Note::Program {
+        ListFault::Reloc(program) => Explanation::Program {
             place: program.place,
             section: program.section,
             word: program.fault.word(),
@@ -100,7 +100,7 @@ fn list_note(fault: ListFault) -> Note
 }
 
 /// Returns what is known of a fragment that isn't prepared.
-fn prepare_note(fault: &PrepareFault<'_>) -> Note
+fn prepare_note(fault: &PrepareFault<'_>) -> Explanation
     ensures { result ≡ prepare_note fault.now }
 {
     match fault {
@@ -110,12 +110,12 @@ fn prepare_note(fault: &PrepareFault<'_>) -> Note
         | PrepareFault::RootMissing
         | PrepareFault::TooManyBytes { .. }
         | PrepareFault::TooManyStepsInAll { .. }
-        | PrepareFault::OutOfMemory => Note::Nothing,
+        | PrepareFault::OutOfMemory => Explanation::Nothing,
     }
 }
 
 /// Returns what is known of a fragment that has no closure.
-fn bind_note(fault: &BindFault<'_>) -> Note
+fn bind_note(fault: &BindFault<'_>) -> Explanation
     ensures { result ≡ bind_note fault.now }
 {
     match fault {
@@ -130,7 +130,7 @@ fn bind_note(fault: &BindFault<'_>) -> Note
             needed,
             found,
             ..
-        } => Note::Versions {
+        } => Explanation::Versions {
             place: *place,
             needed: *needed,
             found: *found,
@@ -140,7 +140,7 @@ fn bind_note(fault: &BindFault<'_>) -> Note
 }
 
 /// Returns what is known of a new fragment of a closure that isn't prepared.
-fn fragment_note(fault: &FragmentFault<'_>) -> Note
+fn fragment_note(fault: &FragmentFault<'_>) -> Explanation
     ensures { result ≡ fragment_note fault.now }
 {
     match fault {
@@ -149,7 +149,7 @@ fn fragment_note(fault: &FragmentFault<'_>) -> Note
             section,
             place,
             ..
-        } => Note::Program {
+        } => Explanation::Program {
             place: *place,
             section: *section,
             word: fault.word(),
@@ -159,46 +159,50 @@ fn fragment_note(fault: &FragmentFault<'_>) -> Note
 }
 
 /// Returns what is known of a file that couldn't be read.
-fn unread_note(reason: FileReason) -> Note
+fn unread_note(reason: FileReason) -> Explanation
     ensures { result ≡ unread_note reason }
 {
     match reason {
-        FileReason::Folder => Note::Folder,
+        FileReason::Folder => Explanation::Folder,
         FileReason::Missing
         | FileReason::Forbidden
         | FileReason::Full
         | FileReason::NotUtf8
         | FileReason::TooLong
-        | FileReason::Other => Note::File(reason),
+        | FileReason::Other => Explanation::File(reason),
     }
 }
 
 /// Returns the note of a place, if there is one.
-fn place_note(place: Option<Place>) -> Note
+fn place_note(place: Option<Place>) -> Explanation
     ensures { result ≡ place_note place }
 {
     match place {
-        Some(place) => Note::Place(place),
-        None => Note::Nothing,
+        Some(place) => Explanation::Place(place),
+        None => Explanation::Nothing,
     }
 }
 
 /// Ends the line of the help, and then prints what is known.
-pub fn print_note<W: Sink>(out: &mut W, page: &mut Page, note: &Note) -> Result<(), StreamFault>
+pub fn print_note<W: Sink>(
+    out: &mut W,
+    page: &mut Page,
+    note: &Explanation,
+) -> Result<(), StreamFault>
     ensures { Sends result (W.stream out.old) (W.stream out.new) page.old.items page.new.items (note_text note.now) }
 {
     match note {
-        Note::Nothing => send(out, page, b"\n"),
-        Note::Place(place) => {
+        Explanation::Nothing => send(out, page, b"\n"),
+        Explanation::Place(place) => {
             send(out, page, b"\n")?;
             print_place(out, page, *place)
         }
-        Note::Program {
+        Explanation::Program {
             place,
             section,
             word,
         } => print_program(out, page, *place, *section, *word),
-        Note::Versions {
+        Explanation::Versions {
             place,
             needed,
             found,
@@ -206,9 +210,9 @@ pub fn print_note<W: Sink>(out: &mut W, page: &mut Page, note: &Note) -> Result<
             print_versions(out, page, *needed, *found)?;
             print_place(out, page, *place)
         }
-        Note::Script(note) => print_script_note(out, page, note),
-        Note::File(reason) => send(out, page, reason_text(*reason)),
-        Note::Folder => send(out, page, FOLDER),
+        Explanation::Script(note) => print_script_note(out, page, note),
+        Explanation::File(reason) => send(out, page, reason_text(*reason)),
+        Explanation::Folder => send(out, page, FOLDER),
     }
 }
 

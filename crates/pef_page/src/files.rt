@@ -8,7 +8,7 @@ ghost use Rattle.pef_page.specs.Files.{entry_of, error_row, fork_row, fork_rows,
 use crate::row::{PageRow, number_or_none};
 use crate::table::{Rows, Table, fill_from, fill_table};
 use cfm_members::{Containers, Forks};
-use mac_forks::{ForkFault, MacFile, Part};
+use mac_forks::{ForkBytes, ForkFault, MacFile};
 
 /// Nothing is there.
 const NOT_THERE: u64 = 201;
@@ -48,7 +48,7 @@ pub extern "C" fn page_containers<'a>(
 ) -> u32
     ensures { TableAnswers (place_rows bytes.entry.now) from (map row_shown places.old) (map row_shown places.new) count.old count.new result }
 {
-    let found = Found {
+    let found = ContainerRows {
         containers: Containers::new(bytes),
     };
     *count = fill_from(found, from, places);
@@ -114,7 +114,7 @@ fn fork_row<'a>(bytes: &'a [u8], file: &MacFile<'a>, i: usize) -> PageRow<'a>
 }
 
 /// Returns a part as a row.
-fn part_cells<'a>(part: Option<Result<Part<'a>, ForkFault>>) -> PageRow<'a>
+fn part_cells<'a>(part: Option<Result<ForkBytes<'a>, ForkFault>>) -> PageRow<'a>
     ensures { row_shown result ≡ part_cells (option_map (result_map part_seen) part.entry) }
 {
     match part {
@@ -124,7 +124,7 @@ fn part_cells<'a>(part: Option<Result<Part<'a>, ForkFault>>) -> PageRow<'a>
 }
 
 /// Returns a part that the file has, or its error, as a row.
-fn part_or_error<'a>(part: Result<Part<'a>, ForkFault>) -> PageRow<'a>
+fn part_or_error<'a>(part: Result<ForkBytes<'a>, ForkFault>) -> PageRow<'a>
     ensures { row_shown result ≡ part_or_error (result_map part_seen part.entry) }
 {
     match part {
@@ -191,11 +191,11 @@ fn header_cells<'a>(fault: Option<ForkFault>) -> PageRow<'a>
 
 /// The places of containers that are left.
 #[derive(Clone, Copy)]
-struct Found<'a> {
+struct ContainerRows<'a> {
     containers: Containers<'a>,
 }
 
-impl<'a> Rows<'a> for Found<'a> {
+impl<'a> Rows<'a> for ContainerRows<'a> {
     ghost use Rattle.std.specs.Prelude.{map};
     ghost use Rattle.cfm_members.specs.Views.{places_left};
     ghost use Rattle.pef_page.specs.Files.{place_row};

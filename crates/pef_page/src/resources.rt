@@ -9,7 +9,7 @@ ghost use Rattle.pef_page.specs.Resources.{contents_bytes, contents_error, conte
 
 use crate::row::{PageRow, number_or_none};
 use crate::table::{Rows, fill_from};
-use mac_forks::Part;
+use mac_forks::ForkBytes;
 use mac_resources::{Resource, ResourceFault, ResourceFork, Resources};
 
 /// Reads the resources of a resource fork: the name, the bytes, and 0 or the number of the error of the row or the bytes, the
@@ -28,7 +28,7 @@ pub extern "C" fn page_resources<'a>(
 {
     match ResourceFork::read(fork) {
         Ok(fork) => {
-            let found = Found {
+            let found = ResourceRows {
                 resources: fork.resources(),
             };
             *count = fill_from(found, from, places);
@@ -40,11 +40,11 @@ pub extern "C" fn page_resources<'a>(
 
 /// The resources that are left.
 #[derive(Clone, Copy)]
-struct Found<'a> {
+struct ResourceRows<'a> {
     resources: Resources<'a>,
 }
 
-impl<'a> Rows<'a> for Found<'a> {
+impl<'a> Rows<'a> for ResourceRows<'a> {
     ghost use Rattle.std.specs.Prelude.{map};
     ghost use Rattle.mac_resources.specs.Views.{left};
     ghost use Rattle.pef_page.specs.Resources.{resource_row};
@@ -127,7 +127,7 @@ fn resource_name_offset(name: Option<Result<&[u8], ResourceFault>>) -> Option<us
 }
 
 /// Returns the bytes of a resource, if they are there.
-fn contents_bytes<'a>(contents: Result<Part<'a>, ResourceFault>) -> Option<&'a [u8]>
+fn contents_bytes<'a>(contents: Result<ForkBytes<'a>, ResourceFault>) -> Option<&'a [u8]>
     ensures { option_copied result ≡ contents_bytes (result_map part_seen contents.entry) }
 {
     match contents {
@@ -137,7 +137,7 @@ fn contents_bytes<'a>(contents: Result<Part<'a>, ResourceFault>) -> Option<&'a [
 }
 
 /// Returns 0, or the number of the error of a resource's bytes.
-fn contents_error(contents: Result<Part<'_>, ResourceFault>) -> u64
+fn contents_error(contents: Result<ForkBytes<'_>, ResourceFault>) -> u64
     ensures { result ≡ contents_error (result_map part_seen contents.entry) }
 {
     match contents {
@@ -147,7 +147,7 @@ fn contents_error(contents: Result<Part<'_>, ResourceFault>) -> u64
 }
 
 /// Returns the offset of the error of a resource's bytes.
-fn contents_error_offset(contents: Result<Part<'_>, ResourceFault>) -> Option<usize>
+fn contents_error_offset(contents: Result<ForkBytes<'_>, ResourceFault>) -> Option<usize>
     ensures { result ≡ contents_error_offset (result_map part_seen contents.entry) }
 {
     match contents {
@@ -157,7 +157,7 @@ fn contents_error_offset(contents: Result<Part<'_>, ResourceFault>) -> Option<us
 }
 
 /// Returns the offset of a resource's bytes, or 0.
-fn contents_offset(contents: Result<Part<'_>, ResourceFault>) -> u64
+fn contents_offset(contents: Result<ForkBytes<'_>, ResourceFault>) -> u64
     ensures { result ≡ contents_offset (result_map part_seen contents.entry) }
 {
     match contents {

@@ -7,6 +7,7 @@ use Rattle.pef_format.specs.declared.place.Part.{Part}
 use Rattle.pef_format.specs.declared.place.Part.TheVariants as part
 use Rattle.pef_views.specs.Container.{Contained}
 use Rattle.pef_views.specs.Partial as views
+use Rattle.pef_format.specs.Rows.{named}
 use Rattle.pef_loader.specs.Header.{imports_from, library_place, relocs_from}
 use Rattle.pef_loader.specs.Loader.{Loaded}
 use Rattle.pef_loader.specs.CutNames.{CutName}
@@ -101,10 +102,10 @@ loader_row_line r = r.container >>= (λ c. r.loader >>= (λ l.
 
 abbrev pub library_row_line : Readable → ℕ → Option (List ℕ)
 library_row_line r i = r.container >>= (λ c. r.loader >>= (λ l. library_shown l i >>= (λ row.
-    Some (library_line (row_offset r c part.Library i) row.name row.current row.old_imp row.options row.count row.first))))
+    Some (library_line (row_offset r c part.Library i) row))))
 
 abbrev pub import_line_in : Loaded → ℕ → ℕ → Option (List ℕ)
-import_line_in l at j = import_shown l j >>= (λ row. Some (import_line at j row.name (library_name l row.library) row.class row.weak))
+import_line_in l at j = import_shown l j >>= (λ row. Some (import_line at j row (library_name l row.library)))
 
 abbrev pub import_row_line : Readable → ℕ → Option (List ℕ)
 import_row_line r j = r.container >>= (λ c. r.loader >>= (λ l. import_line_in l (row_offset r c part.Import j) j))
@@ -127,7 +128,7 @@ relocation_row_line r k = r.container >>= (λ c. r.loader >>= (λ l. relocation_
 
 abbrev pub export_row_line : Readable → ℕ → Option (List ℕ)
 export_row_line r i = r.container >>= (λ c. r.loader >>= (λ l. export_row l i >>= (λ row.
-    Some (export_line (row_offset r c part.Export i) (row_name row.name) row.class row.section row.value))))
+    Some (export_line (row_offset r c part.Export i) (named row_name row)))))
 
 -- the line of row i of a kind, if it can be read
 unfoldable pub line_at : Readable → Part → ℕ → Option (List ℕ)
@@ -160,10 +161,10 @@ loader_row_object r = r.container >>= (λ c. r.loader >>= (λ l.
 
 abbrev pub library_row_object : Readable → ℕ → Option (List ℕ)
 library_row_object r i = r.container >>= (λ c. r.loader >>= (λ l. library_shown l i >>= (λ row.
-    Some (library_object (row_offset r c part.Library i) row.name row.current row.old_imp row.options row.count row.first))))
+    Some (library_object (row_offset r c part.Library i) row))))
 
 abbrev pub import_object_in : Loaded → ℕ → ℕ → Option (List ℕ)
-import_object_in l at j = import_shown l j >>= (λ row. Some (import_object at row.name row.library row.class row.weak))
+import_object_in l at j = import_shown l j >>= (λ row. Some (import_object at row))
 
 abbrev pub import_row_object : Readable → ℕ → Option (List ℕ)
 import_row_object r j = r.container >>= (λ c. r.loader >>= (λ l. import_object_in l (row_offset r c part.Import j) j))
@@ -186,7 +187,7 @@ relocation_row_object r k = r.container >>= (λ c. r.loader >>= (λ l. relocatio
 
 abbrev pub export_row_object : Readable → ℕ → Option (List ℕ)
 export_row_object r i = r.container >>= (λ c. r.loader >>= (λ l. export_row l i >>= (λ row.
-    Some (export_object (row_offset r c part.Export i) (row_name row.name) row.class row.section row.value))))
+    Some (export_object (row_offset r c part.Export i) (named row_name row)))))
 
 -- the object of row i of a kind, if it can be read
 unfoldable pub object_at : Readable → Part → ℕ → Option (List ℕ)

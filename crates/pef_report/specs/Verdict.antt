@@ -11,6 +11,7 @@ use Rattle.pef_views.specs.Partial.{header_in, partial_of}
 use Rattle.pef_views.specs.declared.fault.ViewFault.{ViewFault}
 use Rattle.pef_views.specs.declared.section.SectionHeader.{SectionHeader}
 use Rattle.pef_rows.specs.Findings.{shown}
+use Rattle.pef_rows.specs.Tokens.{truth}
 use Rattle.pef_report.specs.declared.verdict.Group.{Group}
 use Rattle.pef_report.specs.declared.verdict.Group.TheVariants as group
 use Rattle.pef_report.specs.declared.verdict.Verdict.{Verdict}
@@ -94,9 +95,6 @@ state_word v = if nat_lt v.has v.needs then codes "cut" else if v.errors then co
 abbrev pub part_state : Bool → List ℕ
 part_state damaged = if damaged then codes "damaged" else codes "whole"
 
-abbrev pub bool_word : Bool → List ℕ
-bool_word answer = if answer then codes "true" else codes "false"
-
 -- the line of a verdict
 unfoldable pub verdict_line : Verdict → List ℕ
 verdict_line v = codes "verdict " ++ state_word v ++ codes " needs " ++ decimal v.needs ++ codes " has " ++ decimal v.has
@@ -109,4 +107,4 @@ unfoldable pub verdict_object : Verdict → List ℕ
 verdict_object v = codes "],\"verdict\":{\"state\":\"" ++ state_word v ++ codes "\",\"needs\":" ++ decimal v.needs ++ codes ",\"has\":" ++ decimal v.has
     ++ codes ",\"sections\":\"" ++ part_state v.sections ++ codes "\",\"imports\":\"" ++ part_state v.imports
     ++ codes "\",\"exports\":\"" ++ part_state v.exports ++ codes "\",\"relocations\":\"" ++ part_state v.relocations
-    ++ codes "\",\"as_text\":" ++ bool_word v.as_text ++ codes "}}"
+    ++ codes "\",\"as_text\":" ++ truth v.as_text ++ codes "}}"

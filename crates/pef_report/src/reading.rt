@@ -13,8 +13,8 @@ ghost use Rattle.pef_report.specs.Readable.{export_row_line, export_row_object, 
 ghost use Rattle.pef_rows.specs.Tokens.{row_name};
 ghost use Rattle.pef_rows.specs.declared.any_row.Row.TheVariants as row;
 
-use pef_format::Part;
 use pef_format::layout::{CONTAINER_HEADER_SIZE, SECTION_HEADER_SIZE};
+use pef_format::{Named, Part};
 use pef_loader::{CutName, Names, PartialImports, PartialLoader, partial_place};
 use pef_rows::{
     EntryRow, ExportRow, HeaderRow, ImportRow, LibraryRow, LoaderRow, MAX_NAME_LENGTH, ProgramRow,
@@ -234,12 +234,7 @@ impl<'a> Reading<'a> {
         let library = reading.loader.library_cut(i as usize, MAX_NAME_LENGTH)?;
         Some(LibraryRow {
             at: self.loader_at(container, reading, Part::Library, i),
-            name: library.name,
-            current: library.current,
-            old_imp: library.old_imp,
-            options: library.options,
-            count: library.count,
-            first: library.first,
+            library,
         })
     }
 
@@ -356,10 +351,10 @@ impl<'a> Reading<'a> {
         let export = reading.loader.export(i as usize)?;
         Some(ExportRow {
             at: self.loader_at(container, reading, Part::Export, i),
-            name: export_name(export.name),
-            class: export.class,
-            section: export.section,
-            value: export.value,
+            export: Named {
+                fields: export.fields,
+                name: export_name(export.name),
+            },
         })
     }
 }
@@ -391,10 +386,7 @@ impl<'a> LoaderReading<'a> {
         Some(ImportRow {
             at: file_offset(base, place.offset),
             number: j as u64,
-            name: import.name,
-            class: import.class,
-            weak: import.weak,
-            library: library_number(import.library),
+            import,
             library_name: self.library_name(import.library),
         })
     }
@@ -456,16 +448,6 @@ fn loader_count(loader: &PartialLoader<'_>, part: Part) -> u32
         Part::Relocation => loader.relocations() as u32,
         Part::Export => loader.exports() as u32,
         Part::Header | Part::Section | Part::PackedData | Part::Program | Part::Line => 0,
-    }
-}
-
-/// Returns the number of a library.
-fn library_number(library: Option<usize>) -> Option<u64>
-    ensures { result ≡ library }
-{
-    match library {
-        Some(i) => Some(i as u64),
-        None => None,
     }
 }
 

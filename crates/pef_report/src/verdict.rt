@@ -3,13 +3,13 @@ ghost use Rattle.std.specs.Prelude.{◌≡◌, ◌≤◌, length};
 ghost use Rattle.pef_ports.specs.Sent.{Sends};
 ghost use Rattle.pef_views.specs.Partial.{partial_of};
 ghost use Rattle.pef_views.specs.PartialViews.{partly};
-ghost use Rattle.pef_report.specs.Verdict.{bool_word, count_of, damages, is_about, is_as_text, is_damaged, lacks_one, needed_by, needed_of, part_state, section_end, state_word, verdict_line, verdict_object, verdict_of};
+ghost use Rattle.pef_report.specs.Verdict.{count_of, damages, is_about, is_as_text, is_damaged, lacks_one, needed_by, needed_of, part_state, section_end, state_word, verdict_line, verdict_object, verdict_of};
 
 use pef_format::Part;
 use pef_format::layout::CONTAINER_HEADER_SIZE;
 use pef_inspect::Finding;
 use pef_ports::{Page, Sink, StreamFault};
-use pef_rows::{Token, print_tokens, text_if};
+use pef_rows::{Token, print_tokens, text_if, truth};
 use pef_views::{PartialContainer, SectionHeader};
 
 /// If one of CR and LF comes this often and the other one never, the container was probably transferred as text.
@@ -121,7 +121,7 @@ impl Verdict {
                 Token::Text(b"\",\"relocations\":\""),
                 Token::Text(part_state(self.relocations)),
                 Token::Text(b"\",\"as_text\":"),
-                Token::Text(bool_word(self.as_text)),
+                Token::Text(truth(self.as_text)),
                 Token::Text(b"}}"),
             ],
         )
@@ -266,11 +266,4 @@ fn part_state(damaged: bool) -> &'static [u8]
     ensures { result.now ≡ part_state damaged }
 {
     if damaged { b"damaged" } else { b"whole" }
-}
-
-/// Returns a truth value of JSON.
-fn bool_word(answer: bool) -> &'static [u8]
-    ensures { result.now ≡ bool_word answer }
-{
-    if answer { b"true" } else { b"false" }
 }

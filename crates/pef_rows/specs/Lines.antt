@@ -2,10 +2,11 @@
 -- (docs/FORMATS.md, "Listings"), and then what a listing leaves out.
 use Rattle.std.specs.Prelude.{ℕ, ℤ, pos, negsuc, ◌==◌, Bool, false, List, [], ◌∷◌, ◌++◌, Option, None, Some, codes, decimal, if◌then◌else◌}
 use Rattle.std.specs.Str.{bytes_eq}
-use Rattle.pef_listing.specs.Listing.{magnitude, sign_text}
+use Rattle.pef_listing.specs.Listing.{library_words, magnitude, sign_text}
 use Rattle.pef_loader.specs.CutNames.{CutName}
+use Rattle.pef_loader.specs.Partial.{CutExportRow, CutImportRow, CutLibraryRow}
 use Rattle.pef_loader.specs.declared.header.LoaderHeader.{LoaderHeader}
-use Rattle.pef_ports.specs.Text.{hex_text, word_text}
+use Rattle.pef_ports.specs.Text.{word_text}
 use Rattle.pef_rows.specs.Dates.{date_text}
 use Rattle.pef_rows.specs.Tokens.{at_text, label_text}
 use Rattle.pef_rows.specs.Versions.{version_text}
@@ -56,19 +57,18 @@ loader_line at h =
     ++ decimal h.export_count ++ codes "\n"
 
 -- a library: the words of a listing, its versions, and its imports
-unfoldable pub library_line : ℕ → Option CutName → ℕ → ℕ → ℕ → ℕ → ℕ → List ℕ
-library_line at name current old_imp options count first =
-    at_text at ++ codes " library " ++ name_or_mark name ++ codes " current " ++ decimal current
-    ++ codes " oldimp " ++ decimal old_imp ++ codes " options " ++ hex_text (options ∷ [])
-    ++ codes " versions " ++ version_text current ++ codes " " ++ version_text old_imp ++ codes " imports "
-    ++ decimal count ++ codes " from " ++ decimal first ++ codes "\n"
+unfoldable pub library_line : ℕ → CutLibraryRow → List ℕ
+library_line at library =
+    at_text at ++ codes " " ++ library_words (name_or_mark library.name) library.fields
+    ++ codes " versions " ++ version_text library.fields.current ++ codes " " ++ version_text library.fields.old_imp ++ codes " imports "
+    ++ decimal library.fields.count ++ codes " from " ++ decimal library.fields.first ++ codes "\n"
 
 -- import `number`, with the name of its library
-unfoldable pub import_line : ℕ → ℕ → Option CutName → Option CutName → ℕ → Bool → List ℕ
-import_line at number name library_name class weak =
-    at_text at ++ codes " import " ++ decimal number ++ codes " " ++ name_or_mark name ++ codes " of "
-    ++ name_or_mark library_name ++ codes " class " ++ decimal class
-    ++ (if weak then codes " weak\n" else codes " strong\n")
+unfoldable pub import_line : ℕ → ℕ → CutImportRow → Option CutName → List ℕ
+import_line at number import library_name =
+    at_text at ++ codes " import " ++ decimal number ++ codes " " ++ name_or_mark import.name ++ codes " of "
+    ++ name_or_mark library_name ++ codes " class " ++ decimal import.fields.class
+    ++ (if import.fields.weak then codes " weak\n" else codes " strong\n")
 
 -- the line of an entry point after its label, if the section isn't -1
 unfoldable pub entry_line : List ℕ → ℕ → ℤ → ℕ → List ℕ
@@ -84,8 +84,8 @@ relocation_line at section count first =
     ++ codes " first " ++ decimal first ++ codes "\n"
 
 -- an export
-unfoldable pub export_line : ℕ → Option CutName → ℕ → ℤ → ℕ → List ℕ
-export_line at name class section value =
-    at_text at ++ codes " export " ++ name_or_mark name ++ codes " class " ++ decimal class
-    ++ codes " section " ++ sign_text section ++ decimal (magnitude section) ++ codes " value "
-    ++ word_text value ++ codes "\n"
+unfoldable pub export_line : ℕ → CutExportRow → List ℕ
+export_line at export =
+    at_text at ++ codes " export " ++ name_or_mark export.name ++ codes " class " ++ decimal export.fields.class
+    ++ codes " section " ++ sign_text export.fields.section ++ decimal (magnitude export.fields.section) ++ codes " value "
+    ++ word_text export.fields.value ++ codes "\n"

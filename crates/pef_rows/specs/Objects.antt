@@ -2,14 +2,16 @@
 use Rattle.std.specs.Prelude.{ℕ, ℤ, Bool, List, [], ◌++◌, Option, codes, decimal, if◌then◌else◌}
 use Rattle.pef_format.specs.Sections.{kind_of, share_of}
 use Rattle.pef_format.specs.Symbols.{class_of}
+use Rattle.pef_format.specs.declared.library.LibraryFields.{LibraryFields}
 use Rattle.pef_listing.specs.Listing.{magnitude, sign_text}
 use Rattle.pef_loader.specs.CutNames.{CutName}
+use Rattle.pef_loader.specs.Partial.{CutExportRow, CutImportRow, CutLibraryRow}
 use Rattle.pef_loader.specs.declared.header.LoaderHeader.{LoaderHeader}
 use Rattle.pef_rows.specs.Codes.{class_member, kind_text, share_text}
 use Rattle.pef_rows.specs.Dates.{date_text}
 use Rattle.pef_rows.specs.Lines.{is_none_entry}
 pub use Rattle.pef_rows.specs.Tokens.{number_or_null}
-use Rattle.pef_rows.specs.Tokens.{row_member, tag_text}
+use Rattle.pef_rows.specs.Tokens.{row_member, tag_text, truth}
 use Rattle.pef_rows.specs.Versions.{version_text}
 use Rattle.pef_views.specs.declared.header.Header.{Header}
 use Rattle.pef_views.specs.declared.section.SectionHeader.{SectionHeader}
@@ -17,9 +19,6 @@ use Rattle.pef_views.specs.declared.section.SectionHeader.{SectionHeader}
 -- what is between the members of a list
 abbrev pub separator : Bool → List ℕ
 separator is_first = if is_first then [] else codes ","
-
-abbrev pub truth : Bool → List ℕ
-truth holds = if holds then codes "true" else codes "false"
 
 -- a container's header: its architecture and its versions
 unfoldable pub header_versions : Header → List ℕ
@@ -68,28 +67,27 @@ loader_object at h =
     ++ decimal h.export_power ++ codes ",\"exports\":" ++ decimal h.export_count ++ codes "}"
 
 -- a library: its name and its versions
-unfoldable pub library_versions : ℕ → Option CutName → ℕ → ℕ → List ℕ
-library_versions at name current old_imp =
-    codes "{\"offset\":" ++ decimal at ++ codes "," ++ row_member (codes "name") name ++ codes ",\"current\":"
-    ++ decimal current ++ codes ",\"current_text\":\"" ++ version_text current ++ codes "\",\"oldimp\":"
-    ++ decimal old_imp ++ codes ",\"oldimp_text\":\"" ++ version_text old_imp
+unfoldable pub library_versions : ℕ → CutLibraryRow → List ℕ
+library_versions at library =
+    codes "{\"offset\":" ++ decimal at ++ codes "," ++ row_member (codes "name") library.name ++ codes ",\"current\":"
+    ++ decimal library.fields.current ++ codes ",\"current_text\":\"" ++ version_text library.fields.current ++ codes "\",\"oldimp\":"
+    ++ decimal library.fields.old_imp ++ codes ",\"oldimp_text\":\"" ++ version_text library.fields.old_imp
 
 -- .. its options and its imports
-unfoldable pub library_imports : ℕ → ℕ → ℕ → List ℕ
-library_imports options count first =
-    codes "\",\"options\":" ++ decimal options ++ codes ",\"first\":" ++ decimal first ++ codes ",\"count\":"
-    ++ decimal count ++ codes "}"
+unfoldable pub library_imports : LibraryFields → List ℕ
+library_imports fields =
+    codes "\",\"options\":" ++ decimal fields.options ++ codes ",\"first\":" ++ decimal fields.first ++ codes ",\"count\":"
+    ++ decimal fields.count ++ codes "}"
 
-unfoldable pub library_object : ℕ → Option CutName → ℕ → ℕ → ℕ → ℕ → ℕ → List ℕ
-library_object at name current old_imp options count first =
-    library_versions at name current old_imp ++ library_imports options count first
+unfoldable pub library_object : ℕ → CutLibraryRow → List ℕ
+library_object at library = library_versions at library ++ library_imports library.fields
 
 -- an import, with the number of its library
-unfoldable pub import_object : ℕ → Option CutName → Option ℕ → ℕ → Bool → List ℕ
-import_object at name library class weak =
-    codes "{\"offset\":" ++ decimal at ++ codes "," ++ row_member (codes "name") name ++ codes ",\"library\":"
-    ++ number_or_null library ++ codes ",\"class\":" ++ decimal class ++ class_member (class_of class) ++ codes ",\"weak\":" ++ truth weak
-    ++ codes "}"
+unfoldable pub import_object : ℕ → CutImportRow → List ℕ
+import_object at import =
+    codes "{\"offset\":" ++ decimal at ++ codes "," ++ row_member (codes "name") import.name ++ codes ",\"library\":"
+    ++ number_or_null import.library ++ codes ",\"class\":" ++ decimal import.fields.class ++ class_member (class_of import.fields.class)
+    ++ codes ",\"weak\":" ++ truth import.fields.weak ++ codes "}"
 
 -- an entry point after its key, or `null` if the section is -1
 unfoldable pub entry_object : List ℕ → ℕ → ℤ → ℕ → List ℕ
@@ -105,8 +103,9 @@ relocation_front at section count first =
     ++ decimal count ++ codes ",\"first\":" ++ decimal first ++ codes ",\"instructions\":"
 
 -- an export
-unfoldable pub export_object : ℕ → Option CutName → ℕ → ℤ → ℕ → List ℕ
-export_object at name class section value =
-    codes "{\"offset\":" ++ decimal at ++ codes "," ++ row_member (codes "name") name ++ codes ",\"class\":"
-    ++ decimal class ++ class_member (class_of class) ++ codes ",\"section\":" ++ sign_text section ++ decimal (magnitude section)
-    ++ codes ",\"value\":" ++ decimal value ++ codes "}"
+unfoldable pub export_object : ℕ → CutExportRow → List ℕ
+export_object at export =
+    codes "{\"offset\":" ++ decimal at ++ codes "," ++ row_member (codes "name") export.name ++ codes ",\"class\":"
+    ++ decimal export.fields.class ++ class_member (class_of export.fields.class)
+    ++ codes ",\"section\":" ++ sign_text export.fields.section ++ decimal (magnitude export.fields.section)
+    ++ codes ",\"value\":" ++ decimal export.fields.value ++ codes "}"

@@ -1,5 +1,5 @@
 -- A line or a JSON text as its tokens.
-use Rattle.std.specs.Prelude.{ℕ, ◌/◌, ◌%◌, ◌^◌, ◌==◌, List, [], ◌∷◌, ◌++◌, Option, None, Some, codes, decimal, length, nat_lt, option_map, take, if◌then◌else◌}
+use Rattle.std.specs.Prelude.{ℕ, ◌/◌, ◌%◌, ◌^◌, ◌==◌, Bool, List, [], ◌∷◌, ◌++◌, Option, None, Some, codes, decimal, length, nat_lt, option_map, take, if◌then◌else◌}
 use Rattle.std.specs.Option.{option_copied}
 use Rattle.byteorder.specs.Endian.{big_bytes}
 use Rattle.pef_loader.specs.CutNames.{CutName, cut_name}
@@ -52,6 +52,15 @@ row_name name = option_map (cut_name 4096) name
 -- a name in a line. `%..` is no escaped byte, and says that the name is longer
 unfoldable pub label_text : List ℕ → List ℕ
 label_text name = if nat_lt 1024 (length name) then name_text (take 1024 name) ++ codes "%.." else name_text name
+
+-- a truth value of JSON
+abbrev pub truth : Bool → List ℕ
+truth holds = if holds then codes "true" else codes "false"
+
+-- an offset in a file, or `-`
+abbrev pub at_or_dash : Option ℕ → List ℕ
+at_or_dash None = codes "-"
+at_or_dash (Some at) = at_text at
 
 -- a number, or `null`
 abbrev pub number_or_null : Option ℕ → List ℕ

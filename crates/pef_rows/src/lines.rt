@@ -1,6 +1,6 @@
 //! The lines of the rows. The words of a line of a listing come first, after the offset.
 ghost use Rattle.std.specs.Prelude.{◌≡◌, option_map};
-ghost use Rattle.pef_loader.specs.PartialViews.{cut_seen};
+ghost use Rattle.pef_loader.specs.PartialViews.{cut_export_seen, cut_import_seen, cut_library_seen, cut_seen};
 ghost use Rattle.pef_ports.specs.Sent.{Sends};
 ghost use Rattle.pef_rows.specs.Tokens.{token_text};
 ghost use Rattle.pef_rows.specs.Lines.{section_label, entry_line, export_line, header_line, import_line, library_line, loader_line, relocation_line, section_line};
@@ -11,8 +11,9 @@ use crate::rows::{
     EntryRow, ExportRow, HeaderRow, ImportRow, LibraryRow, LoaderRow, RelocationRow, SectionRow,
 };
 use crate::tokens::{Token, print_tokens};
+use pef_listing::LibraryWords;
 use pef_loader::CutName;
-use pef_ports::{Decimal, Hex, HexByte, Joined, Page, Printed, Sink, StreamFault, Verbatim};
+use pef_ports::{Decimal, Hex, Joined, Page, Printed, Sink, StreamFault, Verbatim};
 
 /// Prints the line of a container's header.
 #[tactic(auto, unfolding(crate::specs::Lines::header_line))]
@@ -148,32 +149,27 @@ pub fn print_library<W: Sink>(
     page: &mut Page,
     row: LibraryRow<'_>,
 ) -> Result<(), StreamFault>
-    ensures { Sends result (W.stream out.old) (W.stream out.new) page.old.items page.new.items (library_line row.entry.at (option_map cut_seen row.entry.name) row.entry.current row.entry.old_imp row.entry.options row.entry.count row.entry.first) }
+    ensures { Sends result (W.stream out.old) (W.stream out.new) page.old.items page.new.items (library_line row.entry.at (cut_library_seen row.entry.library)) }
 {
-    let start = Joined(Offset(row.at), Verbatim(b" library "));
-    let name = Joined(Joined(start, NameOrMark(row.name)), Verbatim(b" current "));
-    let current = Joined(
-        Joined(name, Decimal(u64::from(row.current))),
-        Verbatim(b" oldimp "),
+    let fields = row.library.fields;
+    let words = LibraryWords {
+        name: NameOrMark(row.library.name),
+        fields,
+    };
+    let start = Joined(Joined(Offset(row.at), Verbatim(b" ")), words);
+    let version = Joined(
+        Joined(start, Verbatim(b" versions ")),
+        Version(fields.current),
     );
-    let old_imp = Joined(
-        Joined(current, Decimal(u64::from(row.old_imp))),
-        Verbatim(b" options "),
-    );
-    let options = Joined(
-        Joined(old_imp, HexByte(row.options)),
-        Verbatim(b" versions "),
-    );
-    let version = Joined(Joined(options, Version(row.current)), Verbatim(b" "));
-    let oldest = Joined(
-        Joined(version, Version(row.old_imp)),
-        Verbatim(b" imports "),
-    );
+    let oldest = Joined(Joined(version, Verbatim(b" ")), Version(fields.old_imp));
     let count = Joined(
-        Joined(oldest, Decimal(u64::from(row.count))),
-        Verbatim(b" from "),
+        Joined(oldest, Verbatim(b" imports ")),
+        Decimal(u64::from(fields.count)),
     );
-    let first = Joined(count, Decimal(u64::from(row.first)));
+    let first = Joined(
+        Joined(count, Verbatim(b" from ")),
+        Decimal(u64::from(fields.first)),
+    );
     Joined(first, Verbatim(b"\n")).print(out, page)
 }
 
@@ -184,17 +180,25 @@ pub fn print_import<W: Sink>(
     page: &mut Page,
     row: ImportRow<'_>,
 ) -> Result<(), StreamFault>
-    ensures { Sends result (W.stream out.old) (W.stream out.new) page.old.items page.new.items (import_line row.entry.at row.entry.number (option_map cut_seen row.entry.name) (option_map cut_seen row.entry.library_name) row.entry.class row.entry.weak) }
+    ensures { Sends result (W.stream out.old) (W.stream out.new) page.old.items page.new.items (import_line row.entry.at row.entry.number (cut_import_seen row.entry.import) (option_map cut_seen row.entry.library_name)) }
 {
-    let class = u64::from(row.class);
+    let fields = row.import.fields;
+    let class = u64::from(fields.class);
     let start = Joined(Offset(row.at), Verbatim(b" import "));
     let number = Joined(Joined(start, Decimal(row.number)), Verbatim(b" "));
-    let name = Joined(Joined(number, NameOrMark(row.name)), Verbatim(b" of "));
+    let name = Joined(
+        Joined(number, NameOrMark(row.import.name)),
+        Verbatim(b" of "),
+    );
     let owner = Joined(
         Joined(name, NameOrMark(row.library_name)),
         Verbatim(b" class "),
     );
-    let strength = Verbatim(if row.weak { b" weak\n" } else { b" strong\n" });
+    let strength = Verbatim(if fields.weak {
+        b" weak\n"
+    } else {
+        b" strong\n"
+    });
     Joined(Joined(owner, Decimal(class)), strength).print(out, page)
 }
 
@@ -258,16 +262,20 @@ pub fn print_export<W: Sink>(
     page: &mut Page,
     row: ExportRow<'_>,
 ) -> Result<(), StreamFault>
-    ensures { Sends result (W.stream out.old) (W.stream out.new) page.old.items page.new.items (export_line row.entry.at (option_map cut_seen row.entry.name) row.entry.class row.entry.section row.entry.value) }
+    ensures { Sends result (W.stream out.old) (W.stream out.new) page.old.items page.new.items (export_line row.entry.at (cut_export_seen row.entry.export)) }
 {
-    let class = u64::from(row.class);
+    let fields = row.export.fields;
+    let class = u64::from(fields.class);
     let start = Joined(Offset(row.at), Verbatim(b" export "));
-    let name = Joined(Joined(start, NameOrMark(row.name)), Verbatim(b" class "));
+    let name = Joined(
+        Joined(start, NameOrMark(row.export.name)),
+        Verbatim(b" class "),
+    );
     let kind = Joined(Joined(name, Decimal(class)), Verbatim(b" section "));
     let number = Joined(
-        Joined(kind, Verbatim(sign(row.section))),
-        Decimal(magnitude(row.section)),
+        Joined(kind, Verbatim(sign(fields.section))),
+        Decimal(magnitude(fields.section)),
     );
-    let value = Joined(Joined(number, Verbatim(b" value ")), Hex(row.value));
+    let value = Joined(Joined(number, Verbatim(b" value ")), Hex(fields.value));
     Joined(value, Verbatim(b"\n")).print(out, page)
 }

@@ -1,15 +1,15 @@
 //! The objects of JSON of the rows.
 ghost use Rattle.std.specs.Prelude.{◌≡◌, option_map};
-ghost use Rattle.pef_loader.specs.PartialViews.{cut_seen};
+ghost use Rattle.pef_loader.specs.PartialViews.{cut_export_seen, cut_import_seen, cut_library_seen, cut_seen};
 ghost use Rattle.pef_ports.specs.Sent.{Sends};
-ghost use Rattle.pef_rows.specs.Objects.{truth, entry_object, export_object, header_counts, header_object, header_versions, import_object, library_imports, library_object, library_versions, loader_object, section_codes, section_object, section_sizes, separator};
+ghost use Rattle.pef_rows.specs.Objects.{entry_object, export_object, header_counts, header_object, header_versions, import_object, library_imports, library_object, library_versions, loader_object, section_codes, section_object, section_sizes, separator};
 
 use crate::codes::{class_member, kind_text, share_text};
-use crate::optional::{is_none_entry, magnitude, number_or_null, sign};
+use crate::optional::{is_none_entry, magnitude, number_or_null, sign, truth};
 use crate::parts::{CutNameMember, Version};
 use crate::rows::{EntryRow, ExportRow, HeaderRow, ImportRow, LibraryRow, LoaderRow, SectionRow};
 use crate::tokens::{Token, print_tokens};
-use pef_format::SymbolClass;
+use pef_format::LibraryFields;
 use pef_ports::{Decimal, Joined, Page, Printed, Sink, StreamFault, Verbatim, send};
 use pef_views::Header;
 
@@ -202,10 +202,10 @@ pub fn print_library_object<W: Sink>(
     page: &mut Page,
     row: LibraryRow<'_>,
 ) -> Result<(), StreamFault>
-    ensures { Sends result (W.stream out.old) (W.stream out.new) page.old.items page.new.items (library_object row.entry.at (option_map cut_seen row.entry.name) row.entry.current row.entry.old_imp row.entry.options row.entry.count row.entry.first) }
+    ensures { Sends result (W.stream out.old) (W.stream out.new) page.old.items page.new.items (library_object row.entry.at (cut_library_seen row.entry.library)) }
 {
     print_library_versions(out, page, row)?;
-    print_library_imports(out, page, row)
+    print_library_imports(out, page, row.library.fields)
 }
 
 /// Prints the name and the versions of a library.
@@ -215,24 +215,28 @@ fn print_library_versions<W: Sink>(
     page: &mut Page,
     row: LibraryRow<'_>,
 ) -> Result<(), StreamFault>
-    ensures { Sends result (W.stream out.old) (W.stream out.new) page.old.items page.new.items (library_versions row.entry.at (option_map cut_seen row.entry.name) row.entry.current row.entry.old_imp) }
+    ensures { Sends result (W.stream out.old) (W.stream out.new) page.old.items page.new.items (library_versions row.entry.at (cut_library_seen row.entry.library)) }
 {
+    let fields = row.library.fields;
     let start = Joined(Verbatim(b"{\"offset\":"), Decimal(row.at));
-    let name = Joined(Joined(start, Verbatim(b",")), CutNameMember(row.name));
+    let name = Joined(
+        Joined(start, Verbatim(b",")),
+        CutNameMember(row.library.name),
+    );
     let key = Joined(name, Verbatim(b",\"current\":"));
     let current = Joined(
-        Joined(key, Decimal(u64::from(row.current))),
+        Joined(key, Decimal(u64::from(fields.current))),
         Verbatim(b",\"current_text\":\""),
     );
     let key = Joined(
-        Joined(current, Version(row.current)),
+        Joined(current, Version(fields.current)),
         Verbatim(b"\",\"oldimp\":"),
     );
     let old_imp = Joined(
-        Joined(key, Decimal(u64::from(row.old_imp))),
+        Joined(key, Decimal(u64::from(fields.old_imp))),
         Verbatim(b",\"oldimp_text\":\""),
     );
-    Joined(old_imp, Version(row.old_imp)).print(out, page)
+    Joined(old_imp, Version(fields.old_imp)).print(out, page)
 }
 
 /// Prints the options and the imports of a library.
@@ -240,21 +244,21 @@ fn print_library_versions<W: Sink>(
 fn print_library_imports<W: Sink>(
     out: &mut W,
     page: &mut Page,
-    row: LibraryRow<'_>,
+    fields: LibraryFields,
 ) -> Result<(), StreamFault>
-    ensures { Sends result (W.stream out.old) (W.stream out.new) page.old.items page.new.items (library_imports row.entry.options row.entry.count row.entry.first) }
+    ensures { Sends result (W.stream out.old) (W.stream out.new) page.old.items page.new.items (library_imports fields) }
 {
     let options = Joined(
         Verbatim(b"\",\"options\":"),
-        Decimal(u64::from(row.options)),
+        Decimal(u64::from(fields.options)),
     );
     let first = Joined(
         Joined(options, Verbatim(b",\"first\":")),
-        Decimal(u64::from(row.first)),
+        Decimal(u64::from(fields.first)),
     );
     let count = Joined(
         Joined(first, Verbatim(b",\"count\":")),
-        Decimal(u64::from(row.count)),
+        Decimal(u64::from(fields.count)),
     );
     Joined(count, Verbatim(b"}")).print(out, page)
 }
@@ -266,24 +270,38 @@ pub fn print_import_object<W: Sink>(
     page: &mut Page,
     row: ImportRow<'_>,
 ) -> Result<(), StreamFault>
-    ensures { Sends result (W.stream out.old) (W.stream out.new) page.old.items page.new.items (import_object row.entry.at (option_map cut_seen row.entry.name) row.entry.library row.entry.class row.entry.weak) }
+    ensures { Sends result (W.stream out.old) (W.stream out.new) page.old.items page.new.items (import_object row.entry.at (cut_import_seen row.entry.import)) }
 {
+    let fields = row.import.fields;
     let start = Joined(Verbatim(b"{\"offset\":"), Decimal(row.at));
-    let name = Joined(Joined(start, Verbatim(b",")), CutNameMember(row.name));
+    let name = Joined(
+        Joined(start, Verbatim(b",")),
+        CutNameMember(row.import.name),
+    );
     let library = Joined(
         Joined(name, Verbatim(b",\"library\":")),
-        number_or_null(row.library),
+        number_or_null(library_number(row.import.library)),
     );
     let class = Joined(
         Joined(library, Verbatim(b",\"class\":")),
-        Decimal(u64::from(row.class)),
+        Decimal(u64::from(fields.class)),
     );
-    let word = Joined(
-        class,
-        Verbatim(class_member(SymbolClass::from_code(row.class))),
+    let word = Joined(class, Verbatim(class_member(fields.class())));
+    let weak = Joined(
+        Joined(word, Verbatim(b",\"weak\":")),
+        Verbatim(truth(fields.weak)),
     );
-    let weak = Joined(Joined(word, Verbatim(b",\"weak\":")), truth(row.weak));
     Joined(weak, Verbatim(b"}")).print(out, page)
+}
+
+/// Returns the number of an import's library.
+fn library_number(library: Option<usize>) -> Option<u64>
+    ensures { result ≡ library }
+{
+    match library {
+        Some(number) => Some(number as u64),
+        None => None,
+    }
 }
 
 /// Prints an entry point, or `null` if the section is -1.
@@ -323,35 +341,29 @@ pub fn print_export_object<W: Sink>(
     page: &mut Page,
     row: ExportRow<'_>,
 ) -> Result<(), StreamFault>
-    ensures { Sends result (W.stream out.old) (W.stream out.new) page.old.items page.new.items (export_object row.entry.at (option_map cut_seen row.entry.name) row.entry.class row.entry.section row.entry.value) }
+    ensures { Sends result (W.stream out.old) (W.stream out.new) page.old.items page.new.items (export_object row.entry.at (cut_export_seen row.entry.export)) }
 {
+    let fields = row.export.fields;
     let start = Joined(Verbatim(b"{\"offset\":"), Decimal(row.at));
-    let name = Joined(Joined(start, Verbatim(b",")), CutNameMember(row.name));
+    let name = Joined(
+        Joined(start, Verbatim(b",")),
+        CutNameMember(row.export.name),
+    );
     let class = Joined(
         Joined(name, Verbatim(b",\"class\":")),
-        Decimal(u64::from(row.class)),
+        Decimal(u64::from(fields.class)),
     );
-    let word = Joined(
-        class,
-        Verbatim(class_member(SymbolClass::from_code(row.class))),
-    );
+    let word = Joined(class, Verbatim(class_member(fields.class())));
     let sign = Joined(
         Joined(word, Verbatim(b",\"section\":")),
-        Verbatim(sign(row.section)),
+        Verbatim(sign(fields.section)),
     );
-    let section = Joined(sign, Decimal(magnitude(row.section)));
+    let section = Joined(sign, Decimal(magnitude(fields.section)));
     let value = Joined(
         Joined(section, Verbatim(b",\"value\":")),
-        Decimal(u64::from(row.value)),
+        Decimal(u64::from(fields.value)),
     );
     Joined(value, Verbatim(b"}")).print(out, page)
-}
-
-/// Returns a truth value.
-fn truth(holds: bool) -> Verbatim<'static>
-    ensures { result.0.now ≡ truth holds }
-{
-    Verbatim(if holds { b"true" } else { b"false" })
 }
 
 /// Prints a comma, but not before the first element of a list.

@@ -3,7 +3,7 @@ ghost use Rattle.std.specs.Prelude.{◌≡◌, decimal};
 ghost use Rattle.pef_listing.specs.Listing.{magnitude, sign_text};
 ghost use Rattle.pef_rows.specs.Lines.{is_none_entry};
 ghost use Rattle.pef_rows.specs.Findings.{at_digits, at_word, shown};
-ghost use Rattle.pef_rows.specs.Tokens.{number_or_null, token_text};
+ghost use Rattle.pef_rows.specs.Tokens.{at_or_dash, number_or_null, token_text, truth};
 
 use crate::tokens::Token;
 use pef_format::layout::NO_SECTION;
@@ -33,6 +33,23 @@ pub fn number_or_null(n: Option<u64>) -> Token<'static>
     match n {
         Some(n) => Token::Number(n),
         None => Token::Text(b"null"),
+    }
+}
+
+/// Returns a truth value of JSON.
+pub fn truth(holds: bool) -> &'static [u8]
+    ensures { result.now ≡ truth holds }
+{
+    if holds { b"true" } else { b"false" }
+}
+
+/// Returns an offset in the file, or `-` if there is none.
+pub fn at_or_dash(at: Option<u64>) -> Token<'static>
+    ensures { token_text result ≡ at_or_dash at }
+{
+    match at {
+        Some(at) => Token::At(at),
+        None => Token::Text(b"-"),
     }
 }
 

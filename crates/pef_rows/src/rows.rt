@@ -2,7 +2,7 @@
 //! are looked at, since many rows can share one long name.
 use pef_format::Place;
 use pef_inspect::Detail;
-use pef_loader::{CutName, LoaderHeader};
+use pef_loader::{CutExport, CutImport, CutLibrary, CutName, LoaderHeader};
 use pef_reloc::Instr;
 use pef_views::{Header, SectionHeader};
 
@@ -39,12 +39,7 @@ pub struct LoaderRow {
 #[derive(Clone, Copy)]
 pub struct LibraryRow<'a> {
     pub at: u64,
-    pub name: Option<CutName<'a>>,
-    pub current: u32,
-    pub old_imp: u32,
-    pub options: u8,
-    pub count: u32,
-    pub first: u32,
+    pub library: CutLibrary<'a>,
 }
 
 /// An imported symbol.
@@ -52,11 +47,8 @@ pub struct LibraryRow<'a> {
 pub struct ImportRow<'a> {
     pub at: u64,
     pub number: u64,
-    pub name: Option<CutName<'a>>,
-    pub class: u8,
-    pub weak: bool,
-    /// The number of its library, and the library's name.
-    pub library: Option<u64>,
+    pub import: CutImport<'a>,
+    /// The name of its library.
     pub library_name: Option<CutName<'a>>,
 }
 
@@ -97,10 +89,7 @@ pub struct InstrRow {
 #[derive(Clone, Copy)]
 pub struct ExportRow<'a> {
     pub at: u64,
-    pub name: Option<CutName<'a>>,
-    pub class: u8,
-    pub section: i32,
-    pub value: u32,
+    pub export: CutExport<'a>,
 }
 
 /// An error or a note.

@@ -24,43 +24,43 @@ use Rattle.pef_script.specs.declared.text.fault.ScriptFault.{ScriptFault}
 use Rattle.pef_script.specs.declared.text.fault.ScriptFault.TheVariants as script_fault
 use Rattle.pef_faults.specs.Notes.Places.{place_text, program_text}
 use Rattle.pef_faults.specs.Notes.Scripts.{script_note, script_text}
-use Rattle.pef_faults.specs.declared.notes.Note.{Note}
-use Rattle.pef_faults.specs.declared.notes.Note.TheVariants as note
+use Rattle.pef_faults.specs.declared.notes.Explanation.{Explanation}
+use Rattle.pef_faults.specs.declared.notes.Explanation.TheVariants as note
 
 -- the note of a place, if there is one
-abbrev pub place_note : Option Place → Note
+abbrev pub place_note : Option Place → Explanation
 place_note (Some place) = note.Place place
 place_note None = note.Nothing
 
-abbrev pub script_fault_note : ScriptFault → List ℕ → Note
+abbrev pub script_fault_note : ScriptFault → List ℕ → Explanation
 script_fault_note (script_fault.Refused what line word earlier) text = note.Script (script_note what line earlier text)
 script_fault_note script_fault.OutOfMemory text = note.Nothing
 
-abbrev pub list_note : ListFault → Note
+abbrev pub list_note : ListFault → Explanation
 list_note (list_fault.Reloc program) = note.Program program.place program.section (reloc.fault_word program.fault)
 list_note f = place_note (listing.fault_place f)
 
-abbrev pub bind_note : BindFault → Note
+abbrev pub bind_note : BindFault → Explanation
 bind_note (bind_fault.ImplementationTooOld f l place needed found) = note.Versions place needed found
 bind_note (bind_fault.ImplementationTooNew f l place needed found) = note.Versions place needed found
 bind_note f = place_note (bind.fault_place f)
 
-abbrev pub fragment_note : FragmentFault → Note
+abbrev pub fragment_note : FragmentFault → Explanation
 fragment_note (fragment_fault.Reloc f k section place) = note.Program place section (reloc.fault_word k)
 fragment_note f = place_note (fragment.fault_place f)
 
-abbrev pub prepare_note : PrepareFault → Note
+abbrev pub prepare_note : PrepareFault → Explanation
 prepare_note (prepare_fault.Bind f) = bind_note f
 prepare_note (prepare_fault.Fragment f) = fragment_note f
 prepare_note _ = note.Nothing
 
 -- the note of a file that couldn't be read
-abbrev pub unread_note : FileReason → Note
+abbrev pub unread_note : FileReason → Explanation
 unread_note reason.Folder = note.Folder
 unread_note why = note.File why
 
 -- what is known of an error
-unfoldable pub note_of : Fault → Note
+unfoldable pub note_of : Fault → Explanation
 note_of (fault.Script f text) = script_fault_note f text.now
 note_of (fault.Listing f) = list_note f
 note_of (fault.Prepare f) = prepare_note f
@@ -85,7 +85,7 @@ reason_text reason.TooLong = codes "\nIt is a device or a pipe, and has no end o
 reason_text reason.Other = codes "\n"
 
 -- the text of what is known
-abbrev pub note_text : Note → List ℕ
+abbrev pub note_text : Explanation → List ℕ
 note_text note.Nothing = 10 ∷ []
 note_text (note.Place place) = codes "\n" ++ place_text place
 note_text (note.Program place section word) = program_text place section word

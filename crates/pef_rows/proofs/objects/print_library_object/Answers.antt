@@ -5,7 +5,7 @@ use Rattle.pef_rows.proofs.objects.print_library_object.Goals as goal
 
 pub returns-in_err-print_library_versions : goal.returns-in_err-print_library_versions
 unfolding library_object
-returns-in_err-print_library_versions g c = Sends-short _ c.from_residual.result _ c.from_residual.ensures.1 (StopsShort-longer (library_imports c.args.row.options c.args.row.count c.args.row.first) c.in_err-print_library_versions.ensures)
+returns-in_err-print_library_versions g c = Sends-short _ c.from_residual.result _ c.from_residual.ensures.1 (StopsShort-longer (library_imports c.args.row.library.fields) c.in_err-print_library_versions.ensures)
 
 pub returns : goal.returns
 unfolding library_object

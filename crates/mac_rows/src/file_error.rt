@@ -1,43 +1,47 @@
 //! What the errors of the wrapping of a file, of its resources and of its fragments are about.
 ghost use Rattle.std.specs.Prelude.{◌≡◌};
-ghost use Rattle.mac_rows.specs.Founds.{entry_of, found_offset, found_row, member_of, part_key};
+ghost use Rattle.mac_rows.specs.FileErrors.{entry_of, error_offset, error_row, member_of, part_key};
 
-use crate::member_table::Found;
-use cfm_members::{FragmentFault, MemberFault};
+use crate::member_table::FileError;
+use cfm_members::{MemberFault, MemberLookupFault};
 use mac_forks::ForkFault;
 
-impl Found {
+impl FileError {
     /// Returns the word for the part of the file that the error is about.
     pub(crate) fn part(self) -> &'static [u8]
         ensures { result.now ≡ part_key self.fault }
     {
         match self.fault {
-            FragmentFault::Fork(_) => b"fork",
-            FragmentFault::Resource(_) => b"resource",
-            FragmentFault::Member(_) | FragmentFault::NoContainer => b"fragment",
+            MemberLookupFault::Fork(_) => b"fork",
+            MemberLookupFault::Resource(_) => b"resource",
+            MemberLookupFault::Member(_) | MemberLookupFault::NoContainer => b"fragment",
         }
     }
 
     /// Returns the number of the entry or the member that the error is about.
     pub(crate) fn row(self) -> Option<u64>
-        ensures { result ≡ found_row self.fault }
+        ensures { result ≡ error_row self.fault }
     {
         match self.fault {
-            FragmentFault::Fork(fault) => entry_of(fault),
-            FragmentFault::Member(fault) => member_of(fault),
-            FragmentFault::Resource(_) | FragmentFault::NoContainer => None,
+            MemberLookupFault::Fork(fault) => entry_of(fault),
+            MemberLookupFault::Member(fault) => member_of(fault),
+            MemberLookupFault::Resource(_) | MemberLookupFault::NoContainer => None,
         }
     }
 
     /// Returns the offset in the file of the field that the error is about.
     pub(crate) fn offset(self) -> Option<u64>
-        ensures { result ≡ found_offset self }
+        ensures { result ≡ error_offset self }
     {
         match self.fault {
-            FragmentFault::Fork(fault) => Some(fault.offset()? as u64),
-            FragmentFault::Resource(fault) => Some(self.base.saturating_add(fault.offset() as u64)),
-            FragmentFault::Member(fault) => Some(self.base.saturating_add(fault.offset() as u64)),
-            FragmentFault::NoContainer => Some(self.base),
+            MemberLookupFault::Fork(fault) => Some(fault.offset()? as u64),
+            MemberLookupFault::Resource(fault) => Some(
+                self.base.saturating_add(fault.offset() as u64),
+            ),
+            MemberLookupFault::Member(fault) => Some(
+                self.base.saturating_add(fault.offset() as u64),
+            ),
+            MemberLookupFault::NoContainer => Some(self.base),
         }
     }
 }

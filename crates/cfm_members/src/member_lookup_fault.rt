@@ -1,5 +1,5 @@
 ghost use Rattle.std.specs.Prelude.{◌≡◌};
-ghost use Rattle.cfm_members.specs.FragmentFaults.{fragment_fault_name, fragment_fault_number};
+ghost use Rattle.cfm_members.specs.MemberLookupFaults.{member_lookup_fault_name, member_lookup_fault_number};
 
 use crate::fault::MemberFault;
 use mac_forks::ForkFault;
@@ -9,7 +9,7 @@ use thiserror::Error;
 
 /// Why the container of a fragment isn't found in a file. The text is the name of the error.
 #[derive(Clone, Copy, Debug, PartialEq, Eq, Error)]
-pub enum FragmentFault {
+pub enum MemberLookupFault {
     /// A fork of the file can't be read.
     Fork(ForkFault),
     /// The resource fork can't be read, or a resource of it.
@@ -20,37 +20,37 @@ pub enum FragmentFault {
     NoContainer,
 }
 
-impl FragmentFault {
+impl MemberLookupFault {
     /// Returns the number of the error, from 80 to 98.
     pub fn number(&self) -> u32
-        ensures { result ≡ fragment_fault_number self.now }
+        ensures { result ≡ member_lookup_fault_number self.now }
     {
         match self {
-            FragmentFault::Fork(fault) => fault.number(),
-            FragmentFault::Resource(fault) => fault.number(),
-            FragmentFault::Member(fault) => fault.number(),
-            FragmentFault::NoContainer => 80,
+            MemberLookupFault::Fork(fault) => fault.number(),
+            MemberLookupFault::Resource(fault) => fault.number(),
+            MemberLookupFault::Member(fault) => fault.number(),
+            MemberLookupFault::NoContainer => 80,
         }
     }
 
     /// Returns the name of the error, which is its text.
     pub fn name(&self) -> &'static str
-        ensures { result.now ≡ fragment_fault_name self.now }
+        ensures { result.now ≡ member_lookup_fault_name self.now }
     {
         match self {
-            FragmentFault::Fork(fault) => fault.name(),
-            FragmentFault::Resource(fault) => fault.name(),
-            FragmentFault::Member(fault) => fault.name(),
-            FragmentFault::NoContainer => "NoContainer",
+            MemberLookupFault::Fork(fault) => fault.name(),
+            MemberLookupFault::Resource(fault) => fault.name(),
+            MemberLookupFault::Member(fault) => fault.name(),
+            MemberLookupFault::NoContainer => "NoContainer",
         }
     }
 }
 
-impl fmt::Display for FragmentFault {
+impl fmt::Display for MemberLookupFault {
     ghost use Rattle.std.specs.Prelude.{Some};
-    ghost use Rattle.cfm_members.specs.FragmentFaults.{fragment_fault_name};
+    ghost use Rattle.cfm_members.specs.MemberLookupFaults.{member_lookup_fault_name};
 
-    ghost output = { λ fault. Some (fragment_fault_name fault) };
+    ghost output = { λ fault. Some (member_lookup_fault_name fault) };
 
     fn fmt<W: fmt::Write>(&self, f: &mut fmt::Formatter<W>) -> fmt::Result {
         f.write_str(self.name())

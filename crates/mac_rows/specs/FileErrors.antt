@@ -7,13 +7,13 @@ use Rattle.mac_resources.specs.Faults as resource
 use Rattle.cfm_members.specs.Faults as members
 use Rattle.cfm_members.specs.declared.fault.MemberFault.{MemberFault}
 use Rattle.cfm_members.specs.declared.fault.MemberFault.TheVariants.{FragmentTableCut, BadFragmentTable, MemberCut, MemberNameCut, FragmentOutside}
-use Rattle.cfm_members.specs.declared.fragment_fault.FragmentFault.{FragmentFault}
-use Rattle.cfm_members.specs.declared.fragment_fault.FragmentFault.TheVariants.{Fork, Resource, Member, NoContainer}
+use Rattle.cfm_members.specs.declared.member_lookup_fault.MemberLookupFault.{MemberLookupFault}
+use Rattle.cfm_members.specs.declared.member_lookup_fault.MemberLookupFault.TheVariants.{Fork, Resource, Member, NoContainer}
 use Rattle.mac_rows.specs.Sums.{up_to}
-use Rattle.mac_rows.specs.declared.member_table.Found.{Found}
+use Rattle.mac_rows.specs.declared.member_table.FileError.{FileError}
 
 -- the part of the file that an error is about
-abbrev pub part_key : FragmentFault → List ℕ
+abbrev pub part_key : MemberLookupFault → List ℕ
 part_key (Fork fault) = codes "fork"
 part_key (Resource fault) = codes "resource"
 part_key (Member fault) = codes "fragment"
@@ -38,18 +38,18 @@ member_of (MemberCut member offset) = Some member
 member_of (MemberNameCut member offset) = Some member
 member_of (FragmentOutside member offset) = Some member
 
-abbrev pub found_row : FragmentFault → Option ℕ
-found_row (Fork fault) = entry_of fault
-found_row (Resource fault) = None
-found_row (Member fault) = member_of fault
-found_row NoContainer = None
+abbrev pub error_row : MemberLookupFault → Option ℕ
+error_row (Fork fault) = entry_of fault
+error_row (Resource fault) = None
+error_row (Member fault) = member_of fault
+error_row NoContainer = None
 
 -- the offset in the file of the field
-abbrev pub offset_from : ℕ → FragmentFault → Option ℕ
+abbrev pub offset_from : ℕ → MemberLookupFault → Option ℕ
 offset_from base (Fork fault) = fork.fault_offset fault
 offset_from base (Resource fault) = Some (up_to (base + resource.fault_offset fault))
 offset_from base (Member fault) = Some (up_to (base + members.fault_offset fault))
 offset_from base NoContainer = Some base
 
-abbrev pub found_offset : Found → Option ℕ
-found_offset found = offset_from found.base found.fault
+abbrev pub error_offset : FileError → Option ℕ
+error_offset found = offset_from found.base found.fault
