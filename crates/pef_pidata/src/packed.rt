@@ -1,11 +1,11 @@
-ghost use Rattle.std.specs.Prelude.{◌≡◌, ◌<◌, ◌≤◌, length, IfOk};
+ghost use Rattle.std.specs.Prelude.{◌≡◌, ◌<◌, ◌≤◌, ℕ, length, IfOk, IfSome, Ok};
 ghost use Rattle.std.specs.Result.{result_err};
 ghost use Rattle.pef_words.specs.Refusals.{result_map};
 ghost use Rattle.pef_pidata.specs.Pattern.{copied_len, next_output, output_of, pattern_text, spelled_len};
 ghost use Rattle.pef_pidata.specs.Kept.Views.{instruction_seen, step_seen};
 
 use crate::fault::PackFault;
-use crate::instruction::{Decoded, Instruction, read_instruction};
+use crate::instruction::{BLOCK, COUNTS, Decoded, Instruction, ZERO, read_instruction};
 
 /// An instruction whose output has room, with the bytes that it copies and those after it.
 #[derive(Clone, Copy)]
@@ -61,7 +61,7 @@ pub fn verify(packed: &[u8], len: usize) -> Result<(), PackFault>
 
 /// Reads the instruction at `at`, to be written if `room` bytes are left.
 ///
-/// Inlining keeps the step in registers: packed bytes have an instruction for every ten of them or so.
+/// Inlining keeps the step in registers: packed bytes have an instruction for every ten of them or so. Most of them are short.
 #[inline(always)]
 #[tactic(auto, unfolding(crate::specs::Pattern::next_output))]
 fn next_step(at: usize, packed: &[u8], room: usize) -> Result<Step<'_>, PackFault>
@@ -70,8 +70,40 @@ fn next_step(at: usize, packed: &[u8], room: usize) -> Result<Step<'_>, PackFaul
     ensures bytes { IfOk result (λ s. length s.bytes.now ≡ copied_len s.instruction) }
     ensures shorter { IfOk result (λ s. length s.rest.now < length packed.now) }
 {
+    if let Some(step) = short_step(packed, room) {
+        return Ok(step);
+    }
     let decoded = read_instruction(at, packed)?;
     step_of(at, decoded, room)
+}
+
+/// Reads an instruction that has its count in its first byte and spells zeros or the bytes that follow, if they are there and
+/// have room. Returns `None` for all others.
+#[inline(always)]
+#[tactic(auto, unfolding(crate::specs::Pattern::next_output, crate::specs::Pattern::output_of, crate::specs::Instructions::next_instruction, crate::specs::Instructions::by_opcode, crate::specs::Instructions::counted))]
+fn short_step(packed: &[u8], room: usize) -> Option<Step<'_>>
+    ensures step { IfSome result (λ s. (at : ℕ) → Ok (step_seen s) ≡ next_output at room packed.now) }
+    ensures target { IfSome result (λ s. (s.len ≡ spelled_len s.instruction) × (s.len ≤ room)) }
+    ensures bytes { IfSome result (λ s. length s.bytes.now ≡ copied_len s.instruction) }
+    ensures shorter { IfSome result (λ s. length s.rest.now < length packed.now) }
+{
+    let (first, rest) = packed.split_first()?;
+    let len = usize::from(*first % COUNTS);
+    let (instruction, copied) = match *first / COUNTS {
+        ZERO => (Instruction::Zeros(len as u32), 0),
+        BLOCK => (Instruction::Block(len as u32), len),
+        _ => return None,
+    };
+    if len == 0 || len > room || copied > rest.len() {
+        return None;
+    }
+    let (bytes, rest) = rest.split_at(copied);
+    Some(Step {
+        instruction,
+        len,
+        bytes,
+        rest,
+    })
 }
 
 #[tactic(auto, unfolding(crate::specs::Pattern::output_of))]
