@@ -319,19 +319,6 @@ so_far-same k h r from n p q first best value here s under next is low =
     (λ l agrees. inl refl)
     s.found
 
--- before the first unit
-pub so_far-start : (k : SolvedSuffix) (h : OpenState) (r : Run) (from : ℕ) (p : PlanState) (first : Sought) → Along r h.place from 0 p → Chosen k h first.choice → ((l : Labels) (value : ℕ) → value ≤ first.choice.value → Agrees l k h.others.now → EndsFrom l r value (limit r - 0) p.left.now p.position p.import_index p.c p.d → Ends l r h from value) → SoFar k h r from 0 p first first.choice
-so_far-start k h r from p first along chosen ends = record {
-  along = along;
-  within = omega arith;
-  chosen = chosen;
-  better = omega arith;
-  found = inl refl;
-  passed = λ l agrees j left under is. absurd (omega (arith, under));
-  attained = λ l agrees. inl refl;
-  ends = ends;
-}
-
 -- if no unit follows, and if the run has its maximum length
 pub so_far-stop : (k : SolvedSuffix) (h : OpenState) (r : Run) (from n : ℕ) (p : PlanState) (first : Sought) (best : Choice) → SoFar k h r from n p first best → ((left : List Fixup) → p.left.now ≡ unit r p.position p.import_index ++ left → ⊥) → (l : Labels) (value : ℕ) → Agrees l k h.others.now → value ≤ best.value → Ends l r h from value
 so_far-stop k h r from n p first best s none l value agrees low =
