@@ -5,6 +5,7 @@ use Rattle.std.proofs.lemmas.Option.{same_Some}
 use Rattle.cfm_memory.specs.Instances.{Instance, Layout, bytes_at, fitted, has_length, holds_place, range_at, with_bytes, with_instance, without}
 use Rattle.cfm_memory.specs.Kept.Searches.{IsKept}
 use Rattle.cfm_memory.specs.Placement.{taken, end_of, AreClear, IsClear, IsFree, IsInOrder, IsLaidOut}
+use Rattle.cfm_memory.specs.declared.hints.Hint.{Hint}
 use Rattle.cfm_memory.specs.declared.place.Place.{Place}
 use Rattle.cfm_memory.specs.declared.place.Reserved.{Reserved}
 use Rattle.cfm_memory.proofs.Placing.{some_taken, within_taken}
@@ -48,8 +49,8 @@ laid_out_written g from limit (x ∷ xs) address w laid =
     ]
 
 -- what holds of the fields holds of the memory
-pub in_order_seen : (g limit front : ℕ) (xs : List Instance) (rs : List Reserved) (m : Layout) → record { granule = g; limit = limit; instances = xs; reserved = rs } ≡ m → IsKept g limit xs rs front → IsInOrder m
-in_order_seen g limit front xs rs m view_is kept = subst IsInOrder view_is (record { laid_out = kept.laid_out; in_turn = kept.in_turn; clear = kept.clear })
+pub in_order_seen : (g limit : ℕ) (hints : List Hint) (xs : List Instance) (rs : List Reserved) (m : Layout) → record { granule = g; limit = limit; instances = xs; reserved = rs } ≡ m → IsKept g limit xs rs hints → IsInOrder m
+in_order_seen g limit hints xs rs m view_is kept = subst IsInOrder view_is (record { laid_out = kept.laid_out; in_turn = kept.in_turn; clear = kept.clear })
 
 -- a part of what is clear is clear
 clear_within : (address end from to : ℕ) (rs : List Reserved) → address ≤ from → to ≤ end → IsClear address end rs → IsClear from to rs

@@ -18,7 +18,7 @@ use Rattle.cfm_memory.specs.Kept.Searches.{part_of}
 use Rattle.cfm_memory.specs.Views.{instance_seen}
 use Rattle.cfm_memory.specs.Placement.{end_of, IsFree, IsLaidOut}
 use Rattle.cfm_memory.proofs.Changes.{laid_out_from}
-use Rattle.cfm_memory.proofs.Placing.{within_taken}
+use Rattle.cfm_memory.proofs.Placing.{free_before, within_taken}
 
 -- the instances, as all clauses see them
 abbrev pub instances : List (ℕ × Vec ℕ) → List Instance
@@ -280,6 +280,35 @@ free_of_last g from limit (x ∷ es) (b ∷ before) e start address laid is ends
           let low = last_after g (end_of g (instance_seen x)) limit es before e address laid.2 there in
           (inr (omega (arith, low, ends)), free_of_last g (end_of g (instance_seen x)) limit es before e start address laid.2 there ends))
       | inr behind ↦ (inl (omega (arith, behind.1)), free_of_last g (end_of g (instance_seen x)) limit es (b ∷ before) e start address laid.2 (rw (to_is address x.0, behind.0) at is) ends)
+    ]
+
+-- no other lies across its end, if it ends after that address
+pub last_between : (g from limit : ℕ) (es before : List (ℕ × Vec ℕ)) (e : ℕ × Vec ℕ) (address : ℕ) → IsLaidOut g from limit (instances es) → entries_to address es ≡ before ++ e ∷ [] → IsFree g (end_of g (instance_seen e)) (end_of g (instance_seen e)) (instances es)
+last_between g from limit [] [] e address laid is = absurd (cc)
+last_between g from limit [] (b ∷ before) e address laid is = absurd (cc)
+last_between g from limit (x ∷ es) [] e address laid is =
+    elim (leb_tells x.0 address) [
+      | inl begins ↦
+          (let there : x ∷ entries_to address es ≡ e ∷ [] = rw (to_is address x.0, begins.0) at is in
+          let same : x ≡ e = ap (first_or e) there in
+          subst (λ (y : ℕ × Vec ℕ). IsFree g (end_of g (instance_seen y)) (end_of g (instance_seen y)) (instances (x ∷ es))) same (inr (omega arith), free_before g (end_of g (instance_seen x)) (end_of g (instance_seen x)) (end_of g (instance_seen x)) limit (instances es) (omega arith) laid.2))
+      | inr behind ↦
+          (let there : entries_to address es ≡ e ∷ [] = rw (to_is address x.0, behind.0) at is in
+          let low = last_begins es [] e address there in
+          let high = last_after g (end_of g (instance_seen x)) limit es [] e address laid.2 there in
+          absurd (omega (arith, low, high, behind.1)))
+    ]
+last_between g from limit (x ∷ es) (b ∷ before) e address laid is =
+    elim (leb_tells x.0 address) [
+      | inl begins ↦
+          (let there = ap others_of (rw (to_is address x.0, begins.0) at is) in
+          let low = last_after g (end_of g (instance_seen x)) limit es before e address laid.2 there in
+          (inr (omega (arith, low)), last_between g (end_of g (instance_seen x)) limit es before e address laid.2 there))
+      | inr behind ↦
+          (let there : entries_to address es ≡ b ∷ before ++ e ∷ [] = rw (to_is address x.0, behind.0) at is in
+          let low = last_begins es (b ∷ before) e address there in
+          let high = last_after g (end_of g (instance_seen x)) limit es (b ∷ before) e address laid.2 there in
+          absurd (omega (arith, low, high, behind.1)))
     ]
 
 -- what meets none doesn't meet the last one

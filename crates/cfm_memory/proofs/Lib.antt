@@ -9,6 +9,7 @@ mod InTurn
 mod Placed
 mod Placing
 mod Ranges
+mod Remembered
 mod Reserving
 mod Rooms
 pub mod Laws

@@ -1,19 +1,20 @@
 -- The invariant of a memory after an instance is placed, removed or written to.
-use Rattle.std.proofs.Common.{◌≡◌, ℕ, ◌+◌, ◌≤◌, min, List, Some, length, subst, sym, arith}
+use Rattle.std.proofs.Common.{◌≡◌, ℕ, ◌+◌, ◌≤◌, List, length, subst, sym, arith}
 use Rattle.std.specs.BTreeMap.{insert_entry}
 use Rattle.std.specs.Global.{Vec}
 use Rattle.std.specs.Ordering.{nat_cmp}
 use Rattle.cfm_memory.specs.Limits.{first_address}
-use Rattle.cfm_memory.specs.Instances.{Instance, Layout, bytes_at, with_bytes, with_instance, without}
+use Rattle.cfm_memory.specs.Instances.{Instance, Layout, with_bytes, with_instance, without}
 use Rattle.cfm_memory.specs.Placement.{taken, IsClear, IsFree, IsRoom, IsLowest}
+use Rattle.cfm_memory.specs.declared.hints.Hint.{Hint}
 use Rattle.cfm_memory.specs.declared.place.Reserved.{Reserved}
-use Rattle.cfm_memory.specs.Kept.Searches.{IsKept}
+use Rattle.cfm_memory.specs.Kept.Searches.{AreLowered, IsKept}
 use Rattle.cfm_memory.proofs.Changes.{clear_with, clear_without, clear_written, laid_out_with, laid_out_without, laid_out_written}
 use Rattle.cfm_memory.proofs.Contents.{nothing_at_free}
 use Rattle.cfm_memory.proofs.Entries.{inserted_is, instances}
-use Rattle.cfm_memory.proofs.Fronts.{front_below, front_with_new, front_without, front_written}
+use Rattle.cfm_memory.proofs.Fronts.{free_below, free_unwritten, free_without_new}
+use Rattle.cfm_memory.proofs.Remembered.{hints_lowered, hints_stay}
 use Rattle.cfm_memory.proofs.Placing.{some_taken}
-use Rattle.cfm_memory.proofs.Ranges.{begins_after}
 
 -- an address that has room has it among the instances that the code keeps
 room_seen : (g : ℕ) (m : Layout) (limit size alignment address : ℕ) (xs : List Instance) (rs : List Reserved) → record { granule = g; limit = limit; instances = xs; reserved = rs } ≡ m → IsLowest m size alignment address
@@ -22,18 +23,17 @@ room_seen g m limit size alignment address xs rs view_is lowest =
     let P : Layout → Type 0 = λ k. IsRoom k size alignment address in
     subst P (sym view_is) lowest.room
 
-pub placed_kept : (g : ℕ) (m : Layout) (limit front size alignment address : ℕ) (bytes : List ℕ) (xs : List Instance) (rs : List Reserved) → record { granule = g; limit = limit; instances = xs; reserved = rs } ≡ m → length bytes ≡ size
-    → IsLowest m size alignment address → IsKept g limit xs rs front → IsKept g limit (with_instance xs (record { address = address; bytes = bytes })) rs front
-placed_kept g m limit front size alignment address bytes xs rs view_is size_is lowest kept =
+pub placed_kept : (g : ℕ) (m : Layout) (limit : ℕ) (hints : List Hint) (size alignment address : ℕ) (bytes : List ℕ) (xs : List Instance) (rs : List Reserved) → record { granule = g; limit = limit; instances = xs; reserved = rs } ≡ m → length bytes ≡ size
+    → IsLowest m size alignment address → IsKept g limit xs rs hints → IsKept g limit (with_instance xs (record { address = address; bytes = bytes })) rs hints
+placed_kept g m limit hints size alignment address bytes xs rs view_is size_is lowest kept =
     let room = room_seen g m limit size alignment address xs rs view_is lowest in
-    let some = some_taken g size in
     let Q : ℕ → Type 0 = λ n. (address + taken g n ≤ limit) × IsFree g address (address + taken g n) xs × IsClear address (address + taken g n) rs in
     let there = subst Q (sym size_is) (room.inside, room.free, room.clear) in
     record {
       laid_out = laid_out_with g first_address limit xs (record { address = address; bytes = bytes }) room.from there.0 there.1 kept.laid_out;
       in_turn = kept.in_turn;
       clear = clear_with g xs rs (record { address = address; bytes = bytes }) there.2 kept.clear;
-      is_front = front_with_new g xs rs (record { address = address; bytes = bytes }) front (front_below g xs rs front address (address + taken g size) kept.is_front room.from (omega (arith, some)) room.free room.clear) kept.is_front;
+      are_hints = hints_stay g xs (with_instance xs (record { address = address; bytes = bytes })) rs rs hints (λ from to free. free_without_new g from to xs (record { address = address; bytes = bytes }) free) (λ from to clear. clear) kept.are_hints;
       small = kept.small;
     }
 
@@ -45,20 +45,20 @@ placed_is g m limit size alignment address v es rs view_is lowest =
     let some = some_taken g size in
     inserted_is es address v (nothing_at_free g (instances es) address (address + taken g size) (omega (arith, some)) room.free)
 
-pub given_back_kept : (g limit front address : ℕ) (bytes : List ℕ) (xs : List Instance) (rs : List Reserved) → bytes_at xs address ≡ Some bytes → IsKept g limit xs rs front → IsKept g limit (without xs address) rs (min front address)
-given_back_kept g limit front address bytes xs rs there kept = record {
+pub given_back_kept : (g limit address : ℕ) (hints lower : List Hint) (xs : List Instance) (rs : List Reserved) → length lower ≡ length hints → AreLowered address hints lower → IsKept g limit xs rs hints → IsKept g limit (without xs address) rs lower
+given_back_kept g limit address hints lower xs rs same are_lowered kept = record {
   laid_out = laid_out_without g first_address limit xs address kept.laid_out;
   in_turn = kept.in_turn;
   clear = clear_without g xs rs address kept.clear;
-  is_front = front_without g limit xs rs front address bytes (begins_after g xs address first_address limit bytes kept.laid_out there) kept.laid_out there kept.is_front;
+  are_hints = hints_lowered g address xs (without xs address) rs rs hints lower same are_lowered (λ other end ends free. free_below g xs other end address ends free) (λ other end ends clear. clear) kept.are_hints;
   small = kept.small;
 }
 
-pub written_kept : (g limit front address : ℕ) (w : List ℕ) (xs : List Instance) (rs : List Reserved) → IsKept g limit xs rs front → IsKept g limit (with_bytes xs address w) rs front
-written_kept g limit front address w xs rs kept = record {
+pub written_kept : (g limit : ℕ) (hints : List Hint) (address : ℕ) (w : List ℕ) (xs : List Instance) (rs : List Reserved) → IsKept g limit xs rs hints → IsKept g limit (with_bytes xs address w) rs hints
+written_kept g limit hints address w xs rs kept = record {
   laid_out = laid_out_written g first_address limit xs address w kept.laid_out;
   in_turn = kept.in_turn;
   clear = clear_written g xs rs address w kept.clear;
-  is_front = front_written g xs rs front address w kept.is_front;
+  are_hints = hints_stay g xs (with_bytes xs address w) rs rs hints (λ from to free. free_unwritten g from to address w xs free) (λ from to clear. clear) kept.are_hints;
   small = kept.small;
 }

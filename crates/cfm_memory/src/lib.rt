@@ -6,6 +6,7 @@
 #![tactic(auto)]
 
 mod granule;
+mod hints;
 mod memory;
 mod place;
 

@@ -1,4 +1,4 @@
-ghost use Rattle.std.specs.Prelude.{◌≡◌, ℕ, ◌+◌, ◌*◌, ◌/◌, ◌^◌, ◌<◌, ◌≤◌, [], insert, length, map, replicate, IfOk, IfSome, MatchOption, IsTrue, OnOk, OnSome, Some, false, true};
+ghost use Rattle.std.specs.Prelude.{◌≡◌, ℕ, ◌+◌, ◌*◌, ◌/◌, ◌^◌, ◌<◌, ◌≤◌, [], insert, length, leb, map, replicate, take, IfOk, IfSome, MatchOption, IsTrue, OnOk, OnSome, Some, false, true};
 ghost use Rattle.std.specs.Option.{IfNone, option_copied};
 ghost use Rattle.std.specs.Result.{IfErr, OnErr};
 ghost use Rattle.std.specs.Borrow.{sem};
@@ -6,19 +6,17 @@ ghost use Rattle.cfm_memory.specs.Extents.{empty_memory, no_instances};
 ghost use Rattle.cfm_memory.specs.Instances.{bytes_at, holds_place, range_at, with_instances, without};
 ghost use Rattle.cfm_memory.specs.Lending.{LendsPart};
 ghost use Rattle.cfm_memory.specs.Limits.{first_address, greatest_alignment};
-ghost use Rattle.cfm_memory.specs.Placement.{taken, step_of, AreInTurn, IsClear, IsFree, IsInOrder, IsLowest, IsRoom, MayRefuse, with_new};
-ghost use Rattle.cfm_memory.specs.Reservation.{IsVacant, MayNotReserve, Reserves, reserved_range, with_range};
-ghost use Rattle.cfm_memory.specs.Kept.Searches.{IsFirstFree, IsFirstVacant, IsFront, part_of};
+ghost use Rattle.cfm_memory.specs.Placement.{taken, step_of, AreClear, AreInTurn, IsClear, IsFree, IsInOrder, IsLowest, IsRoom, MayRefuse, with_new};
+ghost use Rattle.cfm_memory.specs.Reservation.{IsNoRange, IsVacant, MayNotReserve, Reserves, Unreserves, reserved_range, with_range};
+ghost use Rattle.cfm_memory.specs.Kept.Searches.{AllPassed, IsBarren, IsFirstFree, IsFirstVacant, IsPast, part_of, range_number};
 
 use crate::granule::{Granule, taken_by};
+use crate::hints::{Hint, Hints};
 use crate::place::{MemoryFault, Place, Reserved};
 use std::alloc::{AllocError, Global};
 use std::collections::BTreeMap;
 use std::fmt;
 use std::marker::Model;
-
-/// The lowest address of an instance.
-const FIRST_ADDRESS: u32 = 0x0001_0000;
 
 /// The ends of reserved ranges are multiples of this.
 const GRAIN: u64 = 16;
@@ -34,8 +32,8 @@ pub struct Memory {
     alloc: Global,
     granule: Granule,
     limit: u32,
-    /// No address below this one has room, and no instance lies across it.
-    front: u32,
+    /// Where the last searches for room ended.
+    hints: Hints,
     /// The readable bytes of the instances, by their addresses.
     instances: BTreeMap<u32, Vec<u8>>,
     /// The reserved ranges, in the order of their addresses.
@@ -53,7 +51,7 @@ impl Model for Memory {
 
     ghost view = { layout };
 
-    ghost invariant = { λ m. IsKept m.granule.bytes m.limit (map instance_seen m.instances.entries) m.reserved.items m.front };
+    ghost invariant = { λ m. IsKept m.granule.bytes m.limit (map instance_seen m.instances.entries) m.reserved.items m.hints.rows };
 }
 
 /// Prints the limit and the number of instances, without their bytes.
@@ -83,7 +81,7 @@ impl Memory {
             alloc,
             granule,
             limit,
-            front: FIRST_ADDRESS,
+            hints: Hints::new(),
             instances: BTreeMap::new(alloc),
             reserved: Vec::new(alloc),
         }
@@ -116,7 +114,6 @@ impl Memory {
         ensures unchanged { OnErr result (self.new ≡ self.old) }
         ensures in_order { IsInOrder self.old }
     {
-        self.front = self.next_front();
         let address = match self.lowest_room(size, alignment) {
             Some(address) => address,
             None => return Err(MemoryFault::NoRoom),
@@ -127,28 +124,90 @@ impl Memory {
     }
 
     /// Returns the lowest address that has room for an instance of `size` bytes.
-    fn lowest_room(&self, size: u32, alignment: u8) -> Option<u32>
+    #[tactic(auto, using(crate::proofs::Changes::in_order_seen))]
+    fn lowest_room(&mut self, size: u32, alignment: u8) -> Option<u32>
         requires { alignment ≤ greatest_alignment }
-        ensures { MatchOption result ((address : ℕ) → IsRoom self.now size alignment address → ⊥) (λ address. IsLowest self.now size alignment address) }
+        ensures lowest { MatchOption result ((address : ℕ) → IsRoom self.old size alignment address → ⊥) (λ address. IsLowest self.old size alignment address) }
+        ensures same { self.new ≡ self.old }
+        ensures in_order { IsInOrder self.old }
     {
-        let limit = self.limit;
         let taken = taken_by(self.granule, u64::from(size));
-        let address = self.first_vacant(taken, step_by(self.granule, alignment));
-        if address + taken > u64::from(limit) {
+        let step = step_by(self.granule, alignment);
+        // Holes that are too small for half as much are passed once for all sizes of this class.
+        self.search(class_of(taken), step);
+        let address = self.search(taken, step);
+        if address + taken > u64::from(self.limit) {
             return None;
         }
         Some(address as u32)
     }
 
-    /// Returns the lowest multiple of `step` from which `taken` bytes meet no instance and no reserved range.
-    fn first_vacant(&self, taken: u64, step: u64) -> u64
+    /// Returns the lowest multiple of `step` from which `taken` bytes meet no instance and no reserved range, and remembers
+    /// it for the next search.
+    fn search(&mut self, taken: u64, step: u64) -> u64
+        requires taken { (0 < taken) × (taken ≤ 2 ^ 33) }
+        requires step { (0 < step) × (step ≤ 2 ^ 32) }
+        ensures first { IsFirstVacant self.old.granule taken step first_address self.old.instances self.old.reserved result }
+        ensures bound { result < 2 ^ 33 }
+        ensures same { self.new ≡ self.old }
+    {
+        let from = self.past_instance(self.hints.start(taken, step));
+        let address = self.first_vacant(from, taken, step);
+        self.hints.keep(Hint {
+            from: address.min(GREATEST_END),
+            taken,
+            step,
+        });
+        address
+    }
+
+    /// Returns the first address from `from` on across which no instance lies.
+    fn past_instance(&self, from: u64) -> u64
+        requires { from ≤ 2 ^ 32 }
+        ensures past { IsPast self.now.granule from self.now.instances result }
+        ensures bound { result ≤ 2 ^ 32 }
+    {
+        if from > u64::from(self.limit) {
+            return from;
+        }
+        match self.instances.range(..=from as u32).next_back() {
+            Some((start, bytes)) => {
+                from.max(u64::from(*start) + taken_by(self.granule, bytes.len() as u64))
+            }
+            None => from,
+        }
+    }
+
+    /// Returns the lowest multiple of `step` from which `taken` bytes meet no instance and no reserved range. None may be
+    /// below `from`, and no instance may lie across it.
+    fn first_vacant(&self, from: u64, taken: u64, step: u64) -> u64
+        requires from { (first_address ≤ from) × (from ≤ 2 ^ 32) }
+        requires barren { IsBarren self.now.granule self.now.instances self.now.reserved (record { from = from; taken = taken; step = step }) }
+        requires between { IsFree self.now.granule from from self.now.instances }
         requires taken { (0 < taken) × (taken ≤ 2 ^ 33) }
         requires step { (0 < step) × (step ≤ 2 ^ 32) }
         ensures first { IsFirstVacant self.now.granule taken step first_address self.now.instances self.now.reserved result }
         ensures bound { result < 2 ^ 33 }
     {
-        let mut address = self.first_free(u64::from(self.front), taken, step);
-        for range in &self.reserved {
+        let passed = passed_by(&self.reserved, from);
+        let (_, ranges) = self.reserved.split_at(passed);
+        self.vacant_among(ranges, from, taken, step)
+    }
+
+    /// Returns the lowest multiple of `step` from `from` on from which `taken` bytes meet no instance and none of some
+    /// ranges. No instance may lie across `from`.
+    fn vacant_among(&self, ranges: &[Reserved], from: u64, taken: u64, step: u64) -> u64
+        requires in_turn { AreInTurn 0 ranges.now }
+        requires clear { AreClear self.now.granule self.now.instances ranges.now }
+        requires from { from ≤ 2 ^ 32 }
+        requires between { IsFree self.now.granule from from self.now.instances }
+        requires taken { (0 < taken) × (taken ≤ 2 ^ 33) }
+        requires step { (0 < step) × (step ≤ 2 ^ 32) }
+        ensures first { IsFirstVacant self.now.granule taken step from self.now.instances ranges.now result }
+        ensures bound { result < 2 ^ 33 }
+    {
+        let mut address = self.first_free(from, taken, step);
+        for range in ranges {
             if address + taken <= range.from {
                 return address;
             }
@@ -184,36 +243,8 @@ impl Memory {
         address
     }
 
-    /// Returns the lowest address that may be free: the one after the instances and the reserved ranges that follow one
-    /// another from the front on.
-    fn next_front(&self) -> u32
-        ensures { IsFront self.now.granule self.now.instances self.now.reserved result }
-    {
-        let mut front = self.after_instances(self.front);
-        for range in &self.reserved {
-            if range.from <= u64::from(front)
-                && u64::from(front) < range.to
-                && range.to <= u64::from(u32::MAX)
-            {
-                front = self.after_instances(range.to as u32);
-            }
-        }
-        front
-    }
-
-    /// Returns the address after the instances that follow one another from a front on.
-    fn after_instances(&self, from: u32) -> u32
-        requires { IsFront self.now.granule self.now.instances self.now.reserved from }
-        ensures { IsFront self.now.granule self.now.instances self.now.reserved result }
-    {
-        let mut front = from;
-        while let Some(bytes) = self.instances.get(&front) {
-            front = (u64::from(front) + taken_by(self.granule, bytes.len() as u64)) as u32;
-        }
-        front
-    }
-
-    /// Takes `size` addresses from `address` on out of use, as long as this memory lives. No instance is placed there.
+    /// Takes `size` addresses from `address` on out of use, until they are given back by [`unreserve`](Self::unreserve). No
+    /// instance is placed there.
     ///
     /// The range begins at the multiple of 16 at or below `address`, and ends at the one at or above its end. If `size` is
     /// 0, nothing is taken.
@@ -239,6 +270,27 @@ impl Memory {
         };
         self.reserved.insert(rank, range)?;
         Ok(())
+    }
+
+    /// Gives a reserved range back: instances can be placed there again. Returns whether there was one.
+    ///
+    /// It is exactly the range that [`reserve`](Self::reserve) takes out of use for the same numbers. If the addresses aren't
+    /// such a range, also if they are a part of one or several, nothing changes. If `size` is 0, nothing changes, and the
+    /// answer is `true`.
+    pub fn unreserve(&mut self, address: u32, size: u32) -> bool
+        ensures freed { result ≡ true → Unreserves self.old address size self.new }
+        ensures refused { result ≡ false → IsNoRange self.old address size × (self.new ≡ self.old) }
+    {
+        if size == 0 {
+            return true;
+        }
+        let range = rounded(address, size);
+        let Some(number) = number_of(&self.reserved, range) else {
+            return false;
+        };
+        self.reserved.remove(number);
+        self.hints.lower(range.from);
+        true
     }
 
     /// Returns whether no instance takes an address of a range.
@@ -301,7 +353,7 @@ impl Memory {
         ensures in_order { IsInOrder self.old }
     {
         self.instances.remove(&place.address);
-        self.front = self.front.min(place.address);
+        self.hints.lower(u64::from(place.address));
     }
 
     /// Returns the `len` bytes from `address` on, or `None` if they don't lie inside one instance. An
@@ -315,6 +367,27 @@ impl Memory {
         let (start, bytes) = self.instances.range(..=address).next_back()?;
         range_of(bytes, address - *start, len)
     }
+}
+
+/// Returns how many of some ranges, which lie in the order of their addresses, end up to an address.
+fn passed_by(ranges: &[Reserved], address: u64) -> usize
+    requires { AreInTurn 0 ranges.now }
+    ensures inside { result ≤ length ranges.now }
+    ensures passed { AllPassed address (take result ranges.now) }
+{
+    ranges.partition_point(
+        |range: &Reserved| -> bool
+            ensures { result ≡ leb range.now.to address }
+        { range.to <= address },
+    )
+}
+
+/// Returns the greatest power of two up to a number of bytes.
+fn class_of(taken: u64) -> u64
+    requires { (0 < taken) × (taken ≤ 2 ^ 33) }
+    ensures { (0 < result) × (result ≤ 2 ^ 33) }
+{
+    (taken / 2 + 1).next_power_of_two().min(taken)
 }
 
 /// Returns the range that `size` bytes from `address` on take.
@@ -353,6 +426,20 @@ fn rank_of(ranges: &[Reserved], range: Reserved) -> Option<usize>
         rank += 1;
     }
     Some(rank)
+}
+
+/// Returns the number of a range among some.
+fn number_of(ranges: &[Reserved], range: Reserved) -> Option<usize>
+    ensures { result ≡ range_number ranges.now range 0 }
+{
+    let mut number = 0;
+    for other in ranges {
+        if other.from == range.from && other.to == range.to {
+            return Some(number);
+        }
+        number += 1;
+    }
+    None
 }
 
 /// Returns the `len` bytes of an instance from an offset on, if they lie inside it.

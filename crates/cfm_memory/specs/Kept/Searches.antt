@@ -1,23 +1,54 @@
 -- The results of the searches through the instances, each over a list.
-use Rattle.std.specs.Prelude.{◌≡◌, ℕ, ◌+◌, ◌%◌, ◌^◌, ◌<◌, ◌≤◌, List, [], ◌∷◌, Option, None, Some, if◌then◌else◌, length, take, drop, nat_le}
+use Rattle.std.specs.Prelude.{◌≡◌, ℕ, ◌+◌, ◌-◌, ◌%◌, ◌^◌, ◌<◌, ◌≤◌, List, [], ◌∷◌, Option, None, Some, if◌then◌else◌, length, min, take, drop, nat_le, slice_index_or}
+use Rattle.std.specs.List.{All}
 use Rattle.cfm_memory.specs.Instances.{Instance}
 use Rattle.cfm_memory.specs.Limits.{first_address}
 use Rattle.cfm_memory.specs.Placement.{AreClear, AreInTurn, IsClear, IsFree, IsLaidOut}
+use Rattle.cfm_memory.specs.Reservation.{same_range}
+use Rattle.cfm_memory.specs.declared.hints.Hint.{Hint}
 use Rattle.cfm_memory.specs.declared.place.Reserved.{Reserved}
 
--- an address below which nothing is free, and across which no instance lies
-pub record IsFront (granule : ℕ) (xs : List Instance) (rs : List Reserved) (front : ℕ) : Type 0 where
-  pub low : first_address ≤ front
-  pub between : IsFree granule front front xs
-  pub full : (other : ℕ) → first_address ≤ other → IsFree granule other (other + 1) xs → IsClear other (other + 1) rs → front ≤ other
+-- below a hint's address no multiple of its step has room for its bytes
+abbrev pub IsBarren : ℕ → List Instance → List Reserved → Hint → Type 0
+IsBarren granule xs rs hint = (other : ℕ) → first_address ≤ other → other % hint.step ≡ 0 → IsFree granule other (other + hint.taken) xs → IsClear other (other + hint.taken) rs → hint.from ≤ other
 
--- the invariant of a memory: its instances are laid out, so are its reserved ranges, its front is one, and its limit has
--- 32 bits
-pub record IsKept (granule limit : ℕ) (xs : List Instance) (rs : List Reserved) (front : ℕ) : Type 0 where
+-- hints that hold, each with an address that isn't past the last one
+abbrev pub AreHints : ℕ → List Instance → List Reserved → List Hint → Type 0
+AreHints granule xs rs hints = All (λ hint. IsBarren granule xs rs hint × (hint.from ≤ 2 ^ 32)) hints
+
+-- a hint that serves no search
+abbrev pub no_hint : Hint
+no_hint = record { from = first_address; taken = 2 ^ 33; step = 2 ^ 32 }
+
+-- a hint tells where a search for some bytes at multiples of a step may begin
+abbrev pub Serves : Hint → ℕ → ℕ → Type 0
+Serves hint bytes step = (hint.taken ≤ bytes) × (step % hint.step ≡ 0)
+
+-- the address of a hint that serves a search, or the first address
+abbrev pub IsStart : List Hint → ℕ → ℕ → ℕ → Type 0
+IsStart hints bytes step from = (first_address ≤ from) × ((other : ℕ) → first_address ≤ other → All (λ hint. Serves hint bytes step → hint.from ≤ other) hints → from ≤ other)
+
+-- what is left of a hint after the memory from an address on is given back
+abbrev pub lowered : ℕ → Hint → Hint
+lowered address hint = record hint { from = min hint.from (address - hint.taken) }
+
+-- all hints are lowered
+abbrev pub AreLowered : ℕ → List Hint → List Hint → Type 0
+AreLowered address hints lower = (k : ℕ) (d : Hint) → k < length hints → slice_index_or lower k d ≡ lowered address (slice_index_or hints k d)
+
+-- the first address from another on across which no instance lies
+pub record IsPast (granule from : ℕ) (xs : List Instance) (address : ℕ) : Type 0 where
+  pub low : from ≤ address
+  pub between : IsFree granule address address xs
+  pub full : (other : ℕ) → from ≤ other → IsFree granule other (other + 1) xs → address ≤ other
+
+-- the invariant of a memory: its instances are laid out, so are its reserved ranges, its hints hold, and its limit has 32
+-- bits
+pub record IsKept (granule limit : ℕ) (xs : List Instance) (rs : List Reserved) (hints : List Hint) : Type 0 where
   pub laid_out : IsLaidOut granule first_address limit xs
   pub in_turn : AreInTurn 0 rs
   pub clear : AreClear granule xs rs
-  pub is_front : IsFront granule xs rs front
+  pub are_hints : AreHints granule xs rs hints
   pub small : limit < 2 ^ 32
 
 -- the first multiple of a step, from an address on, at which some bytes overlap no instance
@@ -40,6 +71,11 @@ pub record IsFirstVacant (granule bytes step from : ℕ) (xs : List Instance) (r
 abbrev pub AllPassed : ℕ → List Reserved → Type 0
 AllPassed address [] = Unit {0}
 AllPassed address (r ∷ rs) = (r.to ≤ address) × AllPassed address rs
+
+-- the number of a range among some, counted from a number on
+abbrev pub range_number : List Reserved → Reserved → ℕ → Option ℕ
+range_number [] y at = None
+range_number (r ∷ rs) y at = if same_range r y then Some at else range_number rs y (at + 1)
 
 -- the len bytes from a place on, if they are there
 abbrev pub part_of : List ℕ → ℕ → ℕ → Option (List ℕ)

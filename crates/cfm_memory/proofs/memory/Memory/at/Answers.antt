@@ -24,5 +24,5 @@ returns-clause-range c =
 
 pub returns-clause-clear : goal.returns-clause-clear
 returns-clause-clear c =
-    let order = in_order_seen c.self.inside.granule.bytes c.self.inside.limit c.self.inside.front (instances c.self.inside.instances.entries) c.self.inside.reserved.items c.args.self.now c.self.view_is c.self.invariant in
+    let order = in_order_seen c.self.inside.granule.bytes c.self.inside.limit c.self.inside.hints.rows (instances c.self.inside.instances.entries) c.self.inside.reserved.items c.args.self.now c.self.view_is c.self.invariant in
     found_clear c.args.self.now c.range_of.result c.args.address c.args.len order (returns-clause-range c)

@@ -17,7 +17,7 @@ returns-in-None-clause-held c =
 
 pub returns-in-Some-clause-clear : goal.returns-in-Some-clause-clear
 returns-in-Some-clause-clear c = λ tells.
-    let order = in_order_seen c.self.inside.granule.bytes c.self.inside.limit c.self.inside.front (instances c.self.inside.instances.entries) c.self.inside.reserved.items c.args.self.now c.self.view_is c.self.invariant in
+    let order = in_order_seen c.self.inside.granule.bytes c.self.inside.limit c.self.inside.hints.rows (instances c.self.inside.instances.entries) c.self.inside.reserved.items c.args.self.now c.self.view_is c.self.invariant in
     let is = bytes_found c.self.inside.instances.entries c.args.place.address c.in-Some.bytes.now c.in-Some.ensures.value in
     let held : nat_eq c.len.result c.args.place.size ≡ holds_place c.args.self.now c.args.place = rw (← c.self.view_is, is, c.len.ensures, c.in-Some.bytes.now.ok.0) refl in
     place_clear c.args.self.now c.args.place order (sym held ∙ tells)

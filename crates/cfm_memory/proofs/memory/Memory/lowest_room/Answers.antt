@@ -3,8 +3,14 @@ use Rattle.std.proofs.Common.{arith}
 use Rattle.cfm_memory.proofs.Placing.{some_taken, taken_most}
 use Rattle.cfm_memory.proofs.memory.Memory.lowest_room.Goals as goal
 
-pub first_vacant-address-requires-clause-taken : goal.first_vacant-address-requires-clause-taken
-first_vacant-address-requires-clause-taken c =
+pub class_of-requires : goal.class_of-requires
+class_of-requires c =
+    let some = some_taken c.self.inside.granule.bytes c.from.result in
+    let most = taken_most c.self.inside.granule.bytes c.from.result in
+    (omega arith, omega arith)
+
+pub search-address-requires-clause-taken : goal.search-address-requires-clause-taken
+search-address-requires-clause-taken c =
     let some = some_taken c.self.inside.granule.bytes c.from.result in
     let most = taken_most c.self.inside.granule.bytes c.from.result in
     (omega arith, omega arith)

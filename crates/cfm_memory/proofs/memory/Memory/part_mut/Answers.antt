@@ -16,7 +16,7 @@ invariant_of-self-lent c = λ w.
     let v = c.unwrap-bytes.result.now in
     let there : Some v ≡ found es c.args.place.address = ap option_copied_mut (sym c.unwrap-bytes.ensures) ∙ c.get_mut.ensures.value in
     let is : instances (c.get_mut.follows.lender (with_items v w)).entries ≡ with_bytes (instances es) c.args.place.address w = ap instances (c.get_mut.follows.holds (with_items v w)).0 ∙ written_is es c.args.place.address v (with_items v w) w there (rw (v.ok.0) refl) in
-    rw is (written_kept c.self.inside.granule.bytes c.self.inside.limit c.self.inside.front c.args.place.address w (instances es) c.self.inside.reserved.items c.self.invariant)
+    rw is (written_kept c.self.inside.granule.bytes c.self.inside.limit c.self.inside.hints.rows c.args.place.address w (instances es) c.self.inside.reserved.items c.self.invariant)
 
 pub returns : goal.returns
 returns c =

@@ -16,8 +16,8 @@ invariant_of-self-2 c =
     let is = c.deref.ensures.value in
     let clear = subst (IsClear y.from y.to) is c.in-Some.ensures.clear in
     let free : IsFree c.self.inside.granule.bytes y.from y.to xs = rw (← c.self.view_is) at (c.if-not-is_free.ensures.yes refl) in
-    let kept = reserved_kept c.self.inside.granule.bytes c.self.inside.limit c.self.inside.front xs rs y c.rounded-range.ensures.some c.if-range-gt-GREATEST_END.false free clear c.self.invariant in
+    let kept = reserved_kept c.self.inside.granule.bytes c.self.inside.limit c.self.inside.hints.rows xs rs y c.rounded-range.ensures.some c.if-range-gt-GREATEST_END.false free clear c.self.invariant in
     let P : List Reserved → Type 0 = λ ranges. insert ranges c.in-Some.rank y ≡ with_range ranges y in
     let whole : c.insert.new.self.items ≡ with_range rs y = c.in_ok-insert.ensures.items ∙ subst P is c.in-Some.ensures.inserted in
-    let Q : List Reserved → Type 0 = λ ranges. IsKept c.self.inside.granule.bytes c.self.inside.limit xs ranges c.self.inside.front in
+    let Q : List Reserved → Type 0 = λ ranges. IsKept c.self.inside.granule.bytes c.self.inside.limit xs ranges c.self.inside.hints.rows in
     subst Q (sym whole) kept
