@@ -2,9 +2,7 @@
 use Rattle.std.proofs.Common.{◌≡◌, ℕ, ◌+◌, ◌<◌, ◌≤◌, Bool, true, false, List, [], ◌∷◌, length, Option, None, Some, Ok, Err, refl, sym, ap, ◌∙◌, subst, inl, inr, arith, Contains}
 use Rattle.std.specs.Prelude.{Result, IsSome, is_some}
 use Rattle.std.specs.Option.{option_map_or, option_or}
-use Rattle.std.specs.Str.{bytes_eq}
 use Rattle.std.proofs.lemmas.List.{get_or_append_left, length_push}
-use Rattle.std.proofs.lemmas.Slice.Eq.{bytes_eq-Decides}
 use Rattle.pef_format.specs.Symbols.{options_of}
 use Rattle.pef_format.specs.declared.place.Part.TheVariants as part
 use Rattle.pef_loader.specs.Library.{Library}
@@ -16,28 +14,28 @@ use Rattle.cfm_closure.specs.Faults.{BindRefusal, library_missing}
 use Rattle.cfm_closure.specs.Fragments.{Fragment, fragment_of, loader_at, part_place}
 use Rattle.cfm_closure.specs.Libraries.{absent_or, bound, bound_at, bound_by, bound_to, fit_with}
 use Rattle.cfm_closure.specs.Orders.{IsComplete}
-use Rattle.cfm_closure.specs.Stores.{Pair, pair_of, place_of}
+use Rattle.cfm_closure.specs.Stores.{Pair, is_named, no_pair, pair_of, place_of, shown}
 use Rattle.cfm_closure.specs.Targets.{target_of}
 use Rattle.cfm_closure.proofs.BoundLemmas.{library_of-below}
 use Rattle.cfm_closure.proofs.ClosedLemmas.{closed-complete}
 use Rattle.cfm_closure.proofs.HopFacts.{loader_at-is}
 use Rattle.cfm_closure.proofs.PathLemmas.{bound_to-is}
-use Rattle.cfm_closure.proofs.PlaceLemmas.{if_met, place_from-push, place_of-below}
+use Rattle.cfm_closure.proofs.PlaceLemmas.{if_met, named-name, place_from-push, place_of-below}
 use Rattle.cfm_closure.proofs.SameClosedLemmas.{closed-same, target-same}
 use Rattle.cfm_closure.proofs.SameLemmas.{AreSame, fragment_of-same}
 
 module _ (pairs : List Pair) (n : Pair) where
   -- the pairs before it stay in their places
   pub pair_of-with : (p : ℕ) → p < length pairs → pair_of (with_pair pairs n) p ≡ pair_of pairs p
-  pair_of-with p inside = get_or_append_left pairs (n ∷ []) (record { name = []; bytes = [] }) p inside
+  pair_of-with p inside = ap shown (get_or_append_left pairs (n ∷ []) no_pair p inside)
 
   pub fragment_of-with : (p : ℕ) → p < length pairs → fragment_of (with_pair pairs n) p ≡ fragment_of pairs p
   fragment_of-with p inside = fragment_of-same pairs (with_pair pairs n) p (pair_of-with p inside)
 
   -- a name has the place that it had, or none, unless it is that of the new pair and had none
-  place_of-with : (name : List ℕ) → (name ≡ n.name → IsSome (place_of pairs name)) → place_of (with_pair pairs n) name ≡ place_of pairs name
+  pub place_of-with : (name : List ℕ) → (name ≡ n.name → IsSome (place_of pairs name)) → place_of (with_pair pairs n) name ≡ place_of pairs name
   unfolding place_of
-  place_of-with name known = place_from-push 0 pairs n name ∙ by (bytes_eq name n.name) refl
+  place_of-with name known = place_from-push 0 pairs n name ∙ by (is_named n name) refl
     where
       found : (o : Option ℕ) → is_some o ≡ true → option_or o (Some (0 + length pairs)) ≡ o
       found None some = absurd (cc)
@@ -47,8 +45,8 @@ module _ (pairs : List Pair) (n : Pair) where
       none None = refl
       none (Some p) = refl
 
-      by : (here : Bool) → bytes_eq name n.name ≡ here → option_or (place_of pairs name) (if_met here (0 + length pairs)) ≡ place_of pairs name
-      by true met = found (place_of pairs name) (known ((bytes_eq-Decides name n.name).0 met))
+      by : (here : Bool) → is_named n name ≡ here → option_or (place_of pairs name) (if_met here (0 + length pairs)) ≡ place_of pairs name
+      by true met = found (place_of pairs name) (known (named-name n name met))
       by false met = none (place_of pairs name)
 
   -- a name that has a place keeps it
@@ -66,7 +64,7 @@ module _ (pairs : List Pair) (n : Pair) where
 
   module _ (order : List ℕ) (may : MayBeAdded pairs order n.name) where
     -- the store has a name of the order's libraries, or it isn't that of the new pair
-    known_library : (p l : ℕ) (f : Fragment) (library : Library) → Contains order p → fragment_of pairs p ≡ Ok f → library_of f.loader l ≡ Some library → library.name ≡ n.name → IsSome (place_of pairs library.name)
+    pub known_library : (p l : ℕ) (f : Fragment) (library : Library) → Contains order p → fragment_of pairs p ≡ Ok f → library_of f.loader l ≡ Some library → library.name ≡ n.name → IsSome (place_of pairs library.name)
     known_library p l f library there read entry same = elim may [
       | inl has ↦ ap (λ name. is_some (place_of pairs name)) same ∙ has
       | inr none ↦ absurd (none (record {
@@ -95,12 +93,12 @@ module _ (pairs : List Pair) (n : Pair) where
         of (Ok f) read = at f read (library_of f.loader l) refl
         of (Err e) read = refl
 
-    are_same : IsComplete pairs order → AreSame pairs (with_pair pairs n) order
+    pub are_same : IsComplete pairs order → AreSame pairs (with_pair pairs n) order
     are_same complete p there =
         let inside = (complete.members p there).place in
         record { pair = pair_of-with p inside; bound = λ l. bound_to-with p l there inside }
 
-  longer : length pairs ≤ length (with_pair pairs n)
+  pub longer : length pairs ≤ length (with_pair pairs n)
   longer = let e = length_push pairs n in omega arith
 
   module _ (root : ℕ) (c : Closed) (inside : root < length pairs) (is : closed_of pairs root ≡ Ok c) (may : MayBeAdded pairs c.order n.name) where
@@ -122,7 +120,7 @@ absent-weak false r b is = absurd (cc)
 
 -- so a library of a closure that the store lacks is weak, and was bound to nothing
 pub closed-missing : (pairs : List Pair) (root : ℕ) (c : Closed) (p l : ℕ) (loader : Loaded) (library : Library) → closed_of pairs root ≡ Ok c → Contains c.order p → loader_at pairs p ≡ Some loader → library_of loader l ≡ Some library
-    → place_of pairs library.name ≡ None → ((options_of library.options).weak ≡ true) × (bound_to pairs p l ≡ Ok None)
+    → place_of pairs library.name ≡ None → ((options_of library.fields.options).weak ≡ true) × (bound_to pairs p l ≡ Ok None)
 unfolding bound_to bound
 closed-missing pairs root c p l loader library is there read entry lacks =
     let m = (closed-complete pairs root c is).members p there in
@@ -130,5 +128,5 @@ closed-missing pairs root c p l loader library is there read entry lacks =
     let entry' = subst (λ (loader : Loaded). library_of loader l ≡ Some library) same entry in
     let h = m.libraries l (library_of-below m.fragment.loader l library entry') in
     let absent = bound_to-is pairs p l m.fragment library m.read entry' ∙ ap (bound_at pairs m.fragment l library) lacks in
-    let a = absent-weak (options_of library.options).weak (library_missing m.fragment.name library.name (part_place m.fragment part.Library l 0)) h.bound (sym absent ∙ h.is) in
+    let a = absent-weak (options_of library.fields.options).weak (library_missing m.fragment.name library.name (part_place m.fragment part.Library l 0)) h.bound (sym absent ∙ h.is) in
     (a.0, h.is ∙ ap Ok a.1)

@@ -23,11 +23,11 @@ absent_or-none false r q is = cc
 
 bound_by-place : (fit : Fit) (f : Fragment) (i : ℕ) (l : Library) (g : Fragment) (p q : ℕ) → bound_by fit f i l g p ≡ Ok (Some q) → p ≡ q
 bound_by-place Fits f i l g p q is = cc
-bound_by-place TooOld f i l g p q is = absurd (absent_or-none (options_of l.options).weak (implementation_too_old f.name l.name (part_place f part.Library i 4) (definition_of l) (implementation_of g)) q is)
-bound_by-place TooNew f i l g p q is = absurd (absent_or-none (options_of l.options).weak (implementation_too_new f.name l.name (part_place f part.Library i 4) (definition_of l) (implementation_of g)) q is)
+bound_by-place TooOld f i l g p q is = absurd (absent_or-none (options_of l.fields.options).weak (implementation_too_old f.name l.name (part_place f part.Library i 4) (definition_of l) (implementation_of g)) q is)
+bound_by-place TooNew f i l g p q is = absurd (absent_or-none (options_of l.fields.options).weak (implementation_too_new f.name l.name (part_place f part.Library i 4) (definition_of l) (implementation_of g)) q is)
 
 bound_at-place : (pairs : List Pair) (f : Fragment) (i : ℕ) (l : Library) (o : Option ℕ) (q : ℕ) → bound_at pairs f i l o ≡ Ok (Some q) → o ≡ Some q
-bound_at-place pairs f i l None q is = absurd (absent_or-none (options_of l.options).weak (library_missing f.name l.name (part_place f part.Library i 0)) q is)
+bound_at-place pairs f i l None q is = absurd (absent_or-none (options_of l.fields.options).weak (library_missing f.name l.name (part_place f part.Library i 0)) q is)
 bound_at-place pairs f i l (Some p) q is =
     let a = came (fragment_of pairs p) (λ g. bound_by (fit_with l g) f i l g p) (Some q) is in
     ap Some (bound_by-place (fit_with l a.value) f i l a.value p q a.leads)

@@ -8,16 +8,20 @@ use Rattle.std.proofs.lemmas.Bool.Decides.{eqb_tells}
 use Rattle.std.proofs.lemmas.List.{get_or-append_right, get_or-set_other, get_or-set_same, get_or_append_left, get_or_past, length-append, length-replicate, length-set, length_push}
 use Rattle.std.proofs.lemmas.List.Elements.{Contains-get_or}
 use Rattle.pef_loader.specs.Loader.{Loaded, library_of}
-use Rattle.cfm_closure.specs.Additions.{MayBeAdded, NamesLibrary, with_pair}
-use Rattle.cfm_closure.specs.Stores.{Pair, place_of}
+use Rattle.cfm_closure.specs.Additions.{MayBeAdded, NamesLibrary, with_put, with_pair}
+use Rattle.cfm_closure.specs.Stores.{Pair, pair_of, place_of}
 use Rattle.cfm_closure.specs.declared.fragment.FragmentView.{FragmentView}
-use Rattle.cfm_closure.specs.Fragments.{Fragment}
+use Rattle.cfm_closure.specs.Fragments.{Fragment, fragment_of}
 use Rattle.cfm_closure.specs.Kept.Caches.{AreCached, AreKeptRows, AreOfKept, IsKeptRow, IsOfKept, KeepsFirst, NoneNames}
 use Rattle.cfm_closure.specs.Kept.Targets.{AreAllKnown, Row}
 use Rattle.cfm_closure.specs.Kept.Views.{AreRead, fragment_at}
 use Rattle.cfm_closure.specs.Orders.{IsComplete}
 use Rattle.cfm_closure.specs.Views.{fragment_seen}
-use Rattle.cfm_closure.proofs.AdditionLemmas.{closed-with, fragment_of-with, target-with}
+use Rattle.cfm_closure.proofs.AdditionLemmas.{are_same, longer, pair_of-with}
+use Rattle.cfm_closure.proofs.ClosedLemmas.{closed-complete}
+use Rattle.cfm_closure.proofs.SameClosedLemmas.{closed-same, target-same}
+use Rattle.cfm_closure.proofs.SameLemmas.{AreSame, fragment_of-same}
+use Rattle.cfm_closure.proofs.StoreLemmas.{new-longer, new-read, new-same, read-inside}
 use Rattle.cfm_closure.proofs.LeadLemmas.{led-target, target-led}
 use Rattle.cfm_closure.proofs.RowLemmas.{none-at}
 
@@ -58,22 +62,66 @@ module _ (pairs : List Pair) (views : List (Option FragmentView)) (rows : List (
     closures = subst (AreOfKept pairs) (sym same) is.closures;
   }
 
-  module _ (n : Pair) where
-    read-with : AreRead (with_pair pairs n) views
-    read-with p f here =
-        let under = fragment_at-below views p f here in
-        let few = is.few in
-        fragment_of-with pairs n p (omega arith) ∙ is.read p f here
+  -- another store has the fragments that were read
+  module _ (pairs' : List Pair) (more : length pairs ≤ length pairs') (reads : (q : ℕ) (f : Fragment) → fragment_of pairs q ≡ Ok f → pair_of pairs' q ≡ pair_of pairs q) where
+    read-now : AreRead pairs' views
+    read-now p f here = fragment_of-same pairs pairs' p (reads p f (is.read p f here)) ∙ is.read p f here
 
-    -- without targets, the fragments that were read stay what they are when a pair is added
-    pub cache_with : (rows' : List (Option Row)) → rows' ≡ [] → AreCached (with_pair pairs n) views rows'
-    cache_with rows' none = record {
-      few = let e = length_push pairs n in let few = is.few in omega arith;
-      read = read-with;
+    -- without targets, what was read stays what it is
+    cache_without : (rows' : List (Option Row)) → rows' ≡ [] → AreCached pairs' views rows'
+    cache_without rows' none = record {
+      few = let few = is.few in omega arith;
+      read = read-now;
       few_rows = let e = ap length none in omega arith;
-      right = rows-none (with_pair pairs n) rows' none;
-      closures = kept-none (with_pair pairs n) rows' none;
+      right = rows-none pairs' rows' none;
+      closures = kept-none pairs' rows' none;
     }
+
+    -- the targets do too, if it has the same fragments and bindings in the closures that are kept
+    module _ (same : (p : ℕ) (o : IsOfKept pairs rows p) → AreSame pairs pairs' o.closure.order) where
+      kept-now : AreOfKept pairs' rows
+      kept-now p some =
+          let o = is.closures p some in
+          record {
+            root = o.root;
+            inside = let inside = o.inside in omega arith;
+            closure = record { pairs = pairs'; order = o.closure.order; init_order = o.closure.init_order };
+            is = closed-same pairs pairs' o.root o.closure o.inside more o.is (same p o);
+            member = o.member;
+            all = o.all;
+          }
+
+      right-now : AreKeptRows pairs' rows
+      right-now p row here =
+          let o = is.closures p (ap is_some here) in
+          let k = is.right p row here in
+          record {
+            count = k.count ∙ sym (ap (λ r. option_map_or (λ (l : Loaded). l.header.import_count) (option_map (λ (f : Fragment). f.loader) (result_ok r)) 0) (fragment_of-same pairs pairs' p (same p o p o.member).pair));
+            known = k.known;
+            right = λ j t known.
+                led-target pairs' p j t
+                (target-same pairs pairs' o.root o.closure o.inside more o.is (same p o) p j o.member ∙ target-led pairs p j (Ok t) (k.right j t known));
+          }
+
+      cache_now : AreCached pairs' views rows
+      cache_now = record {
+        few = let few = is.few in omega arith;
+        read = read-now;
+        few_rows = let few = is.few_rows in omega arith;
+        right = right-now;
+        closures = kept-now;
+      }
+
+  -- so it stays with a pair more
+  module _ (n : Pair) where
+    at-end : (q : ℕ) (f : Fragment) → fragment_of pairs q ≡ Ok f → pair_of (with_pair pairs n) q ≡ pair_of pairs q
+    at-end q f read = pair_of-with pairs n q (read-inside pairs q f read)
+
+    pub cache_with : (rows' : List (Option Row)) → rows' ≡ [] → AreCached (with_pair pairs n) views rows'
+    cache_with = cache_without (with_pair pairs n) (longer pairs n) at-end
+
+    pub cache_with_put : (rows' : List (Option Row)) → rows' ≡ [] → AreCached (with_put pairs n) views rows'
+    cache_with_put = cache_without (with_put pairs n) (new-longer pairs n) (new-read pairs n)
 
     -- the targets do too, if the store has the name, or no fragment that is kept has a library entry with it
     module _ (may : IsSome (place_of pairs n.name) ⊎ NoneNames pairs rows n.name) where
@@ -83,51 +131,27 @@ module _ (pairs : List Pair) (views : List (Option FragmentView)) (rows : List (
         | inr none ↦ inr (λ (names : NamesLibrary pairs o.closure.order n.name). none names.fragment (o.all names.fragment names.member) names.index names.library (ap (option_and_then (λ x. library_of x names.index)) names.read ∙ names.entry) names.named)
       ]
 
-      kept-with : AreOfKept (with_pair pairs n) rows
-      kept-with p some =
-          let o = is.closures p some in
-          record {
-            root = o.root;
-            inside = let e = length_push pairs n in let inside = o.inside in omega arith;
-            closure = record { pairs = with_pair pairs n; order = o.closure.order; init_order = o.closure.init_order };
-            is = closed-with pairs n o.root o.closure o.inside o.is (may-be p o);
-            member = o.member;
-            all = o.all;
-          }
-
-      right-with : AreKeptRows (with_pair pairs n) rows
-      right-with p row here =
-          let o = is.closures p (ap is_some here) in
-          let k = is.right p row here in
-          let inside = p-below p row here in
-          record {
-            count = k.count ∙ sym (ap (λ r. option_map_or (λ (l : Loaded). l.header.import_count) (option_map (λ (f : Fragment). f.loader) (result_ok r)) 0) (fragment_of-with pairs n p inside));
-            known = k.known;
-            right = λ j t known.
-                led-target (with_pair pairs n) p j t
-                (target-with pairs n o.root o.closure o.inside o.is (may-be p o) p j o.member ∙ target-led pairs p j (Ok t) (k.right j t known));
-          }
-        where
-          p-below : (p : ℕ) (row : Row) → get_or rows p None ≡ Some row → p < length pairs
-          p-below p row here = elim (cases_lt p (length rows)) [
-            | inl under ↦ (let few = is.few_rows in omega arith)
-            | inr past ↦ absurd (let e : None ≡ Some row = sym (get_or_past rows p None past) ∙ here in cc)
-          ]
-
       pub cache_stays : AreCached (with_pair pairs n) views rows
-      cache_stays = record {
-        few = let e = length_push pairs n in let few = is.few in omega arith;
-        read = read-with;
-        few_rows = let e = length_push pairs n in let few = is.few_rows in omega arith;
-        right = right-with;
-        closures = kept-with;
-      }
+      cache_stays = cache_now (with_pair pairs n) (longer pairs n) at-end (λ p o. are_same pairs n o.closure.order (may-be p o) (closed-complete pairs o.root o.closure o.is))
+
+      pub cache_stays_new : AreCached (with_put pairs n) views rows
+      cache_stays_new = cache_now (with_put pairs n) (new-longer pairs n) (new-read pairs n) (λ p o. new-same pairs n o.closure.order (closed-complete pairs o.root o.closure o.is) (may-be p o))
 
 -- with the pair, and if it wasn't added
-pub cache_added : {E : Type 0} (pairs : List Pair) (n : Pair) (views : List (Option FragmentView)) (rows : List (Option Row)) (r : Result (Unit {0}) E) (new : List Pair) → OnOk r (new ≡ with_pair pairs n) → OnErr r (new ≡ pairs) → AreCached (with_pair pairs n) views rows → AreCached pairs views rows
+pub cache_added : {E : Type 0} (pairs pairs' : List Pair) (views : List (Option FragmentView)) (rows : List (Option Row)) (r : Result (Unit {0}) E) (new : List Pair) → OnOk r (new ≡ pairs') → OnErr r (new ≡ pairs) → AreCached pairs' views rows → AreCached pairs views rows
     → AreCached new views rows
-cache_added pairs n views rows (Ok done) new ok err with without = subst (λ (pairs : List Pair). AreCached pairs views rows) (sym ok) with
-cache_added pairs n views rows (Err e) new ok err with without = subst (λ (pairs : List Pair). AreCached pairs views rows) (sym err) without
+cache_added pairs pairs' views rows (Ok done) new ok err with without = subst (λ (pairs : List Pair). AreCached pairs views rows) (sym ok) with
+cache_added pairs pairs' views rows (Err e) new ok err with without = subst (λ (pairs : List Pair). AreCached pairs views rows) (sym err) without
+
+-- a store of which nothing is kept
+pub cache_none : (pairs : List Pair) (views : List (Option FragmentView)) (rows : List (Option Row)) → views ≡ [] → rows ≡ [] → AreCached pairs views rows
+cache_none pairs views rows none empty = record {
+  few = let e = ap length none in omega arith;
+  read = λ p f here. absurd (let under = fragment_at-below views p f here in let e = ap length none in omega (arith, under, e));
+  few_rows = let e = ap length empty in omega arith;
+  right = rows-none pairs rows empty;
+  closures = kept-none pairs rows empty;
+}
 
 -- a table that grew has as many places as the store
 rows_size : (rows : List (Option Row)) (n places : ℕ) → length rows ≤ n → places ≡ n → length (rows ++ replicate (places - length rows) None) ≡ n

@@ -3,8 +3,7 @@ use Rattle.std.proofs.Common.{◌≡◌, ℕ, zero, suc, ◌++◌, ◌∷◌, []
 use Rattle.std.specs.Prelude.{◌<◌, IfSome, option_map, slice_get}
 use Rattle.std.proofs.lemmas.Bool.{le-ltb}
 use Rattle.std.proofs.lemmas.Option.{same_Some, slice_get_cases}
-use Rattle.pef_format.specs.Symbols.{import_seen}
-use Rattle.pef_format.specs.declared.import.ImportView.{ImportView}
+use Rattle.pef_format.specs.Symbols.{ImportView, import_seen}
 use Rattle.pef_loader.specs.Import.{import_in}
 use Rattle.pef_loader.specs.Loader.{Loaded, import_of}
 use Rattle.cfm_closure.specs.Kept.Imports.{AreImports}

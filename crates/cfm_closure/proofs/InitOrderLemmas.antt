@@ -39,13 +39,13 @@ module _ (pairs : List Pair) where
   before-wanted : (p l q : ℕ) → before_of pairs p l ≡ Some q → WantsFirst pairs p l q
   before-wanted p l q is = by (fragment_of pairs p) refl is
     where
-      option : (f : Fragment) → fragment_of pairs p ≡ Ok f → (x : Library) → library_of f.loader l ≡ Some x → (b : Bool) → (options_of x.options).init_before ≡ b → cond b (library_at pairs p l) None ≡ Some q → WantsFirst pairs p l q
+      option : (f : Fragment) → fragment_of pairs p ≡ Ok f → (x : Library) → library_of f.loader l ≡ Some x → (b : Bool) → (options_of x.fields.options).init_before ≡ b → cond b (library_at pairs p l) None ≡ Some q → WantsFirst pairs p l q
       option f read x there true set is = record { fragment = f; read = read; library = x; entry = there; option = set; bound = library_at-is pairs p l q is }
       option f read x there false set is = absurd (cc)
 
       entry : (f : Fragment) → fragment_of pairs p ≡ Ok f → (o : Option Library) → library_of f.loader l ≡ o → before_at pairs p l o ≡ Some q → WantsFirst pairs p l q
       entry f read None there is = absurd (cc)
-      entry f read (Some x) there is = option f read x there (options_of x.options).init_before refl is
+      entry f read (Some x) there is = option f read x there (options_of x.fields.options).init_before refl is
 
       by : (r : Result Fragment BindRefusal) → fragment_of pairs p ≡ r → before_at pairs p l (option_and_then (λ (x : Loaded). library_of x l) (option_map (λ (f : Fragment). f.loader) (result_ok r))) ≡ Some q → WantsFirst pairs p l q
       by (Ok f) read is = entry f read (library_of f.loader l) refl is

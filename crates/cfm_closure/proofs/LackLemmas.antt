@@ -60,11 +60,11 @@ module _ (pairs : List Pair) (f : Fragment) (l : ℕ) (library : Library) where
       at None is = absurd (cc)
       at (Some p) is = read p (fragment_of pairs p) is
 
-  bound-missing : (found : Option Implementation) → serving pairs library ≡ Ok (ByNone found) → (options_of library.options).weak ≡ true → bound pairs f l library ≡ Ok None
+  bound-missing : (found : Option Implementation) → serving pairs library ≡ Ok (ByNone found) → (options_of library.fields.options).weak ≡ true → bound pairs f l library ≡ Ok None
   unfolding serving bound
   bound-missing found is weak = at (place_of pairs library.name) is
     where
-      absent : (r : BindRefusal) → absent_or (options_of library.options).weak r ≡ Ok None
+      absent : (r : BindRefusal) → absent_or (options_of library.fields.options).weak r ≡ Ok None
       absent r = ap (λ w. absent_or w r) weak
 
       fits : (g : Fragment) (p : ℕ) (fit : Fit) → serving_by fit g p ≡ ByNone found → bound_by fit f l library g p ≡ Ok None

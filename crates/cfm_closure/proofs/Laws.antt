@@ -23,3 +23,7 @@ pub use Rattle.cfm_closure.proofs.ClosedLemmas.{closed-order}
 pub use Rattle.cfm_closure.proofs.EndlessLemmas.{closed-endless}
 -- a pair that is added leaves the fragments, and the closures that may stay and their targets, as they are
 pub use Rattle.cfm_closure.proofs.AdditionLemmas.{closed-with, fragment_of-with, place_of-kept, target-with}
+-- so does one that is put into the place for it, or removed, since the fragments and bindings of the closures stay the same
+pub use Rattle.cfm_closure.proofs.SameLemmas.{AreSame, SameAt, fragment_of-same}
+pub use Rattle.cfm_closure.proofs.SameClosedLemmas.{closed-same, target-same}
+pub use Rattle.cfm_closure.proofs.StoreLemmas.{new-longer, new-same, removed-longer, removed-same}

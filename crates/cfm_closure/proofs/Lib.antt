@@ -1,5 +1,6 @@
 mod AdditionLemmas
 mod BoundLemmas
+mod BoundSameLemmas
 mod CacheLemmas
 mod ClosedLemmas
 mod EndlessLemmas
@@ -38,8 +39,10 @@ mod SameLemmas
 mod SameTargetLemmas
 mod SearchLemmas
 mod SharedLemmas
+mod StoreLemmas
 mod SymbolLemmas
 mod TableLemmas
 mod TargetLemmas
 mod WalkFacts
 mod WalkRules
+mod WithoutLemmas

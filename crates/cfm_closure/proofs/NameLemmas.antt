@@ -4,9 +4,8 @@ use Rattle.std.specs.Prelude.{IsTrue, option_map}
 use Rattle.std.proofs.lemmas.Bool.Decides.{eqb_tells, leb_tells}
 use Rattle.std.proofs.lemmas.List.{get_or-replicate, get_or-set_same, get_or-set_other, get_or_past, length-replicate, length-set}
 use Rattle.std.proofs.lemmas.Option.{same_Some}
-use Rattle.pef_format.specs.Exports.{Export, export_seen, is_export_section, value_of}
+use Rattle.pef_format.specs.Exports.{Export, ExportView, export_seen, is_export_section, value_of}
 use Rattle.pef_format.specs.declared.export.ExportValue.{ExportValue}
-use Rattle.pef_format.specs.declared.export.ExportView.{ExportView}
 use Rattle.pef_loader.specs.Export.{has_section, is_there}
 use Rattle.pef_loader.specs.Loader.{IsLoader, Loaded, export_of, named_of}
 use Rattle.pef_loader.proofs.Laws.{named_there}
@@ -76,10 +75,10 @@ shows-first l name i (Some x) ok named is =
         export = export_seen x;
         row = sym is;
         is = refl;
-        inside = and-second (is_export_section x.section) (is_there l.header l.sections (value_of x.section x.value)) (subst P same known.3);
+        inside = and-second (is_export_section x.fields.section) (is_there l.header l.sections (value_of x.fields.section x.fields.value)) (subst P same known.3);
       };
     }
 
 -- a row's value is what the first export with the row's name means
-pub means-shown : (l : Loaded) (name : List ℕ) (x : ExportView) (value : ExportValue) → Shows l name x → value ≡ value_of x.section x.value → Means l x.name.now value
-means-shown l name x value shown is = subst (λ v. Means l x.name.now v) (sym is) (subst (λ n. Means l n (value_of x.section x.value)) (sym shown.called) shown.means)
+pub means-shown : (l : Loaded) (name : List ℕ) (x : ExportView) (value : ExportValue) → Shows l name x → value ≡ value_of x.fields.section x.fields.value → Means l x.name.now value
+means-shown l name x value shown is = subst (λ v. Means l x.name.now v) (sym is) (subst (λ n. Means l n (value_of x.fields.section x.fields.value)) (sym shown.called) shown.means)

@@ -7,7 +7,7 @@ use Rattle.cfm_closure.specs.declared.missing.MissingLibrary.{MissingLibrary}
 use Rattle.cfm_closure.specs.Kept.Notes.{AreNamed, name_pair}
 use Rattle.cfm_closure.specs.Kept.Places.{ArePlaces}
 use Rattle.cfm_closure.specs.Missing.{Missing, noted, stricter}
-use Rattle.cfm_closure.specs.Stores.{Pair, place_from, place_of}
+use Rattle.cfm_closure.specs.Stores.{Pair, no_pair, place_from, place_of, shown}
 use Rattle.cfm_closure.specs.Views.{missing_seen}
 use Rattle.cfm_closure.proofs.PlaceLemmas.{length-seen, place_from-inside, place_of-below, place_of-named, seen-push}
 
@@ -85,9 +85,8 @@ module _ (items : List MissingLibrary) (m : MissingLibrary) where
     pub named-set : (entries : List (Bor (List ℕ) × ℕ)) → AreNamed (map missing_seen items) entries → AreNamed (map missing_seen (set items at m)) entries
     named-set entries are =
         let d : Missing = missing_seen m in
-        let none : Pair = record { name = []; bytes = [] } in
         let inside : at < length before = let long = length-seen missing_seen items in let under = known-inside in omega (arith, long, under) in
-        let name : m.name.now ≡ (get_or before at d).name = sym (place_of-named names m.name.now at is) ∙ ap (λ (p : Pair). p.name) (get_or-map name_pair before at d none inside) in
+        let name : m.name.now ≡ (get_or before at d).name = sym (place_of-named names m.name.now at is) ∙ ap (λ (p : Pair). (shown p).name) (get_or-map name_pair before at d no_pair inside) in
         let same : name_pair d ≡ name_pair (get_or before at d) = ap (λ n. name_pair (record d { name = n })) name in
         let all : map name_pair (map missing_seen (set items at m)) ≡ names = ap (map name_pair) (map-set missing_seen items at m) ∙ map-set_same name_pair before at d d same in
         subst (λ (ps : List Pair). ArePlaces ps entries) (sym all) are

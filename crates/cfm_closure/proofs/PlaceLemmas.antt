@@ -1,11 +1,12 @@
 -- The place of the first pair with a name, before and after a pair is added.
-use Rattle.std.proofs.Common.{◌≡◌, ℕ, suc, ◌+◌, ◌-◌, ◌<◌, ◌≤◌, Bool, true, false, cond, List, [], ◌∷◌, ◌++◌, map, length, Option, None, Some, refl, sym, ap, ap₂, ◌∙◌, subst, Bor, arith}
+use Rattle.std.proofs.Common.{◌≡◌, ℕ, zero, suc, ◌+◌, ◌-◌, ◌<◌, ◌≤◌, Bool, true, false, cond, List, [], ◌∷◌, ◌++◌, map, length, Option, None, Some, refl, sym, ap, ap₂, ◌∙◌, subst, Bor, arith, get_or, set}
 use Rattle.std.specs.Map.{lookup}
 use Rattle.std.specs.Option.{option_or}
 use Rattle.std.specs.Str.{bytes_eq}
 use Rattle.std.specs.Prelude.{IfSome, is_some}
 use Rattle.std.proofs.lemmas.Slice.Eq.{bytes_eq-Decides}
-use Rattle.cfm_closure.specs.Stores.{Pair, pair_of, place_from, place_of}
+use Rattle.cfm_closure.specs.Stores.{Pair, free_place, is_named, no_pair, pair_of, place_from, place_of, shown}
+use Rattle.cfm_closure.specs.Additions.{free_for, free_from}
 use Rattle.cfm_closure.specs.Kept.Places.{ArePlaces, NotesPlace}
 
 -- a value, if a test holds
@@ -13,11 +14,33 @@ abbrev pub if_met : Bool → ℕ → Option ℕ
 if_met true x = Some x
 if_met false x = None
 
+-- a pair with a name shows it
+pub named-name : (x : Pair) (name : List ℕ) → is_named x name ≡ true → name ≡ x.name
+named-name x name is = by x.free is
+  where
+    by : (free : Bool) → cond free false (bytes_eq name x.name) ≡ true → name ≡ x.name
+    by true is = absurd (cc)
+    by false is = (bytes_eq-Decides name x.name).0 is
+
+named-shown : (x : Pair) (name : List ℕ) → is_named x name ≡ true → (shown x).name ≡ name
+named-shown x name is = by x.free is
+  where
+    by : (free : Bool) → cond free false (bytes_eq name x.name) ≡ true → (cond free no_pair x).name ≡ name
+    by true is = absurd (cc)
+    by false is = sym ((bytes_eq-Decides name x.name).0 is)
+
+-- a free place has no name, and no pair
+pub free-unnamed : (x : Pair) (name : List ℕ) → x.free ≡ true → is_named x name ≡ false
+free-unnamed x name free = ap (λ free. cond free false (bytes_eq name x.name)) free
+
+pub free-shown : (x : Pair) → x.free ≡ true → shown x ≡ no_pair
+free-shown x free = ap (λ free. cond free no_pair x) free
+
 -- the first pair with a name is at or after the number from which they are counted, and among the
 -- pairs
 pub place_from-inside : (at : ℕ) (pairs : List Pair) (name : List ℕ) (p : ℕ) → place_from at pairs name ≡ Some p → (at ≤ p) × (p < at + length pairs)
 place_from-inside at [] name p is = absurd (cc)
-place_from-inside at (x ∷ pairs) name p is = by (bytes_eq name x.name) is (place_from-inside (at + 1) pairs name p)
+place_from-inside at (x ∷ pairs) name p is = by (is_named x name) is (place_from-inside (at + 1) pairs name p)
   where
     by : (here : Bool) → cond here (Some at) (place_from (at + 1) pairs name) ≡ Some p → (place_from (at + 1) pairs name ≡ Some p → (at + 1 ≤ p) × (p < at + 1 + length pairs)) → (at ≤ p) × (p < at + length (x ∷ pairs))
     by true is later = let same : at ≡ p = cc in (omega arith, omega arith)
@@ -28,26 +51,34 @@ unfolding place_of
 place_of-below pairs name p is = let r = place_from-inside 0 pairs name p is in omega (arith, r.1)
 
 -- the pair in that place has the name
-place_from-named : (at : ℕ) (pairs : List Pair) (name : List ℕ) (p : ℕ) → place_from at pairs name ≡ Some p → (pair_of pairs (p - at)).name ≡ name
-place_from-named at [] name p is = absurd (cc)
-place_from-named at (x ∷ pairs) name p is = by (bytes_eq name x.name) refl is (place_from-named (at + 1) pairs name p)
+place_from-met : (at : ℕ) (pairs : List Pair) (name : List ℕ) (p : ℕ) → place_from at pairs name ≡ Some p → is_named (get_or pairs (p - at) no_pair) name ≡ true
+place_from-met at [] name p is = absurd (cc)
+place_from-met at (x ∷ pairs) name p is = by (is_named x name) refl is (place_from-met (at + 1) pairs name p)
   where
-    by : (here : Bool) → bytes_eq name x.name ≡ here → cond here (Some at) (place_from (at + 1) pairs name) ≡ Some p → (place_from (at + 1) pairs name ≡ Some p → (pair_of pairs (p - (at + 1))).name ≡ name) → (pair_of (x ∷ pairs) (p - at)).name ≡ name
+    by : (here : Bool) → is_named x name ≡ here → cond here (Some at) (place_from (at + 1) pairs name) ≡ Some p → (place_from (at + 1) pairs name ≡ Some p → is_named (get_or pairs (p - (at + 1)) no_pair) name ≡ true)
+        → is_named (get_or (x ∷ pairs) (p - at) no_pair) name ≡ true
     by true met is later =
         let same : at ≡ p = cc in
         let none : p - at ≡ 0 = omega arith in
-        rw none (sym ((bytes_eq-Decides name x.name).0 met))
+        rw none met
     by false met is later =
         let low = (place_from-inside (at + 1) pairs name p is).0 in
         let more : p - at ≡ suc (p - (at + 1)) = omega arith in
         rw more (later is)
 
-pub place_of-named : (pairs : List Pair) (name : List ℕ) (p : ℕ) → place_of pairs name ≡ Some p → (pair_of pairs p).name ≡ name
+pub place_of-met : (pairs : List Pair) (name : List ℕ) (p : ℕ) → place_of pairs name ≡ Some p → is_named (get_or pairs p no_pair) name ≡ true
 unfolding place_of
-place_of-named pairs name p is =
+place_of-met pairs name p is =
     let from : p - 0 ≡ p = omega arith in
-    let P : ℕ → Type 0 = λ n. (pair_of pairs n).name ≡ name in
-    subst P from (place_from-named 0 pairs name p is)
+    let P : ℕ → Type 0 = λ n. is_named (get_or pairs n no_pair) name ≡ true in
+    subst P from (place_from-met 0 pairs name p is)
+
+pub place_of-named : (pairs : List Pair) (name : List ℕ) (p : ℕ) → place_of pairs name ≡ Some p → (pair_of pairs p).name ≡ name
+place_of-named pairs name p is = named-shown (get_or pairs p no_pair) name (place_of-met pairs name p is)
+
+-- .. so it isn't free
+pub place_of-taken : (pairs : List Pair) (name : List ℕ) (p : ℕ) → place_of pairs name ≡ Some p → (get_or pairs p no_pair).free ≡ true → ⊥
+place_of-taken pairs name p is free = let e : false ≡ true = sym (free-unnamed (get_or pairs p no_pair) name free) ∙ place_of-met pairs name p is in cc
 
 -- .. and is the first with its own
 pub place_of-first : (pairs : List Pair) (name : List ℕ) (p : ℕ) → place_of pairs name ≡ Some p → place_of pairs (pair_of pairs p).name ≡ Some p
@@ -58,19 +89,19 @@ place_below pairs name None is = tt
 place_below pairs name (Some p) is = place_of-below pairs name p is
 
 -- with one more pair, a name has the place that it had, or the last one
-pub place_from-push : (at : ℕ) (pairs : List Pair) (x : Pair) (name : List ℕ) → place_from at (pairs ++ x ∷ []) name ≡ option_or (place_from at pairs name) (if_met (bytes_eq name x.name) (at + length pairs))
-place_from-push at [] x name = by (bytes_eq name x.name)
+pub place_from-push : (at : ℕ) (pairs : List Pair) (x : Pair) (name : List ℕ) → place_from at (pairs ++ x ∷ []) name ≡ option_or (place_from at pairs name) (if_met (is_named x name) (at + length pairs))
+place_from-push at [] x name = by (is_named x name)
   where
     by : (here : Bool) → cond here (Some at) None ≡ if_met here (at + 0)
     by true = ap Some (omega arith)
     by false = refl
-place_from-push at (y ∷ pairs) x name = by (bytes_eq name y.name) (place_from-push (at + 1) pairs x name)
+place_from-push at (y ∷ pairs) x name = by (is_named y name) (place_from-push (at + 1) pairs x name)
   where
-    by : (here : Bool) → place_from (at + 1) (pairs ++ x ∷ []) name ≡ option_or (place_from (at + 1) pairs name) (if_met (bytes_eq name x.name) (at + 1 + length pairs)) → cond here (Some at) (place_from (at + 1) (pairs ++ x ∷ []) name) ≡ option_or (cond here (Some at) (place_from (at + 1) pairs name)) (if_met (bytes_eq name x.name) (at + length (y ∷ pairs)))
+    by : (here : Bool) → place_from (at + 1) (pairs ++ x ∷ []) name ≡ option_or (place_from (at + 1) pairs name) (if_met (is_named x name) (at + 1 + length pairs)) → cond here (Some at) (place_from (at + 1) (pairs ++ x ∷ []) name) ≡ option_or (cond here (Some at) (place_from (at + 1) pairs name)) (if_met (is_named x name) (at + length (y ∷ pairs)))
     by true later = refl
     by false later =
         let same : at + 1 + length pairs ≡ at + length (y ∷ pairs) = omega arith in
-        later ∙ ap (λ n. option_or (place_from (at + 1) pairs name) (if_met (bytes_eq name x.name) n)) same
+        later ∙ ap (λ n. option_or (place_from (at + 1) pairs name) (if_met (is_named x name) n)) same
 
 lookup-push : (test : Bor (List ℕ) → Bool) (entries : List (Bor (List ℕ) × ℕ)) (k : Bor (List ℕ)) (v : ℕ) → lookup test (entries ++ (k, v) ∷ []) ≡ option_or (lookup test entries) (if_met (test k) v)
 lookup-push test [] k v = by (test k)
@@ -89,6 +120,10 @@ pub none_if : {A : Type 0} (o : Option A) → is_some o ≡ false → o ≡ None
 none_if None none = refl
 none_if (Some x) none = absurd (cc)
 
+-- a pair in a place that isn't free has its name
+pub taken-named : (x : Pair) (name : List ℕ) → x.free ≡ false → is_named x name ≡ bytes_eq name x.name
+taken-named x name taken = ap (λ free. cond free false (bytes_eq name x.name)) taken
+
 -- no names, no places
 pub ArePlaces-nil : (pairs : List Pair) (entries : List (Bor (List ℕ) × ℕ)) → pairs ≡ [] → entries ≡ [] → ArePlaces pairs entries
 unfolding place_of
@@ -98,18 +133,18 @@ module _ (entries : List (Bor (List ℕ) × ℕ)) (name : List ℕ) (place : ℕ
   -- a new name goes last
   pub NotesPlace-new : (k : Bor (List ℕ)) (new : List (Bor (List ℕ) × ℕ)) → k.now ≡ name → new ≡ entries ++ (k, place) ∷ [] → NotesPlace entries name place new
   unfolding place_of
-  NotesPlace-new k new key is pairs x are same last sought =
+  NotesPlace-new k new key is pairs x are same taken last sought =
       ap (lookup (λ (k : Bor (List ℕ)). bytes_eq sought k.now)) is
       ∙ lookup-push (λ (k : Bor (List ℕ)). bytes_eq sought k.now) entries k place
       ∙ ap₂ (λ o n. option_or o (if_met (bytes_eq sought n) place)) (are sought) (key ∙ sym same)
-      ∙ ap (λ n. option_or (place_from 0 pairs sought) (if_met (bytes_eq sought x.name) n)) last
-      ∙ ap (λ n. option_or (place_from 0 pairs sought) (if_met (bytes_eq sought x.name) n)) (omega arith)
+      ∙ ap₂ (λ here n. option_or (place_from 0 pairs sought) (if_met here n)) (sym (taken-named x sought taken)) last
+      ∙ ap (λ n. option_or (place_from 0 pairs sought) (if_met (is_named x sought) n)) (omega arith)
       ∙ sym (place_from-push 0 pairs x sought)
 
   -- .. and one that already exists keeps its place
-  keeps_place : (pairs : List Pair) (x : Pair) (sought : List ℕ) (here : Bool) → bytes_eq sought x.name ≡ here → is_some (place_of pairs x.name) ≡ true → place_of pairs sought ≡ option_or (place_of pairs sought) (if_met here (0 + length pairs))
+  keeps_place : (pairs : List Pair) (x : Pair) (sought : List ℕ) (here : Bool) → is_named x sought ≡ here → is_some (place_of pairs x.name) ≡ true → place_of pairs sought ≡ option_or (place_of pairs sought) (if_met here (0 + length pairs))
   keeps_place pairs x sought true met there =
-      let same = (bytes_eq-Decides sought x.name).0 met in
+      let same = named-name x sought met in
       found (place_of pairs sought) (ap (λ n. is_some (place_of pairs n)) same ∙ there)
     where
       found : (o : Option ℕ) → is_some o ≡ true → o ≡ option_or o (Some (0 + length pairs))
@@ -123,11 +158,11 @@ module _ (entries : List (Bor (List ℕ) × ℕ)) (name : List ℕ) (place : ℕ
 
   pub NotesPlace-known : (new : List (Bor (List ℕ) × ℕ)) → is_some (lookup (λ (k : Bor (List ℕ)). bytes_eq name k.now) entries) ≡ true → new ≡ entries → NotesPlace entries name place new
   unfolding place_of
-  NotesPlace-known new there is pairs x are same last sought =
+  NotesPlace-known new there is pairs x are same taken last sought =
       let has : is_some (place_of pairs x.name) ≡ true = ap (λ n. is_some (place_of pairs n)) same ∙ ap is_some (sym (are name)) ∙ there in
       ap (lookup (λ (k : Bor (List ℕ)). bytes_eq sought k.now)) is
       ∙ are sought
-      ∙ keeps_place pairs x sought (bytes_eq sought x.name) refl has
+      ∙ keeps_place pairs x sought (is_named x sought) refl has
       ∙ sym (place_from-push 0 pairs x sought)
 
 -- one more pair, as a value
@@ -138,3 +173,90 @@ seen-push f (y ∷ xs) x = ap (λ ys. f y ∷ ys) (seen-push f xs x)
 pub length-seen : {A B : Type 0} (f : A → B) (xs : List A) → length (map f xs) ≡ length xs
 length-seen f [] = refl
 length-seen f (x ∷ xs) = ap (λ n. suc n) (length-seen f xs)
+
+-- a name that neither the old nor the new pair of a place has keeps its place
+place_from-set : (at : ℕ) (pairs : List Pair) (p : ℕ) (x : Pair) (name : List ℕ) → is_named (get_or pairs p no_pair) name ≡ false → is_named x name ≡ false → place_from at (set pairs p x) name ≡ place_from at pairs name
+place_from-set at [] p x name old new = refl
+place_from-set at (y ∷ pairs) zero x name old new = rw (old, new) refl
+place_from-set at (y ∷ pairs) (suc p) x name old new = by (is_named y name) (place_from-set (at + 1) pairs p x name old new)
+  where
+    by : (here : Bool) → place_from (at + 1) (set pairs p x) name ≡ place_from (at + 1) pairs name → cond here (Some at) (place_from (at + 1) (set pairs p x) name) ≡ cond here (Some at) (place_from (at + 1) pairs name)
+    by true later = refl
+    by false later = later
+
+pub place_of-set : (pairs : List Pair) (p : ℕ) (x : Pair) (name : List ℕ) → is_named (get_or pairs p no_pair) name ≡ false → is_named x name ≡ false → place_of (set pairs p x) name ≡ place_of pairs name
+unfolding place_of
+place_of-set pairs p x name old new = place_from-set 0 pairs p x name old new
+
+-- a name that no pair has gets the place of the pair that is put there
+place_from-there : (at : ℕ) (pairs : List Pair) (p : ℕ) (x : Pair) (name : List ℕ) → place_from at pairs name ≡ None → p < length pairs → is_named x name ≡ true → place_from at (set pairs p x) name ≡ Some (at + p)
+place_from-there at [] p x name none inside met = absurd (omega (arith, inside))
+place_from-there at (y ∷ pairs) zero x name none inside met = rw met (ap Some (omega arith))
+place_from-there at (y ∷ pairs) (suc p) x name none inside met = by (is_named y name) none (λ none. place_from-there (at + 1) pairs p x name none (omega (arith, inside)) met)
+  where
+    by : (here : Bool) → cond here (Some at) (place_from (at + 1) pairs name) ≡ None → (place_from (at + 1) pairs name ≡ None → place_from (at + 1) (set pairs p x) name ≡ Some (at + 1 + p))
+        → cond here (Some at) (place_from (at + 1) (set pairs p x) name) ≡ Some (at + suc p)
+    by true none later = absurd (cc)
+    by false none later = later none ∙ ap Some (omega arith)
+
+pub place_of-there : (pairs : List Pair) (p : ℕ) (x : Pair) (name : List ℕ) → place_of pairs name ≡ None → p < length pairs → is_named x name ≡ true → place_of (set pairs p x) name ≡ Some p
+unfolding place_of
+place_of-there pairs p x name none inside met = place_from-there 0 pairs p x name none inside met ∙ ap Some (omega arith)
+
+-- the first free place is one of the store's, and is free
+pub record IsFreeAt (at : ℕ) (pairs : List Pair) (p : ℕ) : Type 0 where
+  pub low : at ≤ p
+  pub high : p < at + length pairs
+  pub free : (get_or pairs (p - at) no_pair).free ≡ true
+
+free_from-is : (at : ℕ) (pairs : List Pair) (p : ℕ) → free_from at pairs ≡ Some p → IsFreeAt at pairs p
+free_from-is at [] p is = absurd (cc)
+free_from-is at (x ∷ pairs) p is = by x.free refl is (free_from-is (at + 1) pairs p)
+  where
+    by : (free : Bool) → x.free ≡ free → cond free (Some at) (free_from (at + 1) pairs) ≡ Some p → (free_from (at + 1) pairs ≡ Some p → IsFreeAt (at + 1) pairs p) → IsFreeAt at (x ∷ pairs) p
+    by true met is later =
+        let same : at ≡ p = cc in
+        let none : p - at ≡ 0 = omega arith in
+        record { low = omega arith; high = omega arith; free = rw none met }
+    by false met is later =
+        let r = later is in
+        let low = r.low in
+        let high = r.high in
+        let more : p - at ≡ suc (p - (at + 1)) = omega arith in
+        record { low = omega arith; high = omega arith; free = rw more r.free }
+
+-- the free place for a new pair: no pair has its name
+pub record IsFreeFor (pairs : List Pair) (name : List ℕ) (p : ℕ) : Type 0 where
+  pub inside : p < length pairs
+  pub free : (get_or pairs p no_pair).free ≡ true
+  pub none : place_of pairs name ≡ None
+
+pub free_for-is : (pairs : List Pair) (name : List ℕ) (p : ℕ) → free_for pairs name ≡ Some p → IsFreeFor pairs name p
+unfolding free_for
+free_for-is pairs name p is = by (place_of pairs name) refl is
+  where
+    by : (o : Option ℕ) → place_of pairs name ≡ o → cond (is_some o) None (free_from 0 pairs) ≡ Some p → IsFreeFor pairs name p
+    by (Some q) has is = absurd (cc)
+    by None has is =
+        let r = free_from-is 0 pairs p is in
+        let high = r.high in
+        let from : p - 0 ≡ p = omega arith in
+        let P : ℕ → Type 0 = λ n. (get_or pairs n no_pair).free ≡ true in
+        record { inside = omega arith; free = subst P from r.free; none = has }
+
+-- the table with the new name has its place, and the places of the others
+pub ArePlaces-set : (pairs : List Pair) (p : ℕ) (n : Pair) (entries : List (Bor (List ℕ) × ℕ)) (k : Bor (List ℕ)) → ArePlaces pairs entries → IsFreeFor pairs n.name p → n.free ≡ false → k.now ≡ n.name → ArePlaces (set pairs p n) (entries ++ (k, p) ∷ [])
+ArePlaces-set pairs p n entries k are free taken key sought =
+    lookup-push (λ (k : Bor (List ℕ)). bytes_eq sought k.now) entries k p
+    ∙ ap₂ (λ o b. option_or o (if_met b p)) (are sought) (ap (bytes_eq sought) key ∙ sym (taken-named n sought taken))
+    ∙ by (is_named n sought) refl
+  where
+    none : (o : Option ℕ) → option_or o None ≡ o
+    none None = refl
+    none (Some q) = refl
+
+    by : (b : Bool) → is_named n sought ≡ b → option_or (place_of pairs sought) (if_met b p) ≡ place_of (set pairs p n) sought
+    by true met =
+        let absent = ap (place_of pairs) (named-name n sought met) ∙ free.none in
+        ap (λ o. option_or o (Some p)) absent ∙ sym (place_of-there pairs p n sought absent free.inside met)
+    by false unmet = none (place_of pairs sought) ∙ sym (place_of-set pairs p n sought (free-unnamed (get_or pairs p no_pair) sought free.free) unmet)

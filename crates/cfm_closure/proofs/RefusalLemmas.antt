@@ -94,10 +94,10 @@ module _ (pairs : List Pair) (root : ℕ) where
     fit-binds : (fit : Fit) (f : Fragment) (i : ℕ) (l : Library) (g : Fragment) (q : ℕ) → Binds (bound_by fit f i l g q)
     fit-binds Fits f i l g q = tt
     fit-binds TooOld f i l g q =
-        absent-binds (options_of l.options).weak (implementation_too_old f.name l.name (part_place f part.Library i 4) (definition_of l) (implementation_of g))
+        absent-binds (options_of l.fields.options).weak (implementation_too_old f.name l.name (part_place f part.Library i 4) (definition_of l) (implementation_of g))
         (covers.too_old f.name l.name (part_place f part.Library i 4) (definition_of l) (implementation_of g))
     fit-binds TooNew f i l g q =
-        absent-binds (options_of l.options).weak (implementation_too_new f.name l.name (part_place f part.Library i 4) (definition_of l) (implementation_of g))
+        absent-binds (options_of l.fields.options).weak (implementation_too_new f.name l.name (part_place f part.Library i 4) (definition_of l) (implementation_of g))
         (covers.too_new f.name l.name (part_place f part.Library i 4) (definition_of l) (implementation_of g))
 
     take-binds : (n : ℕ) (order : List ℕ) (s : Walked) → Binds (take_ready n pairs order s)
@@ -132,7 +132,7 @@ module _ (pairs : List Pair) (root : ℕ) where
         met q was = record { inside = place_of-below pairs l.name q was; found = inr (place_of-first pairs l.name q was) }
 
         by : (o : Option ℕ) → place_of pairs l.name ≡ o → Binds (bound_at pairs f i l o)
-        by None was = absent-binds (options_of l.options).weak (library_missing f.name l.name (part_place f part.Library i 0)) (covers.library f.name l.name (part_place f part.Library i 0))
+        by None was = absent-binds (options_of l.fields.options).weak (library_missing f.name l.name (part_place f part.Library i 0)) (covers.library f.name l.name (part_place f part.Library i 0))
         by (Some q) was = binds-then (fragment_of pairs q) (λ g. bound_by (fit_with l g) f i l g q) (fragment-binds q (met q was)) (λ g is. fit-binds (fit_with l g) f i l g q)
 
     entry-binds : (p l : ℕ) → IsMet p → Binds (bound_to pairs p l)

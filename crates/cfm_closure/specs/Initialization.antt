@@ -17,7 +17,7 @@ use Rattle.cfm_closure.specs.Walk.{Walked, is_marked, joining, marking, unwalked
 -- requires no such order, or its library is absent
 abbrev pub before_at : List Pair → ℕ → ℕ → Option Library → Option ℕ
 before_at pairs p l None = None
-before_at pairs p l (Some library) = if (options_of library.options).init_before then library_at pairs p l else None
+before_at pairs p l (Some library) = if (options_of library.fields.options).init_before then library_at pairs p l else None
 
 abbrev pub before_of : List Pair → ℕ → ℕ → Option ℕ
 before_of pairs p l = before_at pairs p l (option_and_then (λ x. library_of x l) (loader_at pairs p))

@@ -23,7 +23,7 @@ absent_or weak refusal = if weak then Ok None else Err refusal
 
 -- the versions of a library entry, and of the found fragment
 abbrev pub definition_of : Library → Definition
-definition_of l = record { current = l.current; old_imp = l.old_imp }
+definition_of l = record { current = l.fields.current; old_imp = l.fields.old_imp }
 
 abbrev pub implementation_of : Fragment → Implementation
 implementation_of g = record { current = g.container.header.current_version; old_def = g.container.header.old_def_version }
@@ -35,12 +35,12 @@ fit_with l g = fit_of (definition_of l) (implementation_of g)
 -- the found fragment, if its versions serve entry i of a fragment. A refusal is about oldImpVersion
 abbrev pub bound_by : Fit → Fragment → ℕ → Library → Fragment → ℕ → Result (Option ℕ) BindRefusal
 bound_by Fits f i l g q = Ok (Some q)
-bound_by TooOld f i l g q = absent_or (options_of l.options).weak (implementation_too_old f.name l.name (part_place f part.Library i 4) (definition_of l) (implementation_of g))
-bound_by TooNew f i l g q = absent_or (options_of l.options).weak (implementation_too_new f.name l.name (part_place f part.Library i 4) (definition_of l) (implementation_of g))
+bound_by TooOld f i l g q = absent_or (options_of l.fields.options).weak (implementation_too_old f.name l.name (part_place f part.Library i 4) (definition_of l) (implementation_of g))
+bound_by TooNew f i l g q = absent_or (options_of l.fields.options).weak (implementation_too_new f.name l.name (part_place f part.Library i 4) (definition_of l) (implementation_of g))
 
 -- the found fragment is read, also for a weak library, and then its versions are checked. A refusal is about the name
 abbrev pub bound_at : List Pair → Fragment → ℕ → Library → Option ℕ → Result (Option ℕ) BindRefusal
-bound_at pairs f i l None = absent_or (options_of l.options).weak (library_missing f.name l.name (part_place f part.Library i 0))
+bound_at pairs f i l None = absent_or (options_of l.fields.options).weak (library_missing f.name l.name (part_place f part.Library i 0))
 bound_at pairs f i l (Some q) = fragment_of pairs q >>= (λ g. bound_by (fit_with l g) f i l g q)
 
 -- the fragment of a library entry of a fragment: one of the store, or none if it is absent

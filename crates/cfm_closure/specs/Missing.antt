@@ -29,7 +29,7 @@ pub record Missing : Type 0 where
 
 -- entry `library` of the fragment in a place, which no fragment serves
 abbrev pub missing_entry : ℕ → Library → Option Implementation → Missing
-missing_entry p l found = record { name = l.name; needed = definition_of l; found = found; weak = (options_of l.options).weak; fragment = p }
+missing_entry p l found = record { name = l.name; needed = definition_of l; found = found; weak = (options_of l.fields.options).weak; fragment = p }
 
 -- if two entries have one name, the first that isn't weak is used, or the first if both are weak
 abbrev pub stricter : Missing → Missing → Missing

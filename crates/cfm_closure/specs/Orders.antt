@@ -37,7 +37,7 @@ pub record WantsFirst (pairs : List Pair) (p l q : ℕ) : Type 0 where
   pub read : fragment_of pairs p ≡ Ok fragment
   pub library : Library
   pub entry : library_of fragment.loader l ≡ Some library
-  pub option : (options_of library.options).init_before ≡ true
+  pub option : (options_of library.fields.options).init_before ≡ true
   pub bound : bound_to pairs p l ≡ Ok (Some q)
 
 -- a fragment waits for none but some others: all that its entries want first are among these

@@ -18,8 +18,8 @@ pub(crate) fn definition_of(library: LibraryView<'_>) -> Definition
     ensures { result ≡ definition_of (library_seen library.entry) }
 {
     Definition {
-        current: library.current,
-        old_imp: library.old_imp,
+        current: library.fields.current,
+        old_imp: library.fields.old_imp,
     }
 }
 
@@ -43,7 +43,7 @@ fn missing<'a>(
     requires { l < (fragment_seen fragment.now).loader.header.library_count }
     ensures { Answers (λ q. q) result (bound_at [] (fragment_seen fragment.now) l (library_seen library.entry) None) }
 {
-    if library.options().weak {
+    if library.fields.options().weak {
         return Ok(None);
     }
     Err(BindFault::LibraryMissing {
@@ -69,7 +69,7 @@ fn by_versions<'a>(
     let found = implementation_of(found);
     match versions_fit(needed, found) {
         Fit::Fits => Ok(Some(q)),
-        _ if library.options().weak => Ok(None),
+        _ if library.fields.options().weak => Ok(None),
         Fit::TooOld => Err(BindFault::ImplementationTooOld {
             fragment: fragment.name,
             library: library.name,

@@ -28,7 +28,7 @@ use std::marker::Model;
 #[derive(Drop)]
 pub(crate) struct Bindings<'a> {
     /// The pairs of the store. All other tables are indexed by their places.
-    pairs: Vec<(&'a [u8], &'a [u8])>,
+    pairs: Vec<Option<(&'a [u8], &'a [u8])>>,
     fragments: PlaceTable<ClosedFragment<'a>>,
     order: Vec<usize>,
 }
@@ -39,13 +39,13 @@ impl<'a> Model for Bindings<'a> {
     ghost Value = { Ordered };
 
     ghost use Rattle.std.specs.Prelude.{map};
-    ghost use Rattle.cfm_closure.specs.Seen.{pair_seen};
+    ghost use Rattle.cfm_closure.specs.Seen.{place_seen};
     ghost use Rattle.cfm_closure.specs.Kept.Bindings.{AreBindings};
     ghost use Rattle.cfm_closure.specs.Kept.Rows.{rows_of};
 
-    ghost view = { λ b. record { pairs = map pair_seen b.pairs.items; order = b.order.items; rows = rows_of b.fragments } };
+    ghost view = { λ b. record { pairs = map place_seen b.pairs.items; order = b.order.items; rows = rows_of b.fragments } };
 
-    ghost invariant = { λ b. AreBindings (map pair_seen b.pairs.items) b.fragments b.order.items };
+    ghost invariant = { λ b. AreBindings (map place_seen b.pairs.items) b.fragments b.order.items };
 }
 
 impl<'a> Bindings<'a> {

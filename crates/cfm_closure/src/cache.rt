@@ -2,7 +2,7 @@ ghost use Rattle.std.specs.Prelude.{◌≡◌, ◌≢◌, ◌≤◌, ℕ, List, 
 ghost use Rattle.std.specs.Option.{option_and_then};
 ghost use Rattle.pef_loader.specs.Library.{Library};
 ghost use Rattle.pef_loader.specs.Loader.{library_of};
-ghost use Rattle.cfm_closure.specs.Additions.{with_pair};
+ghost use Rattle.cfm_closure.specs.Additions.{with_put, with_pair};
 ghost use Rattle.cfm_closure.specs.Fragments.{loader_at};
 ghost use Rattle.cfm_closure.specs.Kept.Caches.{AreKeptRows, IsCache, IsOrderOfClosure, KeepsFirst, NoneNames};
 ghost use Rattle.cfm_closure.specs.Kept.Targets.{AreResolved};
@@ -105,7 +105,8 @@ impl<'a> Cache<'a> {
     pub fn forget_changed(&mut self, store: &Store<'a>, name: &[u8])
         requires { IsCache store.now self.old }
         ensures without { IsCache store.now self.new }
-        ensures with { (bytes : List ℕ) → IsCache (with_pair store.now (record { name = name.now; bytes = bytes })) self.new }
+        ensures with { (bytes : List ℕ) → IsCache (with_pair store.now (record { name = name.now; bytes = bytes; free = false })) self.new }
+        ensures with_put { (bytes : List ℕ) → IsCache (with_put store.now (record { name = name.now; bytes = bytes; free = false })) self.new }
     {
         if store.find(name).is_none() && self.names_library(name) {
             self.forget_targets();

@@ -1,10 +1,12 @@
-ghost use Rattle.std.specs.Prelude.{◌≡◌, ◌<◌, ◌≤◌, ◌++◌, [], ◌∷◌, length, map, slice_get, option_map, nat_le, IfSome, OnOk, OnErr};
+ghost use Rattle.std.specs.Prelude.{◌≡◌, ◌<◌, ◌≤◌, ◌++◌, [], ◌∷◌, false, true, length, map, slice_get, option_map, nat_le, IfSome, OnOk, OnErr};
+ghost use Rattle.std.specs.Option.{option_and_then};
+ghost use Rattle.cfm_closure.specs.Additions.{has_room, with_put, without_pair};
 ghost use Rattle.cfm_closure.specs.Closures.{closed_of};
 ghost use Rattle.cfm_closure.specs.Faults.{Answers};
 ghost use Rattle.cfm_closure.specs.Limits.{most_pairs};
 ghost use Rattle.cfm_closure.specs.Missing.{missing_of};
 ghost use Rattle.cfm_closure.specs.Seen.{pair_seen};
-ghost use Rattle.cfm_closure.specs.Stores.{place_of};
+ghost use Rattle.cfm_closure.specs.Stores.{place_of, taken};
 ghost use Rattle.cfm_closure.specs.Views.{missing_seen};
 
 use crate::cache::Cache;
@@ -77,14 +79,51 @@ impl<'a> CachedStore<'a> {
     /// `OutOfMemory` if an allocation fails. The pairs are then unchanged.
     pub fn add(&mut self, name: &'a [u8], bytes: &'a [u8]) -> Result<(), StoreFault>
         requires { length self.old < most_pairs }
-        ensures ok { OnOk result (self.new ≡ self.old ++ (record { name = name.now; bytes = bytes.now }) ∷ []) }
+        ensures ok { OnOk result (self.new ≡ self.old ++ (record { name = name.now; bytes = bytes.now; free = false }) ∷ []) }
         ensures err { OnErr result (self.new ≡ self.old) }
     {
         self.cache.forget_changed(&self.store, name);
         self.store.add(name, bytes)
     }
 
-    /// Returns how many pairs there are.
+    /// Puts a pair into the place for it, as [`Store::put`] does. What was read and the targets that were found stay as
+    /// [`CachedStore::add`] leaves them.
+    ///
+    /// # Errors
+    ///
+    /// `OutOfMemory` if an allocation fails. The pairs are then unchanged.
+    pub fn put(&mut self, name: &'a [u8], bytes: &'a [u8]) -> Result<(), StoreFault>
+        requires { has_room self.old name.now ≡ true }
+        ensures ok { OnOk result (self.new ≡ with_put self.old (record { name = name.now; bytes = bytes.now; free = false })) }
+        ensures err { OnErr result (self.new ≡ self.old) }
+    {
+        self.cache.forget_changed(&self.store, name);
+        self.store.put(name, bytes)
+    }
+
+    /// Removes the pair in a place, as [`Store::remove`] does. What was read and found is forgotten, since it may have
+    /// slices of the pair's bytes.
+    ///
+    /// # Errors
+    ///
+    /// `OutOfMemory` if an allocation fails. The pairs are then unchanged.
+    pub fn remove(&mut self, alloc: Global, place: usize) -> Result<(), StoreFault>
+        requires { place < length self.old }
+        ensures ok { OnOk result (self.new ≡ without_pair self.old place) }
+        ensures err { OnErr result (self.new ≡ self.old) }
+    {
+        self.cache = Cache::empty(alloc);
+        self.store.remove(alloc, place)
+    }
+
+    /// Returns whether there is a place for a new pair with a name.
+    pub fn has_room(&self, name: &[u8]) -> bool
+        ensures { result ≡ has_room self.now name.now }
+    {
+        self.store.has_room(name)
+    }
+
+    /// Returns how many places there are, free ones among them.
     pub fn len(&self) -> usize
         ensures len { result ≡ length self.now }
         ensures few { result ≤ most_pairs }
@@ -92,16 +131,16 @@ impl<'a> CachedStore<'a> {
         self.store.len()
     }
 
-    /// Returns whether there are as many pairs as a store may have, so that none may be added.
+    /// Returns whether there are as many places as a store may have, so that no pair may be added at the end.
     pub fn is_full(&self) -> bool
         ensures { result ≡ nat_le most_pairs (length self.now) }
     {
         self.store.is_full()
     }
 
-    /// Returns pair `p`, name first, or `None` past the last one.
+    /// Returns the pair in place `p`, name first, or `None` past the last place and if it is free.
     pub fn pair(&self, p: usize) -> Option<(&'a [u8], &'a [u8])>
-        ensures { option_map pair_seen result ≡ slice_get self.now p }
+        ensures { option_map pair_seen result ≡ option_and_then taken (slice_get self.now p) }
     {
         self.store.pair(p)
     }

@@ -85,7 +85,7 @@ impl<'a> FoundNames<'a> {
         ensures same { self.new ≡ self.old }
     {
         let export = self.read(name)?;
-        let value = export.value();
+        let value = export.fields.value();
         if at < self.slots.len() {
             self.slots[at] = Some(FoundName {
                 name: export.name,

@@ -88,7 +88,7 @@ fn missing<'a>(
     requires { j < (fragment_seen fragment.now).loader.header.import_count }
     ensures { LeadsTo result (hop_to fragment.now.name.now library.entry.now (part_place (fragment_seen fragment.now) Import j 0) (import_seen symbol.entry) 0 None) }
 {
-    if symbol.weak {
+    if symbol.fields.weak {
         return Ok(Hop::Ends(Found::missing()));
     }
     Err(BindFault::SymbolMissing {

@@ -31,7 +31,7 @@ fn before<'a>(bindings: &Bindings<'a>, p: usize, l: usize) -> Option<usize>
 {
     match bindings.fragment(p).loader.library(l) {
         Some(library) => {
-            if library.options().init_before {
+            if library.fields.options().init_before {
                 bindings.library(p, l)
             } else {
                 None

@@ -173,7 +173,7 @@ impl<'a> Search<'a> {
                     name: library.name,
                     needed: definition_of(library),
                     found,
-                    weak: library.options().weak,
+                    weak: library.fields.options().weak,
                     fragment: p,
                 })?;
                 Ok(None)

@@ -1,7 +1,9 @@
-ghost use Rattle.std.specs.Prelude.{◌≡◌, ◌==◌, ◌<◌, ◌≤◌, ◌++◌, [], ◌∷◌, length, map, slice_get, option_map, nat_le, IfSome, OnOk, OnErr};
+ghost use Rattle.std.specs.Prelude.{◌≡◌, ◌==◌, ◌<◌, ◌≤◌, ◌++◌, ℕ, List, None, Some, true, false, [], ◌∷◌, length, map, slice_get, slice_index_or, slice_set, option_map, nat_le, IfOk, IfSome, OnOk, OnErr};
+ghost use Rattle.std.specs.Option.{option_and_then};
+ghost use Rattle.cfm_closure.specs.Additions.{free_for, free_from, has_room, with_put, without_pair};
 ghost use Rattle.cfm_closure.specs.Kept.Places.{NotesPlace};
-ghost use Rattle.cfm_closure.specs.Seen.{pair_seen};
-ghost use Rattle.cfm_closure.specs.Stores.{pair_of, place_of};
+ghost use Rattle.cfm_closure.specs.Seen.{pair_seen, place_seen};
+ghost use Rattle.cfm_closure.specs.Stores.{free_place, no_pair, pair_of, place_of, taken};
 ghost use Rattle.cfm_closure.specs.Limits.{most_pairs};
 
 use crate::store_fault::StoreFault;
@@ -15,9 +17,12 @@ pub const MAX_PAIRS: usize = 256;
 
 /// Fragments by name: pairs of a name and the bytes of a container, borrowed, in the order in which they
 /// were added. If several pairs have the same name, the first is used.
+///
+/// A pair that is removed leaves a free place, and the others stay in theirs. The next pair whose name isn't there gets the
+/// first free place. A pair whose name is there goes to the end, so that the first stays the first.
 #[derive(Drop)]
 pub struct Store<'a> {
-    pairs: Vec<(&'a [u8], &'a [u8])>,
+    pairs: Vec<Option<(&'a [u8], &'a [u8])>>,
     /// The place of the first pair of each name.
     places: IndexMap<&'a [u8], usize>,
 }
@@ -29,12 +34,12 @@ impl<'a> Model for Store<'a> {
     ghost Value = { List Pair };
 
     ghost use Rattle.std.specs.Prelude.{map};
-    ghost use Rattle.cfm_closure.specs.Seen.{pair_seen};
+    ghost use Rattle.cfm_closure.specs.Seen.{place_seen};
     ghost use Rattle.cfm_closure.specs.Kept.Places.{IsStore};
 
-    ghost view = { λ s. map pair_seen s.pairs.items };
+    ghost view = { λ s. map place_seen s.pairs.items };
 
-    ghost invariant = { λ s. IsStore (map pair_seen s.pairs.items) s.places.entries };
+    ghost invariant = { λ s. IsStore (map place_seen s.pairs.items) s.places.entries };
 }
 
 impl fmt::Debug for Store<'_> {
@@ -63,17 +68,91 @@ impl<'a> Store<'a> {
     /// `OutOfMemory` if an allocation fails. The store is then unchanged.
     pub fn add(&mut self, name: &'a [u8], bytes: &'a [u8]) -> Result<(), StoreFault>
         requires { length self.old < most_pairs }
-        ensures ok { OnOk result (self.new ≡ self.old ++ (record { name = name.now; bytes = bytes.now }) ∷ []) }
+        ensures ok { OnOk result (self.new ≡ self.old ++ (record { name = name.now; bytes = bytes.now; free = false }) ∷ []) }
         ensures err { OnErr result (self.new ≡ self.old) }
     {
         self.pairs.reserve(1)?;
         let place = self.pairs.len();
         note_place(&mut self.places, name, place)?;
-        self.pairs.push((name, bytes))?;
+        self.pairs.push(Some((name, bytes)))?;
         Ok(())
     }
 
-    /// Returns how many pairs there are: at most [`MAX_PAIRS`].
+    /// Puts a pair into the place for it, if there is one ([`Store::has_room`]): the first free place if no pair has its
+    /// name, and otherwise the end.
+    ///
+    /// # Errors
+    ///
+    /// `OutOfMemory` if an allocation fails. The store is then unchanged.
+    #[tactic(auto, unfolding(crate::specs::Additions::with_put))]
+    pub fn put(&mut self, name: &'a [u8], bytes: &'a [u8]) -> Result<(), StoreFault>
+        requires { has_room self.old name.now ≡ true }
+        ensures ok { OnOk result (self.new ≡ with_put self.old (record { name = name.now; bytes = bytes.now; free = false })) }
+        ensures err { OnErr result (self.new ≡ self.old) }
+    {
+        match self.free_place(name) {
+            Some(place) => self.fill(place, name, bytes),
+            None => self.add(name, bytes),
+        }
+    }
+
+    /// Puts a pair into a free place. No pair may have its name.
+    fn fill(&mut self, place: usize, name: &'a [u8], bytes: &'a [u8]) -> Result<(), StoreFault>
+        requires place { place < length self.old }
+        requires free { (slice_index_or self.old place no_pair).free ≡ true }
+        requires name { place_of self.old name.now ≡ None }
+        ensures ok { OnOk result (self.new ≡ slice_set self.old place (record { name = name.now; bytes = bytes.now; free = false })) }
+        ensures err { OnErr result (self.new ≡ self.old) }
+    {
+        self.places.insert(name, place)?;
+        self.pairs[place] = Some((name, bytes));
+        Ok(())
+    }
+
+    /// Removes the pair in a place, which is free then. The others stay in their places.
+    ///
+    /// # Errors
+    ///
+    /// `OutOfMemory` if an allocation fails. The store is then unchanged.
+    pub fn remove(&mut self, alloc: Global, place: usize) -> Result<(), StoreFault>
+        requires { place < length self.old }
+        ensures ok { OnOk result (self.new ≡ without_pair self.old place) }
+        ensures err { OnErr result (self.new ≡ self.old) }
+    {
+        let without = store_without(alloc, &self.pairs, place)?;
+        *self = without;
+        Ok(())
+    }
+
+    /// Appends a free place, if the store isn't full.
+    fn add_free(&mut self) -> Result<(), StoreFault>
+        requires { length self.old < most_pairs }
+        ensures ok { OnOk result (self.new ≡ self.old ++ free_place ∷ []) }
+        ensures err { OnErr result (self.new ≡ self.old) }
+    {
+        self.pairs.push(None)?;
+        Ok(())
+    }
+
+    /// Returns the free place for a new pair with a name: the first one, or `None` if a pair has the name.
+    #[tactic(auto, unfolding(crate::specs::Additions::free_for))]
+    fn free_place(&self, name: &[u8]) -> Option<usize>
+        ensures { result ≡ free_for self.now name.now }
+    {
+        if self.find(name).is_some() {
+            return None;
+        }
+        first_free(&self.pairs)
+    }
+
+    /// Returns whether there is a place for a new pair with a name.
+    pub fn has_room(&self, name: &[u8]) -> bool
+        ensures { result ≡ has_room self.now name.now }
+    {
+        self.free_place(name).is_some() || !self.is_full()
+    }
+
+    /// Returns how many places there are, free ones among them: at most [`MAX_PAIRS`].
     pub fn len(&self) -> usize
         ensures len { result ≡ length self.now }
         ensures few { result ≤ most_pairs }
@@ -81,41 +160,45 @@ impl<'a> Store<'a> {
         self.pairs.len()
     }
 
-    /// Returns whether there are no pairs.
+    /// Returns whether there are no places.
     pub fn is_empty(&self) -> bool
         ensures { result ≡ (length self.now == 0) }
     {
         self.pairs.is_empty()
     }
 
-    /// Returns whether there are as many pairs as a store may have, so that none may be added.
+    /// Returns whether there are as many places as a store may have, so that no pair may be added at the end.
     pub fn is_full(&self) -> bool
         ensures { result ≡ nat_le most_pairs (length self.now) }
     {
         self.len() >= MAX_PAIRS
     }
 
-    /// Returns pair `p`, name first, or `None` past the last one.
+    /// Returns the pair in place `p`, name first, or `None` past the last place and if it is free.
     pub fn pair(&self, p: usize) -> Option<(&'a [u8], &'a [u8])>
-        ensures { option_map pair_seen result ≡ slice_get self.now p }
+        ensures { option_map pair_seen result ≡ option_and_then taken (slice_get self.now p) }
     {
-        self.pairs.get(p).copied()
+        let pair = self.pairs.get(p)?;
+        *pair
     }
 
-    /// Returns all pairs.
-    pub fn pairs(&self) -> &[(&'a [u8], &'a [u8])]
-        ensures pairs { map pair_seen result.now ≡ self.now }
+    /// Returns all places.
+    pub fn pairs(&self) -> &[Option<(&'a [u8], &'a [u8])>]
+        ensures pairs { map place_seen result.now ≡ self.now }
         ensures few { length self.now ≤ most_pairs }
     {
         &self.pairs
     }
 
-    /// Returns pair `p`, which must exist.
+    /// Returns the pair in place `p`, which must exist. If it is free, the name and the bytes are empty.
     pub fn at(&self, p: usize) -> (&'a [u8], &'a [u8])
         requires { p < length self.now }
         ensures { pair_seen result ≡ pair_of self.now p }
     {
-        self.pairs[p]
+        match self.pairs[p] {
+            Some(pair) => pair,
+            None => (b"", b""),
+        }
     }
 
     /// Returns the place of the first pair with a name.
@@ -125,6 +208,38 @@ impl<'a> Store<'a> {
     {
         self.places.get(name).copied()
     }
+}
+
+/// Returns the store of some places without the pair in one of them.
+fn store_without<'a>(
+    alloc: Global,
+    pairs: &[Option<(&'a [u8], &'a [u8])>],
+    place: usize,
+) -> Result<Store<'a>, StoreFault>
+    requires { length pairs.now ≤ most_pairs }
+    ensures { IfOk result (λ store. store ≡ without_pair (map place_seen pairs.now) place) }
+{
+    let mut store = Store::new(alloc);
+    for q in 0..pairs.len() {
+        let pair = if q == place { None } else { pairs[q] };
+        match pair {
+            Some((name, bytes)) => store.add(name, bytes)?,
+            None => store.add_free()?,
+        }
+    }
+    Ok(store)
+}
+
+/// Returns the first free place.
+fn first_free(pairs: &[Option<(&[u8], &[u8])>]) -> Option<usize>
+    ensures { result ≡ free_from 0 (map place_seen pairs.now) }
+{
+    for place in 0..pairs.len() {
+        if pairs[place].is_none() {
+            return Some(place);
+        }
+    }
+    None
 }
 
 /// Notes the place of a name, unless it has one.

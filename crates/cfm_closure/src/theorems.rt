@@ -1,13 +1,13 @@
 //! Laws of the definitions, for the proofs of other crates. The functions do nothing.
-ghost use Rattle.std.specs.Prelude.{◌≡◌, ◌<◌, ◌↔◌, ℕ, List, None, Some, Ok, Err, Contains, length, true};
+ghost use Rattle.std.specs.Prelude.{◌≡◌, ◌≢◌, ◌<◌, ◌↔◌, ℕ, List, None, Some, Ok, Err, Contains, length, true};
 ghost use Rattle.std.specs.List.{AllByRecursion};
 ghost use Rattle.pef_format.specs.declared.place.Place.{Place};
 ghost use Rattle.pef_loader.specs.declared.fault.LoaderFault.{LoaderFault};
 ghost use Rattle.pef_views.specs.declared.fault.ViewFault.{ViewFault};
-ghost use Rattle.cfm_closure.specs.Additions.{MayBeAdded, with_pair};
+ghost use Rattle.cfm_closure.specs.Additions.{MayBeAdded, MayBeRemoved, free_from, with_put, with_pair, without_pair};
 ghost use Rattle.cfm_closure.specs.Stores.{Pair, place_of};
 ghost use Rattle.cfm_closure.specs.Faults.{BindRefusal, no_container, no_loader, reexport_loop};
-ghost use Rattle.cfm_closure.specs.Fragments.{fragment_of, import_count, loader_at};
+ghost use Rattle.cfm_closure.specs.Fragments.{Fragment, fragment_of, import_count, loader_at};
 ghost use Rattle.cfm_closure.specs.Libraries.{bound_to};
 ghost use Rattle.pef_format.specs.Symbols.{options_of};
 ghost use Rattle.pef_loader.specs.Library.{Library};
@@ -82,7 +82,28 @@ pub fn added_pairs()
     ensures closure { (pairs : List Pair) (n : Pair) (root : ℕ) (c : Closed) → root < length pairs → closed_of pairs root ≡ Ok c → MayBeAdded pairs c.order n.name → closed_of (with_pair pairs n) root ≡ Ok (record c { pairs = with_pair pairs n }) }
     ensures target { (pairs : List Pair) (n : Pair) (root : ℕ) (c : Closed) → root < length pairs → closed_of pairs root ≡ Ok c → MayBeAdded pairs c.order n.name → (p j : ℕ) → Contains c.order p → target_of (with_pair pairs n) p j ≡ target_of pairs p j }
     ensures missing { (pairs : List Pair) (root : ℕ) (c : Closed) (p l : ℕ) (loader : Loaded) (library : Library) → closed_of pairs root ≡ Ok c → Contains c.order p → loader_at pairs p ≡ Some loader → library_of loader l ≡ Some library → place_of pairs library.name ≡ None
-        → ((options_of library.options).weak ≡ true) × (bound_to pairs p l ≡ Ok None) }
+        → ((options_of library.fields.options).weak ≡ true) × (bound_to pairs p l ≡ Ok None) }
+{}
+
+/// A closure stays what it is also when a pair is put into the place for it, on the conditions of `added_pairs`. This is
+/// the first free place, and the end if there is none or the store has the pair's name. So the fragments that are read and the
+/// names stay in their places, and the first pair with a name stays the first.
+pub fn stored_pairs()
+    ensures fragment { (pairs : List Pair) (n : Pair) (p : ℕ) (f : Fragment) → fragment_of pairs p ≡ Ok f → fragment_of (with_put pairs n) p ≡ Ok f }
+    ensures place { (pairs : List Pair) (n : Pair) (name : List ℕ) (p : ℕ) → place_of pairs name ≡ Some p → place_of (with_put pairs n) name ≡ Some p }
+    ensures end { (pairs : List Pair) (n : Pair) → free_from 0 pairs ≡ None → with_put pairs n ≡ with_pair pairs n }
+    ensures closure { (pairs : List Pair) (n : Pair) (root : ℕ) (c : Closed) → root < length pairs → closed_of pairs root ≡ Ok c → MayBeAdded pairs c.order n.name → closed_of (with_put pairs n) root ≡ Ok (record c { pairs = with_put pairs n }) }
+    ensures target { (pairs : List Pair) (n : Pair) (root : ℕ) (c : Closed) → root < length pairs → closed_of pairs root ≡ Ok c → MayBeAdded pairs c.order n.name → (p j : ℕ) → Contains c.order p → target_of (with_put pairs n) p j ≡ target_of pairs p j }
+{}
+
+/// A closure stays what it is when the first pair with a name is removed from its store, if it doesn't have that pair and
+/// none of its fragments has a library entry with the name. In any case each other fragment and each other name of the store
+/// stays in its place.
+pub fn removed_pairs()
+    ensures fragment { (pairs : List Pair) (p q : ℕ) → q ≢ p → fragment_of (without_pair pairs p) q ≡ fragment_of pairs q }
+    ensures place { (pairs : List Pair) (name other : List ℕ) (p : ℕ) → place_of pairs name ≡ Some p → other ≢ name → place_of (without_pair pairs p) other ≡ place_of pairs other }
+    ensures closure { (pairs : List Pair) (name : List ℕ) (p root : ℕ) (c : Closed) → root < length pairs → closed_of pairs root ≡ Ok c → MayBeRemoved pairs c.order name p → closed_of (without_pair pairs p) root ≡ Ok (record c { pairs = without_pair pairs p }) }
+    ensures target { (pairs : List Pair) (name : List ℕ) (p root : ℕ) (c : Closed) → root < length pairs → closed_of pairs root ≡ Ok c → MayBeRemoved pairs c.order name p → (q j : ℕ) → Contains c.order q → target_of (without_pair pairs p) q j ≡ target_of pairs q j }
 {}
 
 /// What is missing are library entries of fragments that are read, which no fragment of the store serves: there is none with

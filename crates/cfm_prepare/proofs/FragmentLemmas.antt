@@ -13,7 +13,6 @@ use Rattle.cfm_memory.specs.Instances.{Layout}
 use Rattle.cfm_memory.specs.declared.place.Place.{Place}
 use Rattle.cfm_closure.specs.Stores.{Pair, pair_of}
 use Rattle.cfm_closure.specs.Fragments.{Fragment, container_at, fragment_of, loader_at, with_container, with_loader}
-use Rattle.cfm_closure.proofs.Laws.{fragment_of-with}
 use Rattle.cfm_closure.specs.Targets.{target_of}
 use Rattle.cfm_closure.specs.declared.targets.Target.{Target}
 use Rattle.cfm_prepare.specs.Images.{extents_of, filled_at, first_image_refusal}
@@ -49,10 +48,6 @@ placed-there pairs p c before after places is placed =
 
 pub length-there : (pairs : List Pair) (p : ℕ) (c : Contained) (before after : Layout) (places : List Place) → container_at pairs p ≡ Some c → ArePlaced before (extents_in pairs p) places after → length places ≡ c.header.instantiated_section_count
 length-there pairs p c before after places is placed = length-fragment c before after places (placed-there pairs p c before after places is placed)
-
--- a fragment needs the same memory if a pair is added to the store
-pub extents-stored : (pairs : List Pair) (n : Pair) (p : ℕ) → p < length pairs → extents_in (pairs ++ n ∷ []) p ≡ extents_in pairs p
-extents-stored pairs n p inside = ap (λ r. option_map_or extents_of (option_map (λ (f : Fragment). f.container) (result_ok r)) []) (fragment_of-with pairs n p inside)
 
 -- how a section is filled, and why it may not be
 filled-there : (pairs : List Pair) (p : ℕ) (c : Contained) (k : ℕ) → container_at pairs p ≡ Some c → section_filled pairs p k ≡ filled_at c k

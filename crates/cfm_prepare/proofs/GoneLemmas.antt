@@ -11,7 +11,7 @@ use Rattle.cfm_prepare.specs.Fragments.{is_present}
 use Rattle.cfm_prepare.specs.Lists.{has}
 use Rattle.cfm_prepare.specs.Options.{Choices}
 use Rattle.cfm_prepare.specs.Readers.{needless_among, released_by}
-use Rattle.cfm_prepare.specs.Runs.{AreClosed, IsStill, Runs, Step, closed, prepared, reserved, stored}
+use Rattle.cfm_prepare.specs.Runs.{AreClosed, IsStill, Runs, Step, closed, freed, prepared, reserved, stored, taken_out}
 use Rattle.cfm_prepare.specs.Steps.{Closes, Prepares}
 use Rattle.cfm_prepare.proofs.ListLemmas.{has-at, has-contains}
 use Rattle.cfm_prepare.proofs.RunLemmas.{after-close, after-prepare, has-new, needed-either, never, new-at, run-sound}
@@ -119,6 +119,8 @@ given-after s t (closed number ∷ steps) are run =
     let step = run.1 in
     given-after run.0 t steps (subst (λ os. AreGiven run.0.given os) (sym step.connections) (subst (λ n. AreGiven n (open_without s.connections number)) (sym step.given) (given-without s.given number s.connections are))) run.2
 given-after s t (reserved address size ∷ steps) are run = given-after run.0 t steps (subst (λ (t : ContextState). AreGiven t.given t.connections) (sym run.1.is) are) run.2
+given-after s t (freed address size ∷ steps) are run = given-after run.0 t steps (subst (λ (t : ContextState). AreGiven t.given t.connections) (sym run.1.is) are) run.2
+given-after s t (taken_out name ∷ steps) are run = given-after run.0 t steps (subst (λ (t : ContextState). AreGiven t.given t.connections) (sym run.1.is) are) run.2
 given-after s t (stored name bytes ∷ steps) are run = given-after run.0 t steps (subst (λ (t : ContextState). AreGiven t.given t.connections) (sym run.1.is) are) run.2
 
 -- so a new connection is found by its number

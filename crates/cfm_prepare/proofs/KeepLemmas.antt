@@ -4,7 +4,7 @@ use Rattle.std.proofs.lemmas.Bool.Decides.{eqb_tells}
 use Rattle.cfm_memory.specs.Extents.{given_back, place_at}
 use Rattle.cfm_memory.specs.declared.place.Place.{Place}
 use Rattle.cfm_memory.specs.Instances.{Layout, bytes_at}
-use Rattle.cfm_memory.specs.Reservation.{Reserves}
+use Rattle.cfm_memory.specs.Reservation.{Reserves, Unreserves}
 use Rattle.cfm_memory.proofs.Laws.{given_back_elsewhere}
 use Rattle.cfm_closure.specs.Stores.{Pair}
 use Rattle.cfm_prepare.specs.Addresses.{section_of}
@@ -13,8 +13,8 @@ use Rattle.cfm_prepare.proofs.PlacedLemmas.{placed-pairs, placed-new}
 use Rattle.cfm_prepare.proofs.GroupLemmas.{ArePairApart, turned}
 use Rattle.cfm_prepare.specs.Options.{Choices}
 use Rattle.cfm_prepare.specs.Contexts.{ContextState, Open, made_state, is_needed, needed_of, unneeded_of}
-use Rattle.cfm_prepare.specs.Runs.{Keeps, Runs, Step, Takes, closed, prepared, reserved, stored}
-use Rattle.cfm_prepare.specs.Steps.{Adds, Closes, Prepares, TakesOut}
+use Rattle.cfm_prepare.specs.Runs.{Keeps, Runs, Step, Takes, closed, freed, prepared, reserved, stored, taken_out}
+use Rattle.cfm_prepare.specs.Steps.{Closes, Prepares, PutsBack, TakesOut}
 use Rattle.cfm_prepare.proofs.RunLemmas.{present-needed}
 
 -- a fact of each of some fragments
@@ -147,8 +147,8 @@ laid-close s t number laid step =
       apart = subst AreApartAll (sym step.present) (apart-needed t.connections s.present laid.apart);
     }
 
-pub laid-store : (s t : ContextState) (name bytes : List ℕ) → IsLaid s → Adds s name bytes t → IsLaid t
-laid-store s t name bytes laid step = subst IsLaid (sym step.is) (record { there = laid.there; apart = laid.apart })
+pub laid-store : (s t : ContextState) (pairs : List Pair) → IsLaid s → t ≡ record s { pairs = pairs } → IsLaid t
+laid-store s t pairs laid is = subst IsLaid (sym is) (record { there = laid.there; apart = laid.apart })
 
 -- a reservation leaves the instances as they are
 reserves-instances : (m after : Layout) (address size : ℕ) → Reserves m address size after → after.instances ≡ m.instances
@@ -164,12 +164,28 @@ laid-reserve s t address size laid step = subst IsLaid (sym step.is) (record {
   apart = laid.apart;
 })
 
+-- nor does a range that is given back change them
+frees-instances : (m after : Layout) (address size : ℕ) → Unreserves m address size after → after.instances ≡ m.instances
+frees-instances m after address size (inl none) = ap (λ (k : Layout). k.instances) none.1
+frees-instances m after address size (inr some) = ap (λ (k : Layout). k.instances) some.2
+
+pub frees-keeps : (m after : Layout) (address size : ℕ) (places : List Place) → Unreserves m address size after → Keeps m after places
+frees-keeps m after address size places frees k under = ap (λ xs. bytes_at xs (place_at places k).address) (frees-instances m after address size frees)
+
+pub laid-free : (s t : ContextState) (address size : ℕ) → IsLaid s → PutsBack s address size t → IsLaid t
+laid-free s t address size laid step = subst IsLaid (sym step.is) (record {
+  there = all-map (IsThere s.memory) (IsThere step.memory) s.present (λ f there. there-kept s.memory step.memory f there (frees-keeps s.memory step.memory address size f.places step.frees)) laid.there;
+  apart = laid.apart;
+})
+
 laid-all : (pairs : List Pair) (s t : ContextState) (steps : List Step) → IsLaid s → Runs s steps t → IsLaid t
 laid-all pairs s t [] laid run = subst IsLaid (sym run) laid
 laid-all pairs s t (prepared name number ∷ steps) laid run = laid-all pairs run.0 t steps (laid-prepare pairs s run.0 name number laid run.1) run.2
 laid-all pairs s t (closed number ∷ steps) laid run = laid-all pairs run.0 t steps (laid-close s run.0 number laid run.1) run.2
 laid-all pairs s t (reserved address size ∷ steps) laid run = laid-all pairs run.0 t steps (laid-reserve s run.0 address size laid run.1) run.2
-laid-all pairs s t (stored name bytes ∷ steps) laid run = laid-all pairs run.0 t steps (laid-store s run.0 name bytes laid run.1) run.2
+laid-all pairs s t (freed address size ∷ steps) laid run = laid-all pairs run.0 t steps (laid-free s run.0 address size laid run.1) run.2
+laid-all pairs s t (stored name bytes ∷ steps) laid run = laid-all pairs run.0 t steps (laid-store s run.0 _ laid run.1.is) run.2
+laid-all pairs s t (taken_out name ∷ steps) laid run = laid-all pairs run.0 t steps (laid-store s run.0 _ laid run.1.is) run.2
 
 -- a fact of the places of all fragments is one of those of a fragment
 places-keep : (m after : Layout) (fs : List Present) (p : ℕ) → AllBy (λ f. Keeps m after f.places) fs → Keeps m after (places_of fs p)
@@ -217,7 +233,15 @@ step-keeps pairs s t (reserved address size) p laid step was is = (
   ap (λ (t : ContextState). places_of t.present p) step.is,
   subst (λ (t : ContextState). Keeps s.memory t.memory (places_of s.present p)) (sym step.is) (reserves-keeps s.memory step.memory address size (places_of s.present p) step.reserves),
 )
+step-keeps pairs s t (freed address size) p laid step was is = (
+  ap (λ (t : ContextState). places_of t.present p) step.is,
+  subst (λ (t : ContextState). Keeps s.memory t.memory (places_of s.present p)) (sym step.is) (frees-keeps s.memory step.memory address size (places_of s.present p) step.frees),
+)
 step-keeps pairs s t (stored name bytes) p laid step was is = (
+  ap (λ (t : ContextState). places_of t.present p) step.is,
+  subst (λ (t : ContextState). Keeps s.memory t.memory (places_of s.present p)) (sym step.is) (λ k under. refl),
+)
+step-keeps pairs s t (taken_out name) p laid step was is = (
   ap (λ (t : ContextState). places_of t.present p) step.is,
   subst (λ (t : ContextState). Keeps s.memory t.memory (places_of s.present p)) (sym step.is) (λ k under. refl),
 )

@@ -7,9 +7,9 @@ pub use Rattle.cfm_prepare.proofs.NowLemmas.{run-now, run-prepares}
 pub use Rattle.cfm_prepare.proofs.SlotLemmas.{places-append, present-append}
 pub use Rattle.cfm_prepare.proofs.RunLemmas.{present-needed}
 pub use Rattle.cfm_prepare.proofs.KeepLemmas.{run-keeps}
--- a fragment that is present is in the store, and needs the same memory if another one is added
+-- a fragment that is present is in the store, and needs the same memory after a step
 pub use Rattle.cfm_prepare.proofs.RunLemmas.{run-inside}
-pub use Rattle.cfm_prepare.proofs.FragmentLemmas.{extents-stored}
+pub use Rattle.cfm_prepare.proofs.NowLemmas.{step-extents}
 -- fragments that take no more than is allowed don't take more
 pub use Rattle.cfm_prepare.proofs.BoundLemmas.{not-past}
 -- there is a state that a preparation gives, if no new fragment lacks room or is refused

@@ -1,6 +1,6 @@
 -- A fragment that is present is prepared as its container says, with the present addresses, after any list of
 -- steps.
-use Rattle.std.proofs.Common.{◌≡◌, ℕ, zero, suc, ◌+◌, ◌==◌, ◌<◌, length, ◌%◌, ◌^◌, Bool, true, false, List, [], ◌∷◌, ◌++◌, Option, None, Some, Ok, Err, Contains, cond, refl, sym, ap, ap₂, subst, ◌∙◌, inl, inr}
+use Rattle.std.proofs.Common.{◌≡◌, ℕ, zero, suc, ◌+◌, ◌==◌, ◌<◌, ◌≤◌, length, ◌%◌, ◌^◌, Bool, true, false, List, [], ◌∷◌, ◌++◌, Option, None, Some, Ok, Err, Contains, cond, refl, sym, ap, ap₂, subst, ◌∙◌, inl, inr}
 use Rattle.std.specs.Prelude.{Result, option_map}
 use Rattle.std.specs.Option.{option_map_or}
 use Rattle.std.specs.Result.{result_ok, result_unwrap_or}
@@ -10,7 +10,6 @@ use Rattle.cfm_memory.specs.Instances.{Layout}
 use Rattle.cfm_memory.specs.declared.place.Place.{Place}
 use Rattle.cfm_closure.specs.Stores.{Pair}
 use Rattle.cfm_closure.specs.Faults.{BindRefusal}
-use Rattle.cfm_closure.specs.Additions.{MayBeAdded}
 use Rattle.cfm_closure.specs.Fragments.{Fragment, container_at, fragment_of, import_count, loader_at}
 use Rattle.pef_loader.specs.Loader.{Loaded}
 use Rattle.cfm_prepare.specs.Images.{extents_of}
@@ -19,22 +18,22 @@ use Rattle.cfm_closure.specs.Promises.{LiesInside}
 use Rattle.cfm_closure.specs.Targets.{target_of}
 use Rattle.cfm_closure.specs.declared.targets.Target.{Target}
 use Rattle.cfm_closure.specs.declared.targets.Target.TheVariants.{Absolute, At}
-use Rattle.cfm_closure.proofs.Laws.{closed-complete, fragment_of-with, target-inside, target-with}
+use Rattle.cfm_closure.proofs.Laws.{AreSame, closed-complete, fragment_of-same, target-inside, target-same as order-target-same}
 use Rattle.cfm_prepare.specs.Prepared.{addresses_at, prepared_at}
 use Rattle.cfm_prepare.specs.Addresses.{addresses_from, import_address, section_of, target_address}
 use Rattle.cfm_prepare.specs.Lists.{has}
-use Rattle.cfm_prepare.specs.Fragments.{Present, is_present, places_of, prepared_in}
+use Rattle.cfm_prepare.specs.Fragments.{Present, extents_in, is_present, places_of, prepared_in}
 use Rattle.cfm_prepare.specs.Placing.{Fits}
 use Rattle.cfm_prepare.proofs.ListLemmas.{has-at, has-contains}
 use Rattle.cfm_prepare.proofs.PlacedLemmas.{placed-fit}
 use Rattle.pef_words.proofs.Laws.Tests.{cond-later}
 use Rattle.cfm_prepare.specs.Options.{Choices}
-use Rattle.cfm_prepare.specs.Contexts.{ContextState, Open, added, made_state, is_needed, needed_of, opened}
+use Rattle.cfm_prepare.specs.Contexts.{ContextState, Open, made_state, is_needed, needed_of, opened}
 use Rattle.cfm_prepare.specs.Now.{IsPreparedNow}
-use Rattle.cfm_prepare.specs.Runs.{AreClosed, Keeps, Runs, Step, closed, prepared, reserved, stored}
-use Rattle.cfm_prepare.specs.Steps.{Adds, Closes, Prepares, TakesOut}
-use Rattle.cfm_prepare.proofs.KeepLemmas.{AllBy, IsLaid, IsThere, all-append, all-both, all-index, all-map, all-needed, kept-close, kept-new, laid-close, laid-prepare, laid-reserve, laid-store, places-before, places-needed, reserves-keeps}
-use Rattle.cfm_prepare.proofs.RunLemmas.{AllMayStay, IsSound, all-may, after-close, after-prepare, after-reserve, after-store, may-now, fresh-sound, needed-either}
+use Rattle.cfm_prepare.specs.Runs.{AreClosed, Keeps, Runs, Step, Takes, closed, freed, prepared, reserved, stored, taken_out}
+use Rattle.cfm_prepare.specs.Steps.{Closes, Prepares, PutsBack, TakesOut}
+use Rattle.cfm_prepare.proofs.KeepLemmas.{AllBy, IsLaid, IsThere, all-append, all-both, all-index, all-map, all-needed, frees-keeps, kept-close, kept-new, laid-close, laid-free, laid-prepare, laid-reserve, laid-store, places-before, places-needed, reserves-keeps}
+use Rattle.cfm_prepare.proofs.RunLemmas.{AllSame, ChangesStore, IsSound, after-close, after-free, after-prepare, after-reserve, after-store, fresh-sound, needed-either, removes, run-sound, stores}
 
 -- two lists of fragments have the places that some connections need
 abbrev AgreeOn : List Open → List Present → List Present → Type 0
@@ -161,71 +160,88 @@ now-close pairs s t number now step =
       stand = subst (λ fs. AllBy (StandsNow pairs t.memory fs) fs) (sym step.present) stand;
     }
 
--- the same, where its closure may stay what it is if a pair with a name is added
-may-with : (pairs : List Pair) (name : List ℕ) (os : List Open) (p : ℕ) → AreClosed pairs os → AllMayStay pairs os name → is_needed os p ≡ true → (o : HasOpen pairs os p) × MayBeAdded pairs o.link.closed.order name
-may-with pairs name [] p are may is = absurd (cc)
-may-with pairs name (o ∷ os) p are may is = by (has o.closed.order p) refl is (λ left. may-with pairs name os p are.1 may.1 left)
+-- the same, where another store has the same in its closure
+same-with : (pairs pairs' : List Pair) (os : List Open) (p : ℕ) → AreClosed pairs os → AllSame pairs pairs' os → is_needed os p ≡ true → (o : HasOpen pairs os p) × AreSame pairs pairs' o.link.closed.order
+same-with pairs pairs' [] p are same is = absurd (cc)
+same-with pairs pairs' (o ∷ os) p are same is = by (has o.closed.order p) refl is (λ left. same-with pairs pairs' os p are.1 same.1 left)
   where
-    by : (b : Bool) → has o.closed.order p ≡ b → cond b true (is_needed os p) ≡ true → (is_needed os p ≡ true → (h : HasOpen pairs os p) × MayBeAdded pairs h.link.closed.order name) → (h : HasOpen pairs (o ∷ os) p) × MayBeAdded pairs h.link.closed.order name
-    by true was is later = (record { link = o; inside = are.0.inside; closes = are.0.closed; has_it = was; needed = λ q there. needed-first (has o.closed.order q) (is_needed os q) there }, may-now pairs o name are.0 may.0)
+    by : (b : Bool) → has o.closed.order p ≡ b → cond b true (is_needed os p) ≡ true → (is_needed os p ≡ true → (h : HasOpen pairs os p) × AreSame pairs pairs' h.link.closed.order) → (h : HasOpen pairs (o ∷ os) p) × AreSame pairs pairs' h.link.closed.order
+    by true was is later = (record { link = o; inside = are.0.inside; closes = are.0.closed; has_it = was; needed = λ q there. needed-first (has o.closed.order q) (is_needed os q) there }, same.0)
     by false was is later =
         let rest = later is in
         (record { link = rest.0.link; inside = rest.0.inside; closes = rest.0.closes; has_it = rest.0.has_it; needed = λ q there. cond-later (has o.closed.order q) (is_needed os q) (rest.0.needed q there) }, rest.1)
 
--- a fragment that is needed is prepared in the same way if a pair is added
-module _ (pairs : List Pair) (n : Pair) (os : List Open) (are : AreClosed pairs os) (may : AllMayStay pairs os n.name) (p : ℕ) (needed : is_needed os p ≡ true) where
-  stored-fragment : fragment_of (pairs ++ n ∷ []) p ≡ fragment_of pairs p
-  stored-fragment =
-      let o = open-with pairs os p are needed in
-      let complete = closed-complete pairs o.link.root (record o.link.closed { pairs = pairs }) o.closes in
-      fragment_of-with pairs n p (complete.members p (has-contains o.link.closed.order p o.has_it)).place
+-- a fragment that is needed is prepared in the same way in that store
+module _ (pairs pairs' : List Pair) (more : length pairs ≤ length pairs') (os : List Open) (are : AreClosed pairs os) (same : AllSame pairs pairs' os) (p : ℕ) (needed : is_needed os p ≡ true) where
+  other-fragment : fragment_of pairs' p ≡ fragment_of pairs p
+  other-fragment =
+      let m = same-with pairs pairs' os p are same needed in
+      fragment_of-same pairs pairs' p (m.1 p (has-contains m.0.link.closed.order p m.0.has_it)).pair
 
-  stored-target : (j : ℕ) → target_of (pairs ++ n ∷ []) p j ≡ target_of pairs p j
-  stored-target j =
-      let m = may-with pairs n.name os p are may needed in
-      target-with pairs n m.0.link.root (record m.0.link.closed { pairs = pairs }) m.0.inside m.0.closes m.1 p j (has-contains m.0.link.closed.order p m.0.has_it)
+  other-target : (j : ℕ) → target_of pairs' p j ≡ target_of pairs p j
+  other-target j =
+      let m = same-with pairs pairs' os p are same needed in
+      order-target-same pairs pairs' m.0.link.root (record m.0.link.closed { pairs = pairs }) m.0.inside more m.0.closes m.1 p j (has-contains m.0.link.closed.order p m.0.has_it)
 
-  stored-container : container_at (pairs ++ n ∷ []) p ≡ container_at pairs p
-  stored-container = ap (λ r. option_map (λ (f : Fragment). f.container) (result_ok r)) stored-fragment
+  other-container : container_at pairs' p ≡ container_at pairs p
+  other-container = ap (λ r. option_map (λ (f : Fragment). f.container) (result_ok r)) other-fragment
 
-  stored-loader : loader_at (pairs ++ n ∷ []) p ≡ loader_at pairs p
-  stored-loader = ap (λ r. option_map (λ (f : Fragment). f.loader) (result_ok r)) stored-fragment
+  other-loader : loader_at pairs' p ≡ loader_at pairs p
+  other-loader = ap (λ r. option_map (λ (f : Fragment). f.loader) (result_ok r)) other-fragment
 
-  stored-addresses : (all : List Present) (from k : ℕ) → addresses_from (pairs ++ n ∷ []) all p from k ≡ addresses_from pairs all p from k
-  stored-addresses all from zero = refl
-  stored-addresses all from (suc k) = ap₂ (λ (a : ℕ) (rest : List ℕ). a ∷ rest) (ap (λ r. target_address all (result_unwrap_or r None)) (stored-target from)) (stored-addresses all (from + 1) k)
+  other-extents : extents_in pairs' p ≡ extents_in pairs p
+  other-extents = ap (λ c. option_map_or extents_of c []) other-container
 
-  stored-section : (all : List Present) (places : List Place) (k : ℕ)
-      → section_of (pairs ++ n ∷ []) all (record { position = p; places = places }) k ≡ section_of pairs all (record { position = p; places = places }) k
-  stored-section all places k =
-      ap (λ c. option_map_or (λ c. option_map_or (λ l. prepared_at c l (addresses_at places (addresses_from (pairs ++ n ∷ []) all p 0 (import_count (pairs ++ n ∷ []) p))) k) (loader_at (pairs ++ n ∷ []) p) []) c []) stored-container
-      ∙ ap (λ l. option_map_or (λ c. option_map_or (λ l. prepared_at c l (addresses_at places (addresses_from (pairs ++ n ∷ []) all p 0 (import_count (pairs ++ n ∷ []) p))) k) l []) (container_at pairs p) []) stored-loader
+  other-addresses : (all : List Present) (from k : ℕ) → addresses_from pairs' all p from k ≡ addresses_from pairs all p from k
+  other-addresses all from zero = refl
+  other-addresses all from (suc k) = ap₂ (λ (a : ℕ) (rest : List ℕ). a ∷ rest) (ap (λ r. target_address all (result_unwrap_or r None)) (other-target from)) (other-addresses all (from + 1) k)
+
+  other-section : (all : List Present) (places : List Place) (k : ℕ)
+      → section_of pairs' all (record { position = p; places = places }) k ≡ section_of pairs all (record { position = p; places = places }) k
+  other-section all places k =
+      ap (λ c. option_map_or (λ c. option_map_or (λ l. prepared_at c l (addresses_at places (addresses_from pairs' all p 0 (import_count pairs' p))) k) (loader_at pairs' p) []) c []) other-container
+      ∙ ap (λ l. option_map_or (λ c. option_map_or (λ l. prepared_at c l (addresses_at places (addresses_from pairs' all p 0 (import_count pairs' p))) k) l []) (container_at pairs p) []) other-loader
       ∙ ap (λ (is : List ℕ). prepared_in pairs (addresses_at places is) p k)
-      (ap (λ l. addresses_from (pairs ++ n ∷ []) all p 0 (option_map_or (λ (l : Loaded). l.header.import_count) l 0)) stored-loader ∙ stored-addresses all 0 (import_count pairs p))
+      (ap (λ l. addresses_from pairs' all p 0 (option_map_or (λ (l : Loaded). l.header.import_count) l 0)) other-loader ∙ other-addresses all 0 (import_count pairs p))
 
-  stored-fits : (places : List Place) → Fits pairs (record { position = p; places = places }) → Fits (pairs ++ n ∷ []) (record { position = p; places = places })
-  stored-fits places fits = record {
+  other-fits : (places : List Place) → Fits pairs (record { position = p; places = places }) → Fits pairs' (record { position = p; places = places })
+  other-fits places fits = record {
     before = fits.before;
     after = fits.after;
-    placed = subst (λ es. ArePlaced fits.before es places fits.after) (sym (ap (λ c. option_map_or extents_of c []) stored-container)) fits.placed;
+    placed = subst (λ es. ArePlaced fits.before es places fits.after) (sym other-extents) fits.placed;
   }
 
-now-store : (s t : ContextState) (name bytes : List ℕ) → IsNow s.pairs s → Adds s name bytes t → IsNow t.pairs t
-now-store s t name bytes now step =
-    let n : Pair = record { name = name; bytes = bytes } in
+now-store : (s t : ContextState) → IsNow s.pairs s → ChangesStore s t → IsNow t.pairs t
+now-store s t now change =
+    let pairs' = change.pairs in
+    let u : ContextState = record s { pairs = pairs' } in
     let N : Present → Type 0 = λ f. is_needed s.connections f.position ≡ true in
     let own : AllBy N s.present = own-needed s.pairs s now.sound in
-    let fits : AllBy (Fits (s.pairs ++ n ∷ [])) s.present =
-    all-both N (Fits s.pairs) (Fits (s.pairs ++ n ∷ [])) s.present (λ f needed fits. stored-fits s.pairs n s.connections now.sound.closures (all-may s.pairs s.connections name step.may) f.position needed f.places fits) own now.fits in
-    let stand : AllBy (StandsNow (s.pairs ++ n ∷ []) s.memory s.present) s.present =
-    all-both N (StandsNow s.pairs s.memory s.present) (StandsNow (s.pairs ++ n ∷ []) s.memory s.present) s.present
-    (λ f needed stand k under. stand k under ∙ ap Some (sym (stored-section s.pairs n s.connections now.sound.closures (all-may s.pairs s.connections name step.may) f.position needed s.present f.places k))) own now.stand in
-    subst (λ (t : ContextState). IsNow t.pairs t) (sym step.is) (record {
-      sound = after-store s (added s name bytes) name bytes now.sound (record { may = step.may; is = refl });
-      laid = laid-store s (added s name bytes) name bytes now.laid (record { may = step.may; is = refl });
+    let fits : AllBy (Fits pairs') s.present =
+    all-both N (Fits s.pairs) (Fits pairs') s.present (λ f needed fits. other-fits s.pairs pairs' change.more s.connections now.sound.closures change.same f.position needed f.places fits) own now.fits in
+    let stand : AllBy (StandsNow pairs' s.memory s.present) s.present =
+    all-both N (StandsNow s.pairs s.memory s.present) (StandsNow pairs' s.memory s.present) s.present
+    (λ f needed stand k under. stand k under ∙ ap Some (sym (other-section s.pairs pairs' change.more s.connections now.sound.closures change.same f.position needed s.present f.places k))) own now.stand in
+    subst (λ (t : ContextState). IsNow t.pairs t) (sym change.is) (record {
+      sound = after-store s u now.sound (record { pairs = pairs'; more = change.more; same = change.same; is = refl });
+      laid = laid-store s u pairs' now.laid refl;
       fits = fits;
       stand = stand;
     })
+
+-- so a fragment that is present needs the same memory after a step
+changed-extents : (s t : ContextState) (p : ℕ) → IsSound s.pairs s → ChangesStore s t → is_present s.present p ≡ true → extents_in t.pairs p ≡ extents_in s.pairs p
+changed-extents s t p sound change is =
+    ap (λ (t : ContextState). extents_in t.pairs p) change.is
+    ∙ other-extents s.pairs change.pairs change.more s.connections sound.closures change.same p (sym (sound.same p) ∙ is)
+
+pub step-extents : (pairs : List Pair) (choices : Choices) (steps : List Step) (s t : ContextState) (step : Step) (p : ℕ) → Runs (made_state pairs choices) steps s → Takes s step t → is_present s.present p ≡ true → extents_in t.pairs p ≡ extents_in s.pairs p
+step-extents pairs choices steps s t (prepared name number) p run takes is = ap (λ pairs. extents_in pairs p) takes.pairs
+step-extents pairs choices steps s t (closed number) p run takes is = ap (λ pairs. extents_in pairs p) takes.pairs
+step-extents pairs choices steps s t (reserved address size) p run takes is = ap (λ (t : ContextState). extents_in t.pairs p) takes.is
+step-extents pairs choices steps s t (freed address size) p run takes is = ap (λ (t : ContextState). extents_in t.pairs p) takes.is
+step-extents pairs choices steps s t (stored name bytes) p run takes is = let sound = run-sound pairs choices steps s run in changed-extents s t p sound (stores s t name bytes sound takes) is
+step-extents pairs choices steps s t (taken_out name) p run takes is = let sound = run-sound pairs choices steps s run in changed-extents s t p sound (removes s t name sound takes) is
 
 now-reserve : (s t : ContextState) (address size : ℕ) → IsNow s.pairs s → TakesOut s address size t → IsNow t.pairs t
 now-reserve s t address size now step =
@@ -238,12 +254,25 @@ now-reserve s t address size now step =
       stand = all-map (StandsNow s.pairs s.memory s.present) (StandsNow s.pairs step.memory s.present) s.present (λ f stand k under. reserves-keeps s.memory step.memory address size f.places step.reserves k under ∙ stand k under) now.stand;
     })
 
+now-free : (s t : ContextState) (address size : ℕ) → IsNow s.pairs s → PutsBack s address size t → IsNow t.pairs t
+now-free s t address size now step =
+    let u : ContextState = record s { memory = step.memory } in
+    let same : PutsBack s address size u = record { memory = step.memory; frees = step.frees; is = refl } in
+    subst (λ (t : ContextState). IsNow t.pairs t) (sym step.is) (record {
+      sound = after-free s u address size now.sound same;
+      laid = laid-free s u address size now.laid same;
+      fits = now.fits;
+      stand = all-map (StandsNow s.pairs s.memory s.present) (StandsNow s.pairs step.memory s.present) s.present (λ f stand k under. frees-keeps s.memory step.memory address size f.places step.frees k under ∙ stand k under) now.stand;
+    })
+
 now-all : (s t : ContextState) (steps : List Step) → IsNow s.pairs s → Runs s steps t → IsNow t.pairs t
 now-all s t [] now run = subst (λ (t : ContextState). IsNow t.pairs t) (sym run) now
 now-all s t (prepared name number ∷ steps) now run = now-all run.0 t steps (subst (λ ps. IsNow ps run.0) (sym run.1.pairs) (now-prepare s.pairs s run.0 name number now run.1)) run.2
 now-all s t (closed number ∷ steps) now run = now-all run.0 t steps (subst (λ ps. IsNow ps run.0) (sym run.1.pairs) (now-close s.pairs s run.0 number now run.1)) run.2
 now-all s t (reserved address size ∷ steps) now run = now-all run.0 t steps (now-reserve s run.0 address size now run.1) run.2
-now-all s t (stored name bytes ∷ steps) now run = now-all run.0 t steps (now-store s run.0 name bytes now run.1) run.2
+now-all s t (freed address size ∷ steps) now run = now-all run.0 t steps (now-free s run.0 address size now run.1) run.2
+now-all s t (stored name bytes ∷ steps) now run = now-all run.0 t steps (now-store s run.0 now (stores s run.0 name bytes now.sound run.1)) run.2
+now-all s t (taken_out name ∷ steps) now run = now-all run.0 t steps (now-store s run.0 now (removes s run.0 name now.sound run.1)) run.2
 
 fresh-now : (pairs : List Pair) (choices : Choices) → IsNow pairs (made_state pairs choices)
 fresh-now pairs choices = record { sound = fresh-sound pairs choices; laid = record { there = tt; apart = tt }; fits = tt; stand = tt }

@@ -1,25 +1,25 @@
 -- After any list of steps the fragments that are present are those of the open connections' closures.
-use Rattle.std.proofs.Common.{◌≡◌, ℕ, ◌==◌, ◌<◌, Bool, true, false, List, [], ◌∷◌, ◌++◌, Ok, cond, refl, sym, ap, subst, ◌∙◌, inl, inr, length, arith}
+use Rattle.std.proofs.Common.{◌≡◌, ℕ, ◌==◌, ◌<◌, ◌≤◌, Bool, true, false, List, [], ◌∷◌, ◌++◌, Ok, Some, cond, refl, sym, ap, subst, ◌∙◌, inl, inr, length, arith}
 use Rattle.std.proofs.lemmas.Bool.Decides.{eqb_tells}
 use Rattle.cfm_closure.specs.Stores.{Pair, place_of}
 use Rattle.std.specs.Prelude.{option_map, IsSome, ◌⊎◌}
 use Rattle.std.specs.Result.{result_ok}
-use Rattle.cfm_closure.specs.Additions.{MayBeAdded, NamesLibrary}
+use Rattle.cfm_closure.specs.Additions.{MayBeAdded, NamesLibrary, with_put, without_pair}
 use Rattle.cfm_closure.specs.Fragments.{Fragment, fragment_of}
 use Rattle.cfm_closure.specs.Targets.{target_of}
 use Rattle.cfm_closure.specs.Closures.{Closed, closed_of}
-use Rattle.cfm_closure.proofs.Laws.{closed-complete, closed-store, closed-with, fragment_of-with, place_of-below, target-with}
-use Rattle.std.proofs.lemmas.List.{length_push}
+use Rattle.cfm_closure.proofs.Laws.{AreSame, closed-complete, closed-same, closed-store, fragment_of-same, new-longer, new-same, place_of-below, removed-longer, removed-same, target-same}
 use Rattle.cfm_prepare.specs.Lists.{has}
-use Rattle.cfm_prepare.proofs.ListLemmas.{has-contains}
+use Rattle.cfm_prepare.proofs.ListLemmas.{has-at, has-contains}
 use Rattle.cfm_prepare.specs.Fragments.{Present, is_present, new_among}
 use Rattle.pef_words.proofs.Laws.Tests.{cond-later}
 use Rattle.cfm_prepare.proofs.SlotLemmas.{present-append}
 use Rattle.cfm_prepare.proofs.FoundLemmas.{present-has}
 use Rattle.cfm_prepare.specs.Options.{Choices}
 use Rattle.cfm_prepare.specs.Contexts.{ContextState, Open, made_state, is_needed, needed_of, open_without, opened}
-use Rattle.cfm_prepare.specs.Runs.{AreClosed, IsStill, Runs, Step, closed, prepared, reserved, stored}
-use Rattle.cfm_prepare.specs.Steps.{Adds, AnyNames, Closes, Prepares, TakesOut}
+use Rattle.cfm_prepare.specs.Runs.{AreClosed, IsStill, Runs, Step, closed, freed, prepared, reserved, stored, taken_out}
+use Rattle.cfm_prepare.specs.Removals.{Removes}
+use Rattle.cfm_prepare.specs.Steps.{Adds, AnyNames, Closes, Prepares, PutsBack, TakesOut}
 
 pub never : (b : Bool) → false ≡ cond b false false
 never true = refl
@@ -119,37 +119,66 @@ all-may pairs (o ∷ os) name may = elim may [
 ]
 
 -- the library entries of a closure are still those of its fragments
+names-then : (pairs : List Pair) (o : Open) (name : List ℕ) → IsStill pairs o → NamesLibrary pairs o.closed.order name → NamesLibrary o.closed.pairs o.closed.order name
+names-then pairs o name is names = record {
+  fragment = names.fragment;
+  member = names.member;
+  loader = names.loader;
+  read = sym (ap (λ r. option_map (λ (f : Fragment). f.loader) (result_ok r)) (is.fragments names.fragment names.member)) ∙ names.read;
+  index = names.index;
+  library = names.library;
+  entry = names.entry;
+  named = names.named;
+}
+
 pub may-now : (pairs : List Pair) (o : Open) (name : List ℕ) → IsStill pairs o → MayStay pairs o name → MayBeAdded pairs o.closed.order name
-may-now pairs o name is may = elim may [
-  | inl has ↦ inl has
-  | inr none ↦ inr (λ names. none (record {
-    fragment = names.fragment;
-    member = names.member;
-    loader = names.loader;
-    read = sym (ap (λ r. option_map (λ (f : Fragment). f.loader) (result_ok r)) (is.fragments names.fragment names.member)) ∙ names.read;
-    index = names.index;
-    library = names.library;
-    entry = names.entry;
-    named = names.named;
-  }))
-]
+may-now pairs o name is may = elim may [ inl has ↦ inl has | inr none ↦ inr (λ names. none (names-then pairs o name is names)) ]
 
--- they stay if a pair is added
-still-stored : (pairs : List Pair) (n : Pair) (o : Open) → MayStay pairs o n.name → IsStill pairs o → IsStill (pairs ++ n ∷ []) o
-still-stored pairs n o may is =
-    let may' = may-now pairs o n.name is may in
-    let now : Closed = record o.closed { pairs = pairs } in
-    let complete = closed-complete pairs o.root now is.closed in
-    record {
-      inside = (let long = length_push pairs n in let inside = is.inside in omega arith);
-      closed = closed-with pairs n o.root now is.inside is.closed may';
-      fragments = λ p there. fragment_of-with pairs n p (complete.members p there).place ∙ is.fragments p there;
-      targets = λ p j there. target-with pairs n o.root now is.inside is.closed may' p j there ∙ is.targets p j there;
-    }
+-- another store has the same fragments and bindings in the closures of open connections
+abbrev pub AllSame : List Pair → List Pair → List Open → Type 0
+AllSame pairs pairs' [] = Unit {0}
+AllSame pairs pairs' (o ∷ os) = AreSame pairs pairs' o.closed.order × AllSame pairs pairs' os
 
-closed-stored : (pairs : List Pair) (n : Pair) (os : List Open) → AllMayStay pairs os n.name → AreClosed pairs os → AreClosed (pairs ++ n ∷ []) os
-closed-stored pairs n [] may are = tt
-closed-stored pairs n (o ∷ os) may are = (still-stored pairs n o may.0 are.0, closed-stored pairs n os may.1 are.1)
+-- so it does with a pair more
+all-new : (pairs : List Pair) (n : Pair) (os : List Open) → AreClosed pairs os → AllMayStay pairs os n.name → AllSame pairs (with_put pairs n) os
+all-new pairs n [] are may = tt
+all-new pairs n (o ∷ os) are may = (
+  new-same pairs n o.closed.order (closed-complete pairs o.root (record o.closed { pairs = pairs }) are.0.closed) (may-now pairs o n.name are.0 may.0),
+  all-new pairs n os are.1 may.1,
+)
+
+-- and without a pair that no closure has or names
+all-removed : (pairs : List Pair) (name : List ℕ) (p : ℕ) (os : List Open) → place_of pairs name ≡ Some p → AreClosed pairs os → is_needed os p ≡ false → (AnyNames os name → ⊥) → AllSame pairs (without_pair pairs p) os
+all-removed pairs name p [] first are absent unnamed = tt
+all-removed pairs name p (o ∷ os) first are absent unnamed = (
+  removed-same pairs name p first o.closed.order (closed-complete pairs o.root (record o.closed { pairs = pairs }) are.0.closed)
+      (λ there. neither (has o.closed.order p) (is_needed os p) absent (has-at o.closed.order p there)) (λ names. unnamed (inl (names-then pairs o name are.0 names))),
+  all-removed pairs name p os first are.1 (other (has o.closed.order p) (is_needed os p) absent) (λ names. unnamed (inr names)),
+)
+  where
+    neither : (b c : Bool) → cond b true c ≡ false → b ≡ true → ⊥
+    neither true c none is = cc
+    neither false c none is = cc
+
+    other : (b c : Bool) → cond b true c ≡ false → c ≡ false
+    other true c none = absurd (cc)
+    other false c none = none
+
+-- closures stay in a store that has the same
+module _ (pairs pairs' : List Pair) (more : length pairs ≤ length pairs') where
+  still-same : (o : Open) → AreSame pairs pairs' o.closed.order → IsStill pairs o → IsStill pairs' o
+  still-same o same is =
+      let now : Closed = record o.closed { pairs = pairs } in
+      record {
+        inside = (let inside = is.inside in omega arith);
+        closed = closed-same pairs pairs' o.root now is.inside more is.closed same;
+        fragments = λ p there. fragment_of-same pairs pairs' p (same p there).pair ∙ is.fragments p there;
+        targets = λ p j there. target-same pairs pairs' o.root now is.inside more is.closed same p j there ∙ is.targets p j there;
+      }
+
+  still-all : (os : List Open) → AllSame pairs pairs' os → AreClosed pairs os → AreClosed pairs' os
+  still-all [] same are = tt
+  still-all (o ∷ os) same are = (still-same o same.0 are.0, still-all os same.1 are.1)
 
 closed-without : (pairs : List Pair) (os : List Open) (number : ℕ) → AreClosed pairs os → AreClosed pairs (open_without os number)
 closed-without pairs [] number are = are
@@ -194,11 +223,38 @@ after-close pairs s t number sound step =
           ∙ within (is_needed t.connections p) (is_needed s.connections p) (λ is. needed-without s.connections number p (ap (λ os. is_needed os p) (sym step.connections) ∙ is));
     }
 
-pub after-store : (s t : ContextState) (name bytes : List ℕ) → IsSound s.pairs s → Adds s name bytes t → IsSound t.pairs t
-after-store s t name bytes sound step =
-    subst (λ (t : ContextState). IsSound t.pairs t) (sym step.is) (record {
+-- the store changes alone, and the closures of open connections stay
+pub record ChangesStore (s t : ContextState) : Type 0 where
+  pub pairs : List Pair
+  pub more : length s.pairs ≤ length pairs
+  pub same : AllSame s.pairs pairs s.connections
+  pub is : t ≡ record s { pairs = pairs }
+
+pub stores : (s t : ContextState) (name bytes : List ℕ) → IsSound s.pairs s → Adds s name bytes t → ChangesStore s t
+stores s t name bytes sound step =
+    let n : Pair = record { name = name; bytes = bytes; free = false } in
+    record {
+      pairs = with_put s.pairs n;
+      more = new-longer s.pairs n;
+      same = all-new s.pairs n s.connections sound.closures (all-may s.pairs s.connections name step.may);
+      is = step.is;
+    }
+
+pub removes : (s t : ContextState) (name : List ℕ) → IsSound s.pairs s → Removes s name t → ChangesStore s t
+removes s t name sound step =
+    let p = step.unused.root in
+    record {
+      pairs = without_pair s.pairs p;
+      more = removed-longer s.pairs name p step.unused.is;
+      same = all-removed s.pairs name p s.connections step.unused.is sound.closures (sym (sound.same p) ∙ step.unused.absent) step.unnamed;
+      is = step.is;
+    }
+
+pub after-store : (s t : ContextState) → IsSound s.pairs s → ChangesStore s t → IsSound t.pairs t
+after-store s t sound change =
+    subst (λ (t : ContextState). IsSound t.pairs t) (sym change.is) (record {
       store = refl;
-      closures = closed-stored s.pairs (record { name = name; bytes = bytes }) s.connections (all-may s.pairs s.connections name step.may) sound.closures;
+      closures = still-all s.pairs change.pairs change.more s.connections change.same sound.closures;
       same = sound.same;
     })
 
@@ -206,12 +262,18 @@ pub after-reserve : (s t : ContextState) (address size : ℕ) → IsSound s.pair
 after-reserve s t address size sound step =
     subst (λ (t : ContextState). IsSound t.pairs t) (sym step.is) (record { store = sound.store; closures = sound.closures; same = sound.same })
 
+pub after-free : (s t : ContextState) (address size : ℕ) → IsSound s.pairs s → PutsBack s address size t → IsSound t.pairs t
+after-free s t address size sound step =
+    subst (λ (t : ContextState). IsSound t.pairs t) (sym step.is) (record { store = sound.store; closures = sound.closures; same = sound.same })
+
 after-all : (s t : ContextState) (steps : List Step) → IsSound s.pairs s → Runs s steps t → IsSound t.pairs t
 after-all s t [] sound run = subst (λ (t : ContextState). IsSound t.pairs t) (sym run) sound
 after-all s t (prepared name number ∷ steps) sound run = after-all run.0 t steps (subst (λ ps. IsSound ps run.0) (sym run.1.pairs) (after-prepare s.pairs s run.0 name number sound run.1)) run.2
 after-all s t (closed number ∷ steps) sound run = after-all run.0 t steps (subst (λ ps. IsSound ps run.0) (sym run.1.pairs) (after-close s.pairs s run.0 number sound run.1)) run.2
 after-all s t (reserved address size ∷ steps) sound run = after-all run.0 t steps (after-reserve s run.0 address size sound run.1) run.2
-after-all s t (stored name bytes ∷ steps) sound run = after-all run.0 t steps (after-store s run.0 name bytes sound run.1) run.2
+after-all s t (freed address size ∷ steps) sound run = after-all run.0 t steps (after-free s run.0 address size sound run.1) run.2
+after-all s t (stored name bytes ∷ steps) sound run = after-all run.0 t steps (after-store s run.0 sound (stores s run.0 name bytes sound run.1)) run.2
+after-all s t (taken_out name ∷ steps) sound run = after-all run.0 t steps (after-store s run.0 sound (removes s run.0 name sound run.1)) run.2
 
 pub fresh-sound : (pairs : List Pair) (choices : Choices) → IsSound pairs (made_state pairs choices)
 fresh-sound pairs choices = record { store = refl; closures = tt; same = λ p. refl }

@@ -6,6 +6,7 @@ use Rattle.std.specs.Prelude.{◌==◌, ℕ, Bool, false, true, List, [], ◌∷
 use Rattle.cfm_memory.specs.Extents.{empty_memory}
 use Rattle.cfm_memory.specs.Instances.{Layout}
 use Rattle.cfm_memory.specs.declared.place.Reserved.{Reserved}
+use Rattle.cfm_closure.specs.Additions.{with_put, without_pair}
 use Rattle.cfm_closure.specs.Stores.{Pair}
 use Rattle.cfm_closure.specs.Closures.{Closed}
 use Rattle.cfm_prepare.specs.Fragments.{Present, new_among}
@@ -43,9 +44,13 @@ fresh_state pairs limit = made_state pairs (usual_choices limit)
 abbrev pub unused_state : List Pair → Choices → List Reserved → ContextState
 unused_state pairs choices ranges = record (made_state pairs choices) { memory = record (empty_memory choices.granule choices.limit) { reserved = ranges } }
 
--- a context with one fragment more in its store, after the others
+-- a context with one fragment more in its store: in the free place for it, or else after the others
 abbrev pub added : ContextState → List ℕ → List ℕ → ContextState
-added s name bytes = record s { pairs = s.pairs ++ (record { name = name; bytes = bytes }) ∷ [] }
+added s name bytes = record s { pairs = with_put s.pairs (record { name = name; bytes = bytes; free = false }) }
+
+-- a context without the fragment in a place of its store, which is free then
+abbrev pub removed : ContextState → ℕ → ContextState
+removed s p = record s { pairs = without_pair s.pairs p }
 
 -- the connection that a preparation opens to a fragment with a closure
 abbrev pub opened : ContextState → ℕ → Closed → Open

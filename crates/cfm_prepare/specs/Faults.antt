@@ -10,6 +10,8 @@ use Rattle.cfm_prepare.specs.declared.fault.CloseFault.{CloseFault}
 use Rattle.cfm_prepare.specs.declared.fault.CloseFault.TheVariants.{BadConnection}
 use Rattle.cfm_prepare.specs.declared.fault.PrepareFault.{PrepareFault}
 use Rattle.cfm_prepare.specs.declared.fault.PrepareFault.TheVariants as fault
+use Rattle.cfm_prepare.specs.declared.remove_fault.RemoveFault.{RemoveFault}
+use Rattle.cfm_prepare.specs.declared.remove_fault.RemoveFault.TheVariants as remove
 
 -- the numbers
 abbrev pub fault_number : PrepareFault → ℕ
@@ -52,6 +54,19 @@ abbrev pub add_fault_number : AddFault → ℕ
 add_fault_number add.AddedTooLate = 203
 add_fault_number add.StoreFull = 204
 add_fault_number add.OutOfMemory = 99
+
+-- for a fragment that isn't removed
+abbrev pub remove_fault_number : RemoveFault → ℕ
+remove_fault_number remove.RootMissing = 60
+remove_fault_number remove.StillPresent = 207
+remove_fault_number remove.StillNamed = 208
+remove_fault_number remove.OutOfMemory = 99
+
+abbrev pub remove_fault_name : RemoveFault → List ℕ
+remove_fault_name remove.RootMissing = codes "RootMissing"
+remove_fault_name remove.StillPresent = codes "StillPresent"
+remove_fault_name remove.StillNamed = codes "StillNamed"
+remove_fault_name remove.OutOfMemory = codes "OutOfMemory"
 
 abbrev pub add_fault_name : AddFault → List ℕ
 add_fault_name add.AddedTooLate = codes "AddedTooLate"

@@ -15,6 +15,7 @@ pub mod Placing
 pub mod Prepared
 pub mod Readers
 pub mod Refusals
+pub mod Removals
 pub mod Runs
 pub mod Sections
 pub mod Steps

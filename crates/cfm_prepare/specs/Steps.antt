@@ -1,10 +1,9 @@
--- The steps of a context: a fragment is added or prepared, addresses are reserved, or a connection is closed; and why a fragment isn't added or
+-- The steps of a context: a fragment is added or prepared, addresses are reserved or given back, or a connection is closed; and why a fragment isn't added or
 -- prepared. The order of the refusals is this project's own rule.
-use Rattle.std.specs.Prelude.{◌≡◌, ◌⊎◌, IsSome, ◌≤◌, ◌<◌, ℕ, ◌+◌, List, [], ◌∷◌, ◌++◌, None, Some, Ok, length}
-use Rattle.cfm_closure.specs.Limits.{most_pairs}
+use Rattle.std.specs.Prelude.{◌≡◌, ◌⊎◌, IsSome, ◌≤◌, ◌<◌, ℕ, ◌+◌, List, [], ◌∷◌, ◌++◌, None, Some, Ok, false, true}
 use Rattle.cfm_memory.specs.Instances.{Layout}
-use Rattle.cfm_memory.specs.Reservation.{Reserves}
-use Rattle.cfm_closure.specs.Additions.{NamesLibrary}
+use Rattle.cfm_memory.specs.Reservation.{Reserves, Unreserves}
+use Rattle.cfm_closure.specs.Additions.{NamesLibrary, has_room}
 use Rattle.cfm_closure.specs.Stores.{pair_of, place_of}
 use Rattle.cfm_closure.specs.Faults.{FailsAs}
 use Rattle.cfm_closure.specs.Closures.{Closed, closed_of}
@@ -33,16 +32,23 @@ pub record Adds (s : ContextState) (name bytes : List ℕ) (t : ContextState) : 
   pub may : MayAdd s name
   pub is : t ≡ added s name bytes
 
--- why a fragment isn't added: an open connection's closure lacks it, or else the store is full, or an allocation fails
+-- why a fragment isn't added: an open connection's closure lacks it, or else the store has no place for it, or an
+-- allocation fails
 abbrev pub MayNotAdd : ContextState → List ℕ → AddFault → Type 0
 MayNotAdd s name add.AddedTooLate = (place_of s.pairs name ≡ None) × AnyNames s.connections name
-MayNotAdd s name add.StoreFull = MayAdd s name × (most_pairs ≤ length s.pairs)
-MayNotAdd s name add.OutOfMemory = MayAdd s name × (length s.pairs < most_pairs)
+MayNotAdd s name add.StoreFull = MayAdd s name × (has_room s.pairs name ≡ false)
+MayNotAdd s name add.OutOfMemory = MayAdd s name × (has_room s.pairs name ≡ true)
 
 -- some bytes from an address on are taken out of use, and nothing else changes
 pub record TakesOut (s : ContextState) (address size : ℕ) (t : ContextState) : Type 0 where
   pub memory : Layout
   pub reserves : Reserves s.memory address size memory
+  pub is : t ≡ record s { memory = memory }
+
+-- some bytes from an address on that were out of use aren't any more, and nothing else changes
+pub record PutsBack (s : ContextState) (address size : ℕ) (t : ContextState) : Type 0 where
+  pub memory : Layout
+  pub frees : Unreserves s.memory address size memory
   pub is : t ≡ record s { memory = memory }
 
 -- a number is left, and the fragment with a name is in this place

@@ -1,16 +1,17 @@
-ghost use Rattle.std.specs.Prelude.{◌≡◌, ◌<◌, ◌≤◌, ◌+◌, ℕ, List, IfErr, IfOk, IfSome, MatchOption, None, OnErr, OnOk, Some, length, map, option_map, slice_get};
+ghost use Rattle.std.specs.Prelude.{◌≡◌, ◌<◌, ◌≤◌, ◌+◌, ℕ, List, IfErr, IfOk, IfSome, MatchOption, None, OnErr, OnOk, Some, length, map, option_map, false, true};
 ghost use Rattle.std.specs.Option.{option_and_then, option_copied};
-ghost use Rattle.cfm_closure.specs.Stores.{place_of};
+ghost use Rattle.cfm_closure.specs.Stores.{name_at, place_of};
 ghost use Rattle.cfm_closure.specs.Views.{missing_seen};
 ghost use Rattle.cfm_memory.specs.Placement.{IsClear};
-ghost use Rattle.cfm_memory.specs.Reservation.{MayNotReserve};
+ghost use Rattle.cfm_memory.specs.Reservation.{IsNoRange, MayNotReserve};
 ghost use Rattle.cfm_prepare.specs.Fragments.{places_of};
 ghost use Rattle.cfm_prepare.specs.Lacking.{Lacks, MayNotTell};
 ghost use Rattle.cfm_prepare.specs.Made.{choices_of};
 ghost use Rattle.cfm_prepare.specs.Sections.{section_present, section_seen, sections_at, sections_left};
 ghost use Rattle.cfm_prepare.specs.Contexts.{fresh_state, made_state, open_of};
 ghost use Rattle.cfm_prepare.specs.Readers.{entries_of, has_present, import_target_of, main_address, numbered_export, released_by, root_section, section_header_of, symbol_address, symbol_of};
-ghost use Rattle.cfm_prepare.specs.Steps.{Adds, Closes, MayNotAdd, MayNotPrepare, Prepares, TakesOut};
+ghost use Rattle.cfm_prepare.specs.Removals.{MayNotRemove, Removes};
+ghost use Rattle.cfm_prepare.specs.Steps.{Adds, Closes, MayNotAdd, MayNotPrepare, Prepares, PutsBack, TakesOut};
 
 use crate::add_fault::AddFault;
 use crate::connections::Connections;
@@ -20,6 +21,7 @@ use crate::fragments::Fragments;
 use crate::imports::ImportTarget;
 use crate::open_connection::OpenConnection;
 use crate::options::Options;
+use crate::remove_fault::RemoveFault;
 use crate::sections::Sections;
 use crate::users::{enter, leave, make_room, release, unshared_among};
 use cfm_closure::{CachedStore, Closure, MissingLibrary, Store, StoreFault};
@@ -96,10 +98,13 @@ impl<'a> Context<'a> {
 
     /// Adds a fragment to the store. If several fragments have the same name, the first is used.
     ///
+    /// If no fragment has the name, it gets the first place that a removed one left free. Otherwise, and if no place is free,
+    /// it comes after the others.
+    ///
     /// # Errors
     ///
     /// `AddedTooLate` if the store has no fragment with this name, and a fragment of an open connection's closure
-    /// has a library entry with it: it was prepared without. Otherwise `StoreFull` if the store is full.
+    /// has a library entry with it: it was prepared without. Otherwise `StoreFull` if the store has no place for it.
     /// `OutOfMemory` if an allocation fails. After an error the context is unchanged.
     pub fn add(&mut self, name: &'a [u8], bytes: &'a [u8]) -> Result<(), AddFault>
         ensures added { OnOk result (Adds self.old name.now bytes.now self.new) }
@@ -109,16 +114,52 @@ impl<'a> Context<'a> {
         if self.store.find(name).is_none() && self.connections.names_library(name) {
             return Err(AddFault::AddedTooLate);
         }
-        if self.store.is_full() {
+        if !self.store.has_room(name) {
             return Err(AddFault::StoreFull);
         }
-        match self.store.add(name, bytes) {
+        match self.store.put(name, bytes) {
             Ok(()) => Ok(()),
             Err(StoreFault::OutOfMemory) => Err(AddFault::OutOfMemory),
         }
     }
 
-    /// Takes `size` addresses from `address` on out of use, as long as the context lives. No section is placed there.
+    /// Returns the place of the first fragment with a name in the store.
+    pub fn find(&self, name: &[u8]) -> Option<usize>
+        ensures { result ≡ place_of self.now.pairs name.now }
+    {
+        self.store.find(name)
+    }
+
+    /// Removes the first fragment with a name from the store. The next one with this name, if there is one, is the first
+    /// then. The others keep their places, and no closure of an open connection changes.
+    ///
+    /// # Errors
+    ///
+    /// `RootMissing` if the store has no fragment with this name. Otherwise `StillPresent` if it is present. Otherwise
+    /// `StillNamed` if a fragment of an open connection's closure has a library entry with the name: it is weak, and the
+    /// fragment's version doesn't fit. `OutOfMemory` if an allocation fails. After an error the context is unchanged.
+    pub fn remove(&mut self, name: &[u8]) -> Result<(), RemoveFault>
+        ensures removed { OnOk result (Removes self.old name.now self.new) }
+        ensures refused { IfErr result (λ fault. MayNotRemove self.old name.now fault) }
+        ensures unchanged { OnErr result (self.new ≡ self.old) }
+    {
+        let Some(place) = self.store.find(name) else {
+            return Err(RemoveFault::RootMissing);
+        };
+        if self.fragments.has(place) {
+            return Err(RemoveFault::StillPresent);
+        }
+        if self.connections.names_library(name) {
+            return Err(RemoveFault::StillNamed);
+        }
+        match self.store.remove(self.alloc, place) {
+            Ok(()) => Ok(()),
+            Err(StoreFault::OutOfMemory) => Err(RemoveFault::OutOfMemory),
+        }
+    }
+
+    /// Takes `size` addresses from `address` on out of use, until they are given back by [`unreserve`](Self::unreserve). No
+    /// section is placed there.
     ///
     /// The range begins at the multiple of 16 at or below `address`, and ends at the one at or above its end. If `size` is
     /// 0, nothing is taken.
@@ -134,6 +175,18 @@ impl<'a> Context<'a> {
     {
         self.fragments.reserve(address, size)?;
         Ok(())
+    }
+
+    /// Gives a reserved range back: sections can be placed there again. Returns whether there was one.
+    ///
+    /// It is exactly the range that [`reserve`](Self::reserve) takes out of use for the same numbers. If the addresses aren't
+    /// such a range, also if they are a part of one or several, nothing changes. If `size` is 0, nothing changes, and the
+    /// answer is `true`.
+    pub fn unreserve(&mut self, address: u32, size: u32) -> bool
+        ensures freed { result ≡ true → PutsBack self.old address size self.new }
+        ensures refused { result ≡ false → IsNoRange self.old.memory address size × (self.new ≡ self.old) }
+    {
+        self.fragments.unreserve(address, size)
     }
 
     /// Returns the libraries that the fragment with a name and those that it needs name, and that no fragment serves: there
@@ -414,9 +467,9 @@ impl<'a> Context<'a> {
         connected.section_header(position, i)
     }
 
-    /// Returns the name of the fragment in a place of the store. `None` past the last place.
+    /// Returns the name of the fragment in a place of the store. `None` past the last place, and if the place is free.
     pub fn name(&self, position: usize) -> Option<&'a [u8]>
-        ensures { option_map (λ n. n.now) result ≡ option_map (λ p. p.name) (slice_get self.now.pairs position) }
+        ensures { option_map (λ n. n.now) result ≡ name_at self.now.pairs position }
     {
         let (name, _) = self.store.pair(position)?;
         Some(name)

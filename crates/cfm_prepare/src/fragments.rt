@@ -1,6 +1,6 @@
-ghost use Rattle.std.specs.Prelude.{◌≡◌, ◌≤◌, ◌+◌, ◌++◌, List, IfErr, IfOk, IfSome, MatchOption, OnErr, OnOk, length, option_map};
+ghost use Rattle.std.specs.Prelude.{◌≡◌, ◌≤◌, ◌+◌, ◌++◌, List, IfErr, IfOk, IfSome, MatchOption, OnErr, OnOk, false, length, option_map, true};
 ghost use Rattle.cfm_memory.specs.Placement.{IsClear};
-ghost use Rattle.cfm_memory.specs.Reservation.{MayNotReserve, Reserves};
+ghost use Rattle.cfm_memory.specs.Reservation.{IsNoRange, MayNotReserve, Reserves, Unreserves};
 ghost use Rattle.cfm_prepare.specs.Addresses.{target_address};
 ghost use Rattle.cfm_prepare.specs.Fragments.{IsGivenBack, Present, is_present, new_among, none_present, places_of};
 ghost use Rattle.cfm_prepare.specs.Bounds.{AreWithin, bytes_in, steps_in};
@@ -116,6 +116,14 @@ impl Fragments {
     {
         self.memory.reserve(address, size)?;
         Ok(())
+    }
+
+    /// Gives a reserved range back. Returns whether there was one. Otherwise the memory is unchanged.
+    pub fn unreserve(&mut self, address: u32, size: u32) -> bool
+        ensures freed { result ≡ true → Unreserves self.old.memory address size self.new.memory × (self.new.present ≡ self.old.present) }
+        ensures refused { result ≡ false → IsNoRange self.old.memory address size × (self.new ≡ self.old) }
+    {
+        self.memory.unreserve(address, size)
     }
 
     /// Releases the fragment in a place of the store, if it is present.

@@ -114,7 +114,7 @@ impl<'a> OpenConnection<'a> {
         let loader = self.closure.loader(position);
         let index = loader.export_named(name)?;
         let export = loader.export(index)?;
-        Some(self.export_address(fragments, position, &loader, export.value()))
+        Some(self.export_address(fragments, position, &loader, export.fields.value()))
     }
 
     /// Returns the address of export `number` of a fragment. `None` if the closure lacks the fragment.
@@ -139,7 +139,7 @@ impl<'a> OpenConnection<'a> {
     {
         let loader = self.closure.loader(position);
         let export = loader.export(number)?;
-        Some(self.export_address(fragments, position, &loader, export.value()))
+        Some(self.export_address(fragments, position, &loader, export.fields.value()))
     }
 
     /// Returns what import `number` of a fragment means. `None` if the closure lacks the fragment.

@@ -1,8 +1,9 @@
 //! Laws of the definitions, for the proofs of other crates. The functions do nothing.
 ghost use Rattle.std.specs.Prelude.{◌≡◌, ◌↔◌, ◌++◌, ℕ, List, [], ◌∷◌, Contains, Some, false, option_map, true};
+ghost use Rattle.cfm_closure.specs.Additions.{with_put, without_pair};
 ghost use Rattle.cfm_closure.specs.Stores.{Pair};
 ghost use Rattle.cfm_prepare.specs.Fragments.{is_present, places_of};
-ghost use Rattle.cfm_prepare.specs.Contexts.{ContextState, added, made_state, is_needed, open_of, unused_state};
+ghost use Rattle.cfm_prepare.specs.Contexts.{ContextState, added, made_state, is_needed, open_of, removed, unused_state};
 ghost use Rattle.cfm_prepare.specs.Now.{IsPreparedNow};
 ghost use Rattle.cfm_prepare.specs.Options.{Choices};
 ghost use Rattle.cfm_prepare.specs.Placing.{LacksRoom};
@@ -13,7 +14,7 @@ ghost use Rattle.cfm_prepare.specs.Steps.{Closes, HasClosure, IsWithin, Prepares
 ghost use Rattle.cfm_prepare.specs.declared.image_fault.ImageFault.{ImageFault};
 ghost use Rattle.pef_loader.specs.declared.program_fault.ProgramFault.{ProgramFault};
 
-/// After any list of additions, reservations, preparations and closings, a fragment is present exactly if the closure of
+/// After any list of additions, removals, reservations, preparations and closings, a fragment is present exactly if the closure of
 /// an open connection has it. These closures are those of the connections' roots.
 pub fn present_fragments()
     ensures present { (pairs : List Pair) (choices : Choices) (steps : List Step) (t : ContextState) (p : ℕ) → Runs (made_state pairs choices) steps t → is_present t.present p ≡ is_needed t.connections p }
@@ -36,10 +37,11 @@ pub fn prepared_fragments()
 {}
 
 /// A context that never gave a connection is equal to a new one over its store, but for its reserved ranges. If a
-/// fragment is added to a new one, it is equal to a new one over the longer store.
+/// fragment is added to a new one, or one is removed, it is equal to a new one over the store with it or without it.
 pub fn added_fragments()
     ensures unused { (pairs : List Pair) (choices : Choices) (steps : List Step) (t : ContextState) → Runs (made_state pairs choices) steps t → t.given ≡ 0 → t ≡ unused_state t.pairs choices t.memory.reserved }
-    ensures added { (pairs : List Pair) (choices : Choices) (name bytes : List ℕ) → added (made_state pairs choices) name bytes ≡ made_state (pairs ++ (record { name = name; bytes = bytes }) ∷ []) choices }
+    ensures added { (pairs : List Pair) (choices : Choices) (name bytes : List ℕ) → added (made_state pairs choices) name bytes ≡ made_state (with_put pairs (record { name = name; bytes = bytes; free = false })) choices }
+    ensures removed { (pairs : List Pair) (choices : Choices) (p : ℕ) → removed (made_state pairs choices) p ≡ made_state (without_pair pairs p) choices }
 {}
 
 /// If a name has a closure, its fragments that aren't present take no more than the context allows, none of them lacks
@@ -50,7 +52,7 @@ pub fn possible_preparations()
         → ((other : List ℕ) (k : ProgramFault) → HasBadProgram s.pairs s.present s.memory (new_of s closure.closed) other k → ⊥) → (t : ContextState) × Prepares s name s.given t }
 {}
 
-/// Only reservations change which ranges of addresses are out of use, and add to them alone: a preparation and a closing
+/// Only reservations and what gives them back change which ranges of addresses are out of use: a preparation and a closing
 /// leave them as they are, and so does an addition by its definition.
 pub fn reserved_ranges()
     ensures prepared { (s t : ContextState) (name : List ℕ) (number : ℕ) → Prepares s name number t → t.memory.reserved ≡ s.memory.reserved }

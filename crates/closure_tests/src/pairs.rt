@@ -43,6 +43,23 @@ fn store(rt: HostRuntime) {
     test_found(&rt, &store);
 }
 
+#[test]
+fn removed(rt: HostRuntime) {
+    let mut store = Store::new(rt.alloc());
+    store.add(b"one", b"1").expect(&rt, "memory");
+    store.add(b"two", b"2").expect(&rt, "memory");
+    store.add(b"one", b"3").expect(&rt, "memory");
+    store.remove(rt.alloc(), 0).expect(&rt, "memory");
+    assert!(rt; store.len() == 3 && store.pair(0).is_none());
+    assert!(rt; store.find(b"one") == Some(2) && store.find(b"two") == Some(1));
+    assert!(rt; store.has_room(b"one"));
+    store.put(b"one", b"4").expect(&rt, "memory");
+    assert!(rt; store.pair(3) == Some((b"one", b"4")) && store.find(b"one") == Some(2));
+    assert!(rt; store.has_room(b"new"));
+    store.put(b"new", b"5").expect(&rt, "memory");
+    assert!(rt; store.len() == 4 && store.find(b"new") == Some(0));
+}
+
 /// Tests the pairs in the store.
 fn test_pairs(rt: &impl Abort, store: &Store<'_>) {
     assert!(rt; store.len() == 3);

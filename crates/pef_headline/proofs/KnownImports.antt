@@ -49,7 +49,7 @@ module _ (pairs : List Pair) (p : ℕ) (script other : DescribedScript) (mine : 
       let described : one.described ≡ two.described =
       library-same one.described two.described
       (sym one.name ∙ ap (λ (l : Library). l.name) entries ∙ two.name)
-      (sym one.current ∙ ap (λ (l : Library). l.current) entries ∙ two.current)
-      (sym one.old_imp ∙ ap (λ (l : Library). l.old_imp) entries ∙ two.old_imp)
-      (options-same one.described.options two.described.options (sym one.options ∙ ap (λ (l : Library). l.options) entries ∙ two.options)) in
+      (sym one.current ∙ ap (λ (l : Library). l.fields.current) entries ∙ two.current)
+      (sym one.old_imp ∙ ap (λ (l : Library). l.fields.old_imp) entries ∙ two.old_imp)
+      (options-same one.described.options two.described.options (sym one.options ∙ ap (λ (l : Library). l.fields.options) entries ∙ two.options)) in
       (there ∙ ap Some (sym symbols), ap (λ (s : Import). slice_get other.libraries s.library) symbols ∙ two.from ∙ ap Some (sym described) ∙ sym one.from)

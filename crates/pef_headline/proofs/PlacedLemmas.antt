@@ -11,9 +11,9 @@ use Rattle.cfm_prepare.specs.Options.{Choices}
 use Rattle.cfm_prepare.specs.Contexts.{ContextState, made_state, is_needed}
 use Rattle.cfm_prepare.specs.Fragments.{Present, extents_in, is_present, places_of}
 use Rattle.cfm_prepare.specs.Placing.{AllPlaced}
-use Rattle.cfm_prepare.specs.Runs.{Runs, Step, Takes, closed, prepared, reserved, stored}
+use Rattle.cfm_prepare.specs.Runs.{Runs, Step, Takes, closed, freed, prepared, reserved, stored, taken_out}
 use Rattle.cfm_prepare.specs.Steps.{Prepares}
-use Rattle.cfm_prepare.proofs.Laws.{extents-stored, places-append, present-append, present-needed, run-inside, run-keeps}
+use Rattle.cfm_prepare.proofs.Laws.{places-append, present-append, present-needed, run-keeps, step-extents}
 use Rattle.pef_headline.specs.Placed.{IsPlacedAnew, IsPresentAt, StaysAt, WasPlaced, memory_for, with_places}
 
 -- extents that were placed leave a memory with instances at their places
@@ -72,7 +72,13 @@ step-begun (closed number) s t p takes absent is =
 step-begun (reserved address size) s t p takes absent is =
     let same : is_present t.present p ≡ is_present s.present p = ap (λ (u : ContextState). is_present u.present p) takes.is in
     absurd (cc)
+step-begun (freed address size) s t p takes absent is =
+    let same : is_present t.present p ≡ is_present s.present p = ap (λ (u : ContextState). is_present u.present p) takes.is in
+    absurd (cc)
 step-begun (stored name bytes) s t p takes absent is =
+    let same : is_present t.present p ≡ is_present s.present p = ap (λ (u : ContextState). is_present u.present p) takes.is in
+    absurd (cc)
+step-begun (taken_out name) s t p takes absent is =
     let same : is_present t.present p ≡ is_present s.present p = ap (λ (u : ContextState). is_present u.present p) takes.is in
     absurd (cc)
 
@@ -88,29 +94,6 @@ pub run-push : (done : List Step) (s a b : ContextState) (step : Step) → Runs 
 run-push [] s a b step run takes = (b, subst (λ (u : ContextState). Takes u step b) run takes, refl)
 run-push (first ∷ done) s a b step run takes = (run.0, run.1, run-push done run.0 a b step run.2 takes)
 
--- a fragment of a store needs the memory that it needed
-record IsAsLong (before after : List Pair) (p : ℕ) : Type 0 where
-  inside : p < length after
-  extents : extents_in after p ≡ extents_in before p
-
-as-long : (before after : List Pair) (p : ℕ) → after ≡ before → p < length before → IsAsLong before after p
-as-long before after p same inside = record { inside = subst (λ (pairs : List Pair). p < length pairs) (sym same) inside; extents = ap (λ pairs. extents_in pairs p) same }
-
-step-extents : (step : Step) (s t : ContextState) (p : ℕ) → Takes s step t → p < length s.pairs → IsAsLong s.pairs t.pairs p
-step-extents (prepared name number) s t p takes inside = as-long s.pairs t.pairs p takes.pairs inside
-step-extents (closed number) s t p takes inside = as-long s.pairs t.pairs p takes.pairs inside
-step-extents (reserved address size) s t p takes inside = as-long s.pairs t.pairs p (ap (λ (u : ContextState). u.pairs) takes.is) inside
-step-extents (stored name bytes) s t p takes inside =
-    let n : Pair = record { name = name; bytes = bytes } in
-    let long = length_push s.pairs n in
-    let more : IsAsLong s.pairs (s.pairs ++ n ∷ []) p = record { inside = omega arith; extents = extents-stored s.pairs n p inside } in
-    subst (λ (u : ContextState). IsAsLong s.pairs u.pairs p) (sym takes.is) more
-
-run-extents : (steps : List Step) (s t : ContextState) (p : ℕ) → Runs s steps t → p < length s.pairs → extents_in t.pairs p ≡ extents_in s.pairs p
-run-extents [] s t p run inside = ap (λ (u : ContextState). extents_in u.pairs p) run
-run-extents (step ∷ steps) s t p run inside =
-    let first = step-extents step s run.0 p run.1 inside in run-extents steps run.0 t p run.2 first.inside ∙ first.extents
-
 -- a fragment that a run placed
 pub record WasFound (steps : List Step) (s t : ContextState) (run : Runs s steps t) (p : ℕ) : Type 0 where
   pub before : Layout
@@ -121,6 +104,13 @@ module _ (pairs : List Pair) (choices : Choices) (p : ℕ) where
   stays-first : (steps : List Step) (s t : ContextState) (run : Runs s steps t) (places : List Place) → StaysAt steps s t run p places → IsPresentAt s p places
   stays-first [] s t run places stays = stays
   stays-first (step ∷ steps) s t run places stays = stays.0
+
+  -- as long as it is present, it needs the same memory
+  run-extents : (steps done : List Step) (s t : ContextState) (places : List Place) → Runs (made_state pairs choices) done s → (run : Runs s steps t) → StaysAt steps s t run p places → extents_in t.pairs p ≡ extents_in s.pairs p
+  run-extents [] done s t places earlier run stays = ap (λ (u : ContextState). extents_in u.pairs p) run
+  run-extents (step ∷ steps) done s t places earlier run stays =
+      run-extents steps (done ++ step ∷ []) run.0 t places (run-push done (made_state pairs choices) s run.0 step earlier run.1) run.2 stays.1
+      ∙ step-extents pairs choices done s run.0 step p earlier run.1 stays.0.present
 
   -- the rest of a run placed it, or it is present all along
   rest-placed : (steps done : List Step) (s t : ContextState) → Runs (made_state pairs choices) done s → (run : Runs s steps t) → is_present t.present p ≡ true → WasFound steps s t run p ⊎ StaysAt steps s t run p (places_of t.present p)
@@ -135,9 +125,8 @@ module _ (pairs : List Pair) (choices : Choices) (p : ℕ) where
       onward false absent stays =
           let next = stays-first steps run.0 t run.2 (places_of t.present p) stays in
           let new = step-begun step s run.0 p run.1 absent next.present in
-          let inside = run-inside pairs choices (done ++ step ∷ []) run.0 p (run-push done (made_state pairs choices) s run.0 step earlier run.1) next.present in
           let found : FoundPlaces t.pairs new.before p (places_of run.0.present p) =
-          subst (λ es. (after : Layout) × ArePlaced new.before es (places_of run.0.present p) after) (sym (run-extents steps run.0 t p run.2 inside)) new.found in
+          subst (λ es. (after : Layout) × ArePlaced new.before es (places_of run.0.present p) after) (sym (run-extents steps (done ++ step ∷ []) run.0 t (places_of t.present p) (run-push done (made_state pairs choices) s run.0 step earlier run.1) run.2 stays)) new.found in
           inl (record { before = new.before; was = inl (new.anew, stays); found = subst (FoundPlaces t.pairs new.before p) next.are found })
 
       by : WasFound steps run.0 t run.2 p ⊎ StaysAt steps run.0 t run.2 p (places_of t.present p) → WasFound (step ∷ steps) s t run p ⊎ StaysAt (step ∷ steps) s t run p (places_of t.present p)

@@ -24,7 +24,7 @@ use Rattle.cfm_prepare.specs.Contexts.{ContextState, Open, made_state, open_of, 
 use Rattle.cfm_prepare.specs.Fragments.{Present, places_of, present_of}
 use Rattle.cfm_prepare.specs.Now.{IsPreparedNow}
 use Rattle.cfm_prepare.specs.Prepared.{addresses_at}
-use Rattle.cfm_prepare.specs.Runs.{Runs, Step, closed, prepared, reserved, stored}
+use Rattle.cfm_prepare.specs.Runs.{Runs, Step, closed, freed, prepared, reserved, stored, taken_out}
 use Rattle.cfm_prepare.specs.Sections.{held_at, section_present}
 use Rattle.cfm_prepare.specs.Steps.{Closes, Prepares}
 use Rattle.cfm_prepare.proofs.Laws.{container-of, length-there, run-prepares}
@@ -164,7 +164,9 @@ given-all [] s t given run = subst AreGiven (sym run) given
 given-all (prepared name number ∷ steps) s t given run = given-all steps run.0 t (given-prepare s run.0 name number given run.1) run.2
 given-all (closed number ∷ steps) s t given run = given-all steps run.0 t (given-close s run.0 number given run.1) run.2
 given-all (stored name bytes ∷ steps) s t given run = given-all steps run.0 t (subst AreGiven (sym run.1.is) given) run.2
+given-all (taken_out name ∷ steps) s t given run = given-all steps run.0 t (subst AreGiven (sym run.1.is) given) run.2
 given-all (reserved address size ∷ steps) s t given run = given-all steps run.0 t (subst AreGiven (sym run.1.is) given) run.2
+given-all (freed address size ∷ steps) s t given run = given-all steps run.0 t (subst AreGiven (sym run.1.is) given) run.2
 
 -- so a new number is found, after all earlier ones
 open-last : (os : List Open) (o : Open) (n : ℕ) → AllByRecursion (λ (x : Open). x.number < n) os → o.number ≡ n → open_of (os ++ o ∷ []) n ≡ Some o

@@ -31,7 +31,7 @@ pub record HasLinked (pairs : List Pair) (p : ℕ) (script : DescribedScript) : 
 abbrev pub IsForeign : List Pair → ℕ → Type 0
 IsForeign pairs p = (script : DescribedScript) → HasLinked pairs p script → ⊥
 
--- the context was made for a store with some choices, and any list of additions, reservations, preparations and closings
+-- the context was made for a store with some choices, and any list of additions, removals, reservations, preparations and closings
 -- followed
 pub record IsReached (s : ContextState) : Type 0 where
   pub pairs : List Pair

@@ -21,9 +21,9 @@ pub record IsImportOf (pairs : List Pair) (p : ℕ) (script : DescribedScript) (
   pub library : Library
   pub there : library_of fragment.loader symbol.library ≡ Some library
   pub name : library.name ≡ described.name
-  pub current : library.current ≡ described.current
-  pub old_imp : library.old_imp ≡ described.old_imp
-  pub options : library.options ≡ options_code described.options
+  pub current : library.fields.current ≡ described.current
+  pub old_imp : library.fields.old_imp ≡ described.old_imp
+  pub options : library.fields.options ≡ options_code described.options
   pub leads : hop pairs p j ≡ hop_from pairs p j symbol (result_unwrap_or (bound pairs fragment symbol.library library) None)
 
 -- the bytes in place p are read as a fragment with the imports of a script, in their order, and no others

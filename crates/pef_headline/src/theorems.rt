@@ -38,8 +38,8 @@ use cfm_prepare::theorems::present_fragments;
 /// room, to exactly the memory that its script describes; and for each section its relocation program has no more
 /// halfwords than any repeat-free program that makes the script's fixups, each once and in address order.
 ///
-/// `prepares`, the first half: a store has the linked bytes in place `p`. After any list of additions, reservations,
-/// preparations and closings a root is prepared by its name, and its closure has `p`: it is the root itself, or the
+/// `prepares`, the first half: a store has the linked bytes in place `p`. After any list of additions, removals,
+/// reservations, preparations and closings a root is prepared by its name, and its closure has `p`: it is the root itself, or the
 /// root needs it. The call gives the next connection, and the fragment in `p` is present with the described memory. Its
 /// imports are those of the script, by their names and those of their libraries. If it wasn't present, its sections
 /// were placed after those of the new fragments that come before it in the closure. If it was, they keep their places.
@@ -93,7 +93,7 @@ pub fn refusals_are_of_others()
 {}
 
 /// From a text to memory. A text is a script, and a store has in place `p` the bytes that `link` gives for it. After
-/// any list of additions, reservations, preparations and closings a root is prepared by its name, and that succeeds.
+/// any list of additions, removals, reservations, preparations and closings a root is prepared by its name, and that succeeds.
 ///
 /// `fragment`: if the root's closure has `p`, `fragment_section` then returns for `p` the memory that the script
 /// describes, section by section. The addresses in it are those that the same call returns.

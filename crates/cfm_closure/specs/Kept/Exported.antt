@@ -1,8 +1,7 @@
 -- The first export with a name.
 use Rattle.std.specs.Prelude.{◌≡◌, ℕ, List, IsTrue, Option, None, Some}
-use Rattle.pef_format.specs.Exports.{Export, value_of}
+use Rattle.pef_format.specs.Exports.{Export, ExportView, value_of}
 use Rattle.pef_format.specs.declared.export.ExportValue.{ExportValue}
-use Rattle.pef_format.specs.declared.export.ExportView.{ExportView}
 use Rattle.pef_loader.specs.Export.{is_there}
 use Rattle.pef_loader.specs.Loader.{Loaded, export_of, named_of}
 
@@ -23,7 +22,7 @@ MeansFirst l name (Some value) = Means l name value
 -- a view shows it
 pub record Shows (l : Loaded) (name : List ℕ) (x : ExportView) : Type 0 where
   pub called : x.name.now ≡ name
-  pub means : Means l name (value_of x.section x.value)
+  pub means : Means l name (value_of x.fields.section x.fields.value)
 
 -- .. if there is one
 abbrev pub ShowsFirst : Loaded → List ℕ → Option ExportView → Type 0

@@ -1,7 +1,6 @@
 -- The imports of a loader section, read all together.
 use Rattle.std.specs.Prelude.{◌≡◌, ℕ, ◌<◌, List, Some, slice_get}
-use Rattle.pef_format.specs.Symbols.{import_seen}
-use Rattle.pef_format.specs.declared.import.ImportView.{ImportView}
+use Rattle.pef_format.specs.Symbols.{ImportView, import_seen}
 use Rattle.pef_loader.specs.Loader.{Loaded, import_of}
 
 -- each view is that of the import with its index, and has one of the libraries

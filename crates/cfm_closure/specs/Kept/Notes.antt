@@ -1,5 +1,5 @@
 -- What is noted, and the places of its names.
-use Rattle.std.specs.Prelude.{ℕ, List, [], map}
+use Rattle.std.specs.Prelude.{ℕ, List, [], map, false}
 use Rattle.std.specs.Borrow.{Bor}
 use Rattle.cfm_closure.specs.Kept.Places.{ArePlaces}
 use Rattle.cfm_closure.specs.Missing.{Missing}
@@ -7,7 +7,7 @@ use Rattle.cfm_closure.specs.Stores.{Pair}
 
 -- the name of a missing library, as a pair
 abbrev pub name_pair : Missing → Pair
-name_pair m = record { name = m.name; bytes = [] }
+name_pair m = record { name = m.name; bytes = []; free = false }
 
 -- a table has the place of each name that is noted
 abbrev pub AreNamed : List Missing → List (Bor (List ℕ) × ℕ) → Type 0

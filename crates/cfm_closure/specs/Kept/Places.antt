@@ -1,5 +1,5 @@
 -- The place of the first pair of each name.
-use Rattle.std.specs.Prelude.{◌≡◌, ℕ, ◌≤◌, List, [], ◌∷◌, ◌++◌, length}
+use Rattle.std.specs.Prelude.{◌≡◌, ℕ, ◌≤◌, List, [], ◌∷◌, ◌++◌, length, false}
 use Rattle.std.specs.Borrow.{Bor}
 use Rattle.std.specs.Map.{lookup}
 use Rattle.std.specs.Str.{bytes_eq}
@@ -18,4 +18,4 @@ pub record IsStore (pairs : List Pair) (entries : List (Bor (List ℕ) × ℕ)) 
 -- a table with the place of each name still has it after a pair with this name is added after all
 -- pairs
 abbrev pub NotesPlace : List (Bor (List ℕ) × ℕ) → List ℕ → ℕ → List (Bor (List ℕ) × ℕ) → Type 0
-NotesPlace old name place new = (pairs : List Pair) (x : Pair) → ArePlaces pairs old → x.name ≡ name → place ≡ length pairs → ArePlaces (pairs ++ x ∷ []) new
+NotesPlace old name place new = (pairs : List Pair) (x : Pair) → ArePlaces pairs old → x.name ≡ name → x.free ≡ false → place ≡ length pairs → ArePlaces (pairs ++ x ∷ []) new

@@ -1,6 +1,6 @@
 -- A fragment of the order is in its place.
 use Rattle.std.proofs.Common.{◌≡◌, ◌∙◌, Some, ap, map, sym, subst}
-use Rattle.cfm_closure.specs.Seen.{pair_seen}
+use Rattle.cfm_closure.specs.Seen.{place_seen}
 use Rattle.cfm_closure.specs.Kept.Paths.{IsClosed, IsWalked}
 use Rattle.cfm_closure.specs.Kept.Rows.{row_of}
 use Rattle.cfm_closure.proofs.OrderFacts.{all-contains}
@@ -9,7 +9,7 @@ use Rattle.cfm_closure.proofs.bindings.Bindings.closed.Goals as goal
 
 pub returns-clause-closed : goal.returns-clause-closed
 returns-clause-closed c =
-    let pairs = map pair_seen c.self.inside.pairs.items in
+    let pairs = map place_seen c.self.inside.pairs.items in
     let there = rw (← c.self.view_is) at c.requires in
     let walked = all-contains (IsWalked pairs c.self.inside.fragments) c.self.inside.order.items c.args.p c.self.invariant.walked there in
     let both : Some c.in-Some.fragment.now ≡ Some walked.fragment = c.in-Some.ensures ∙ walked.stands in

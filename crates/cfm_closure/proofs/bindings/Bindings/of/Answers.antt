@@ -1,6 +1,6 @@
 -- The tables of the walk are those of its order.
 use Rattle.std.proofs.Common.{map, ap, sym, subst, ◌∙◌, rules}
-use Rattle.cfm_closure.specs.Seen.{pair_seen}
+use Rattle.cfm_closure.specs.Seen.{place_seen}
 use Rattle.cfm_closure.specs.Kept.Bindings.{AreBindings}
 use Rattle.cfm_closure.proofs.CacheLemmas.{cache_of}
 use Rattle.cfm_closure.proofs.OrderFacts.{order-complete}
@@ -8,7 +8,7 @@ use Rattle.cfm_closure.proofs.bindings.Bindings.of.Goals as goal
 
 pub invariant_of-result : goal.invariant_of-result
 invariant_of-result c =
-    let pairs = ap (map pair_seen) c.in_ok-pairs.ensures.items ∙ c.pairs.ensures.pairs in
+    let pairs = ap (map place_seen) c.in_ok-pairs.ensures.items ∙ c.pairs.ensures.pairs in
     let tables = c.in_ok-walked.ensures.walk in
     subst (λ pairs. AreBindings pairs c.visit_all-walked.new.self.closed c.visit_all-walked.new.self.order.items) (sym pairs) (record {
       size = tables.closed_size;

@@ -2,7 +2,7 @@
 use Rattle.std.proofs.Common.{◌≡◌, ℕ, ◌+◌, ◌<◌, ◌≤◌, length, map, ap, refl, sym, subst, ◌∙◌, arith}
 use Rattle.std.proofs.lemmas.List.{length_push}
 use Rattle.cfm_closure.specs.Kept.Places.{ArePlaces}
-use Rattle.cfm_closure.specs.Seen.{pair_seen}
+use Rattle.cfm_closure.specs.Seen.{place_seen}
 use Rattle.cfm_closure.proofs.PlaceLemmas.{length-seen, seen-push}
 use Rattle.cfm_closure.proofs.store.Store.add.Goals as goal
 use Rattle.cfm_closure.specs.Limits.{most_pairs}
@@ -12,10 +12,10 @@ one_more n more few = omega arith
 
 pub invariant_of-self-2 : goal.invariant_of-self-2
 invariant_of-self-2 c =
-    let items = ap (map pair_seen) (c.in_ok-push.ensures.items) ∙ seen-push pair_seen _ _ in
-    let last = c.len-place.ensures ∙ c.reserve.new.self.ok.0 ∙ sym (length-seen pair_seen c.reserve.new.self.items) in
-    let before = subst (λ ps. ArePlaces (map pair_seen ps) c.self.inside.places.entries) (sym c.in_ok-reserve.ensures.items) c.self.invariant.places in
-    let places = subst (λ ps. ArePlaces ps c.note_place.new.places.entries) (sym items) (c.in_ok-note_place.ensures.ok _ _ before refl last) in
-    let same = ap (λ ps. length (map pair_seen ps)) c.in_ok-reserve.ensures.items ∙ ap length c.self.view_is in
-    let long = ap length items ∙ length_push (map pair_seen c.reserve.new.self.items) _ in
+    let items = ap (map place_seen) (c.in_ok-push.ensures.items) ∙ seen-push place_seen _ _ in
+    let last = c.len-place.ensures ∙ c.reserve.new.self.ok.0 ∙ sym (length-seen place_seen c.reserve.new.self.items) in
+    let before = subst (λ ps. ArePlaces (map place_seen ps) c.self.inside.places.entries) (sym c.in_ok-reserve.ensures.items) c.self.invariant.places in
+    let places = subst (λ ps. ArePlaces ps c.note_place.new.places.entries) (sym items) (c.in_ok-note_place.ensures.ok _ _ before refl refl last) in
+    let same = ap (λ ps. length (map place_seen ps)) c.in_ok-reserve.ensures.items ∙ ap length c.self.view_is in
+    let long = ap length items ∙ length_push (map place_seen c.reserve.new.self.items) _ in
     record { places = places; few = one_more (length c.args.self.now) (long ∙ ap (λ n. n + 1) same) c.requires }

@@ -1,0 +1,10 @@
+use Rattle.cfm_closure.proofs.StoreLemmas.{closed-removed, fragment-removed, removed-place, target-removed}
+use Rattle.cfm_closure.proofs.theorems.removed_pairs.Goals as goal
+
+pub returns : goal.returns
+returns c = record {
+  fragment = fragment-removed;
+  place = λ pairs name other p first apart. removed-place pairs name p first other apart;
+  closure = closed-removed;
+  target = target-removed;
+}
