@@ -111,7 +111,7 @@ stands-alone pairs s m places here is = record {
 
 -- the fragment `it` of a store of its own
 abbrev pub store-of : List ℕ → List Pair
-store-of bytes = (record { name = codes "it"; bytes = bytes }) ∷ []
+store-of bytes = (record { name = codes "it"; bytes = bytes; free = false }) ∷ []
 
 pub root-is : (bytes : List ℕ) (root : ℕ) → place_of (store-of bytes) (codes "it") ≡ Some root → root ≡ 0
 unfolding place_of
@@ -123,7 +123,7 @@ is-found bytes none = cc
 
 module _ (bytes : List ℕ) (limit : ℕ) where
   abbrev it : Pair
-  it = record { name = codes "it"; bytes = bytes }
+  it = record { name = codes "it"; bytes = bytes; free = false }
 
   abbrev start : ContextState
   start = fresh_state (store-of bytes) limit

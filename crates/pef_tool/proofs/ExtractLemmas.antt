@@ -4,7 +4,7 @@ use Rattle.std.specs.List.{slice_get}
 use Rattle.cfm_members.specs.Contents.{rest_from}
 use Rattle.cfm_members.specs.Fragments.{container_numbered}
 use Rattle.cfm_members.specs.Search.{containers_in}
-use Rattle.cfm_members.specs.declared.fragment_fault.FragmentFault.{FragmentFault}
+use Rattle.cfm_members.specs.declared.member_lookup_fault.MemberLookupFault.{MemberLookupFault}
 use Rattle.pef_faults.specs.declared.fault.Fault.{Fault}
 use Rattle.pef_faults.specs.declared.fault.Fault.TheVariants.{Fragment, Unwritable, OutOfMemory}
 use Rattle.pef_ports.specs.Ports.{FilesPort, Reads, Writes}
@@ -26,9 +26,9 @@ IsRead read = ((bytes : List ℕ) × (read ≡ Ok bytes)) ⊎ (read ≡ Err OutO
 
 -- why nothing was found: an error of the fragment, or an allocation failed
 abbrev IsNotFound : Fault → Type 0
-IsNotFound why = ((fault : FragmentFault) × (Fragment fault ≡ why)) ⊎ (OutOfMemory ≡ why)
+IsNotFound why = ((fault : MemberLookupFault) × (Fragment fault ≡ why)) ⊎ (OutOfMemory ≡ why)
 
-fragment_error : (found : Result (List ℕ) FragmentFault) (why : Fault) → as_fault found ≡ Err why → IsNotFound why
+fragment_error : (found : Result (List ℕ) MemberLookupFault) (why : Fault) → as_fault found ≡ Err why → IsNotFound why
 fragment_error (Ok container) why is = absurd (cc is)
 fragment_error (Err fault) why is = inl (fault, cc is)
 
@@ -98,5 +98,5 @@ found_numbered bytes number at there = rw there refl
 pub extracts_inspected : ExtractsInspected
 extracts_inspected bytes number at there =
     let rest = rest_from bytes at in
-    let P : Result (List ℕ) FragmentFault → Type 0 = λ (found : Result (List ℕ) FragmentFault). IsKept rest (container_of rest) found in
+    let P : Result (List ℕ) MemberLookupFault → Type 0 = λ (found : Result (List ℕ) MemberLookupFault). IsKept rest (container_of rest) found in
     subst P (sym (found_numbered bytes number at there)) (keeps rest (container_of rest) refl)

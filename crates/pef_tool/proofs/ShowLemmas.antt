@@ -1,8 +1,8 @@
 -- A script that is linked and prepared alone is shown as the script describes. Only its closure, room or memory can be
 -- missing, and its bytes are never the reason.
-use Rattle.std.proofs.Common.{◌≡◌, ℕ, zero, suc, List, [], ◌∷◌, Some, Ok, Err, Contains, codes, inl, inr, slice_get, refl, sym, ap, subst, ◌∙◌, arith}
-use Rattle.std.specs.Option.{option_and_then, option_map_or}
-use Rattle.cfm_closure.specs.Stores.{Pair, pair_of}
+use Rattle.std.proofs.Common.{◌≡◌, ℕ, zero, suc, List, [], ◌∷◌, Some, Ok, Err, Contains, codes, inl, inr, refl, sym, ap, subst, ◌∙◌, arith}
+use Rattle.std.specs.Option.{option_and_then, option_map_or, unwrap_or}
+use Rattle.cfm_closure.specs.Stores.{Pair, name_at, pair_of}
 use Rattle.cfm_closure.specs.Faults.{BindRefusal, FailsAs}
 use Rattle.cfm_closure.specs.Fragments.{loader_at}
 use Rattle.cfm_closure.specs.declared.fault.BindFault.{BindFault}
@@ -80,7 +80,7 @@ module _ (script : DescribedScript) (k : LinkedContainer) (linked : IsLinked scr
         linked = linked;
         prepared = done;
         alone = record {
-          name = ap (λ pairs. option_map_or (λ (pair : Pair). pair.name) (slice_get pairs 0) []) done.pairs;
+          name = ap (λ pairs. unwrap_or (name_at pairs 0) []) done.pairs;
           order = ap (λ x. option_map_or (λ (o : Open). o.closed.order) x []) connected;
           init_order = ap (λ x. option_map_or (λ (o : Open). o.closed.init_order) x []) connected;
           entries = ap (option_and_then (λ (o : Open). entries_of s.present o 0)) connected

@@ -6,14 +6,14 @@ use Rattle.pef_tool.specs.Answers.Answers.{IsDelivered, answer_done}
 use Rattle.pef_faults.specs.Notes.Notes.{note_text}
 use Rattle.pef_tool.specs.declared.answers.outcome.Outcome.{Outcome}
 use Rattle.pef_tool.specs.declared.answers.outcome.Outcome.TheVariants.{Done, SaidNo, Refused, Usage, OutputFailed}
-use Rattle.pef_faults.specs.declared.notes.Note.{Note}
+use Rattle.pef_faults.specs.declared.notes.Explanation.{Explanation}
 
 -- a text is written whole, or a prefix of it is written and then the output fails
 abbrev pub IsNoted : Stream → Stream → List ℕ → Type 0
 IsNoted before after text = (outcome : Outcome) × IsDelivered before after (answer_done text) outcome
 
 -- the help for an error, if there is some, is written as a line, and then what else is known
-abbrev pub NotesHelp : Option (List ℕ) → Note → Stream → Stream → Type 0
+abbrev pub NotesHelp : Option (List ℕ) → Explanation → Stream → Stream → Type 0
 NotesHelp None note before after = after ≡ before
 NotesHelp (Some text) note before after = IsNoted before after (text ++ note_text note)
 

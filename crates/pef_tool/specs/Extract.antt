@@ -6,8 +6,8 @@ use Rattle.std.specs.Option.{is_none, option_map_or}
 use Rattle.cfm_members.specs.Contents.{rest_from}
 use Rattle.cfm_members.specs.Fragments.{container_numbered}
 use Rattle.cfm_members.specs.Search.{containers_in}
-use Rattle.cfm_members.specs.declared.fragment_fault.FragmentFault.{FragmentFault}
-use Rattle.cfm_members.specs.declared.fragment_fault.FragmentFault.TheVariants.{NoContainer}
+use Rattle.cfm_members.specs.declared.member_lookup_fault.MemberLookupFault.{MemberLookupFault}
+use Rattle.cfm_members.specs.declared.member_lookup_fault.MemberLookupFault.TheVariants.{NoContainer}
 use Rattle.pef_faults.specs.declared.fault.Fault.{Fault}
 use Rattle.pef_faults.specs.declared.fault.Fault.TheVariants.{Fragment, Unreadable, Unwritable, OutOfMemory}
 use Rattle.pef_lines.specs.Numbers.{decimal_number}
@@ -23,23 +23,23 @@ use Rattle.pef_tool.specs.Spellings.{container_asked}
 use Rattle.pef_tool.specs.Companions.{CompanionIs, LooksIf, may_have_companion}
 
 -- the container with a number, without the bytes after it
-abbrev pub numbered : List ℕ → ℕ → Result (List ℕ) FragmentFault
+abbrev pub numbered : List ℕ → ℕ → Result (List ℕ) MemberLookupFault
 numbered bytes number = option_map_or (λ rest. Ok (own_part rest (container_of rest))) (container_numbered bytes number) (Err NoContainer)
 
 -- the container that NAME asks for: with a number, if it is `#` (23 in hex) and a decimal number, else of the fragment with
 -- this name
-abbrev pub wanted : List ℕ → List ℕ → Option ℕ → Result (List ℕ) FragmentFault
+abbrev pub wanted : List ℕ → List ℕ → Option ℕ → Result (List ℕ) MemberLookupFault
 wanted bytes name number = option_map_or (numbered bytes) number (container_asked bytes bytes name)
 
 abbrev pub number_of : List ℕ → Option ℕ
 number_of [] = decimal_number []
 number_of (b ∷ digits) = if b == 0x23 then decimal_number digits else decimal_number []
 
-unfoldable pub found_in : List ℕ → List ℕ → Result (List ℕ) FragmentFault
+unfoldable pub found_in : List ℕ → List ℕ → Result (List ℕ) MemberLookupFault
 found_in bytes name = wanted bytes name (number_of name)
 
 -- an error of a fragment, as one of a command
-abbrev pub as_fault : Result (List ℕ) FragmentFault → Result (List ℕ) Fault
+abbrev pub as_fault : Result (List ℕ) MemberLookupFault → Result (List ℕ) Fault
 as_fault (Ok container) = Ok container
 as_fault (Err fault) = Err (Fragment fault)
 
@@ -119,7 +119,7 @@ ExtractAnswers port before after path name out answer =
     (outcome : ExtractOutcome) × ExtractEnds port before after path name out outcome × (answer ≡ extract_answer outcome)
 
 -- what is extracted of some bytes is all of them, or a container with the same header, loader section, sections and names
-abbrev pub IsKept : List ℕ → Result Contained ViewFault → Result (List ℕ) FragmentFault → Type 0
+abbrev pub IsKept : List ℕ → Result Contained ViewFault → Result (List ℕ) MemberLookupFault → Type 0
 IsKept rest (Ok c) found = (out : List ℕ) × (own : Contained) × (found ≡ Ok out) × (container_of out ≡ Ok own) × IsSame c own
 IsKept rest (Err fault) found = found ≡ Ok rest
 

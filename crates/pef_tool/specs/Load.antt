@@ -1,7 +1,7 @@
 -- The answer of `load NAME=FILE ..` (README). It reads the files, in the order of the words, before it parses any of
 -- them. Then it prepares the fragment of the first name in a store of all files, and prints the memory of its closure.
 -- It makes no other call on files.
-use Rattle.std.specs.Prelude.{◌≡◌, ◌⊎◌, ℕ, ◌<◌, List, [], ◌∷◌, ◌++◌, Ok, Err, length, take}
+use Rattle.std.specs.Prelude.{◌≡◌, ◌⊎◌, ℕ, ◌<◌, List, [], ◌∷◌, ◌++◌, Ok, Err, false, length, take}
 use Rattle.cfm_closure.specs.Stores.{Pair}
 use Rattle.cfm_prepare.specs.Contexts.{ContextState, fresh_state}
 use Rattle.cfm_prepare.specs.Steps.{MayNotPrepare, Prepares}
@@ -38,7 +38,7 @@ pub record StopsAt {F : Type 0} (port : FilesPort F) (before after : F) (named :
 abbrev pub paired : List (List ℕ × List ℕ) → List (List ℕ) → List Pair
 paired [] contents = []
 paired (file ∷ named) [] = []
-paired (file ∷ named) (bytes ∷ contents) = record { name = file.0; bytes = bytes } ∷ paired named contents
+paired (file ∷ named) (bytes ∷ contents) = record { name = file.0; bytes = bytes; free = false } ∷ paired named contents
 
 -- the first name
 abbrev pub first_name : List (List ℕ × List ℕ) → List ℕ

@@ -1,8 +1,9 @@
 -- The text that is printed of a connection in a context (README, `pef load`): its fragments in closure order, each with
 -- its sections, then the initialization routines in the order in which they would run, the main entry point, and the
 -- termination routines in the reverse order.
-use Rattle.std.specs.Prelude.{ℕ, List, [], ◌∷◌, ◌++◌, Option, codes, map, slice_get}
-use Rattle.std.specs.Option.{option_and_then, option_map_or}
+use Rattle.std.specs.Prelude.{ℕ, List, [], ◌∷◌, ◌++◌, Option, codes, map}
+use Rattle.std.specs.Option.{option_and_then, option_map_or, unwrap_or}
+use Rattle.cfm_closure.specs.Stores.{name_at}
 use Rattle.cfm_prepare.specs.Fragments.{places_of}
 use Rattle.cfm_prepare.specs.Contexts.{ContextState, open_of}
 use Rattle.cfm_prepare.specs.Readers.{entries_of, main_address}
@@ -13,7 +14,7 @@ use Rattle.pef_tool.specs.Answers.Faults.{name_end}
 
 -- the name of the fragment at a position in the store
 abbrev pub fragment_name : ContextState → ℕ → List ℕ
-fragment_name s p = option_map_or (λ pair. pair.name) (slice_get s.pairs p) []
+fragment_name s p = unwrap_or (name_at s.pairs p) []
 
 -- the fragments of a connection, in closure order
 abbrev pub order_in : ContextState → ℕ → List ℕ

@@ -1,6 +1,6 @@
 -- The answer of `show` (README; docs/RULES.md, "A fragment alone"). It reads the whole input, and shows the memory that
 -- its script describes.
-use Rattle.std.specs.Prelude.{◌≡◌, ℕ, ◌≤◌, List, [], ◌∷◌, Some, Ok, codes, length}
+use Rattle.std.specs.Prelude.{◌≡◌, ℕ, ◌≤◌, List, [], ◌∷◌, Some, Ok, codes, false, length}
 use Rattle.cfm_closure.specs.Stores.{Pair}
 use Rattle.cfm_closure.specs.Faults.{FailsAs}
 use Rattle.cfm_closure.specs.declared.fault.BindFault.{BindFault}
@@ -41,7 +41,7 @@ pub record WasRead (before after : Stream) (text : List ℕ) : Type 0 where
 
 -- the store of the fragment `it` and no other
 abbrev pub single_store : List ℕ → List Pair
-single_store bytes = record { name = codes "it"; bytes = bytes } ∷ []
+single_store bytes = record { name = codes "it"; bytes = bytes; free = false } ∷ []
 
 -- the addresses of the entry points of a script's fragment, by the addresses of its sections
 abbrev pub described_entries : DescribedScript → List Place → Entries

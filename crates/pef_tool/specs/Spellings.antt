@@ -6,8 +6,8 @@ use Rattle.std.specs.Str.{bytes_eq}
 use Rattle.cfm_members.specs.Fragments.{container_in_pair, table_in_file}
 use Rattle.cfm_members.specs.Members.{MemberIs, TableIs, all_members}
 use Rattle.cfm_members.specs.declared.fault.MemberFault.{MemberFault}
-use Rattle.cfm_members.specs.declared.fragment_fault.FragmentFault.{FragmentFault}
-use Rattle.cfm_members.specs.declared.fragment_fault.FragmentFault.TheVariants.{NoContainer}
+use Rattle.cfm_members.specs.declared.member_lookup_fault.MemberLookupFault.{MemberLookupFault}
+use Rattle.cfm_members.specs.declared.member_lookup_fault.MemberLookupFault.TheVariants.{NoContainer}
 use Rattle.pef_ports.specs.Names.{name_text}
 use Rattle.pef_rows.specs.Strings.{character_of}
 
@@ -41,18 +41,18 @@ first_spelled asked [] = None
 first_spelled asked (row ∷ rows) = option_or (spelled_here asked row) (first_spelled asked rows)
 
 -- .. in the table of a file
-abbrev pub spelled_in : List ℕ → Result TableIs FragmentFault → Option (List ℕ)
+abbrev pub spelled_in : List ℕ → Result TableIs MemberLookupFault → Option (List ℕ)
 spelled_in asked (Ok table) = first_spelled asked (all_members table)
 spelled_in asked (Err fault) = None
 
 -- the container of the fragment with a name, or if there is none, of the first one whose name can be written so
-abbrev pub container_of_name : List ℕ → List ℕ → Option (List ℕ) → Result (List ℕ) FragmentFault
+abbrev pub container_of_name : List ℕ → List ℕ → Option (List ℕ) → Result (List ℕ) MemberLookupFault
 container_of_name bytes resources None = Err NoContainer
 container_of_name bytes resources (Some name) = container_in_pair bytes resources name
 
-abbrev pub or_spelled : List ℕ → List ℕ → List ℕ → Result (List ℕ) FragmentFault → Result (List ℕ) FragmentFault
+abbrev pub or_spelled : List ℕ → List ℕ → List ℕ → Result (List ℕ) MemberLookupFault → Result (List ℕ) MemberLookupFault
 or_spelled bytes resources asked (Err NoContainer) = container_of_name bytes resources (spelled_in asked (table_in_file resources))
 or_spelled bytes resources asked found = found
 
-abbrev pub container_asked : List ℕ → List ℕ → List ℕ → Result (List ℕ) FragmentFault
+abbrev pub container_asked : List ℕ → List ℕ → List ℕ → Result (List ℕ) MemberLookupFault
 container_asked bytes resources asked = or_spelled bytes resources asked (container_in_pair bytes resources asked)

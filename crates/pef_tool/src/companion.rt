@@ -41,7 +41,7 @@ impl<'a> Companion<'a> {
 
 /// What the path of a companion has before and after the file's name.
 #[derive(Clone, Copy)]
-pub(crate) struct Place {
+pub(crate) struct CompanionPlace {
     pub before: &'static [u8],
     pub after: &'static [u8],
 }
@@ -116,35 +116,35 @@ fn look_near<'a, F: Files>(
     ensures { (own : List ℕ) → Looks (record { state = F.state; reason = F.reason; was_read = F.was_read; was_written = F.was_written }) own files.old files.new (near_places path.entry.folder.now path.entry.name.now) (option_map (companion_seen own) result) }
 {
     let places = [
-        Place {
+        CompanionPlace {
             before: b"._",
             after: b"",
         },
-        Place {
+        CompanionPlace {
             before: b"__MACOSX/._",
             after: b"",
         },
-        Place {
+        CompanionPlace {
             before: b".AppleDouble/",
             after: b"",
         },
-        Place {
+        CompanionPlace {
             before: b".rsrc/",
             after: b"",
         },
-        Place {
+        CompanionPlace {
             before: b"",
             after: b".rsrc",
         },
-        Place {
+        CompanionPlace {
             before: b"%",
             after: b"",
         },
-        Place {
+        CompanionPlace {
             before: b"resource.frk/",
             after: b"",
         },
-        Place {
+        CompanionPlace {
             before: b".resource/",
             after: b"",
         },
@@ -240,7 +240,7 @@ fn look_at_places<'a, F: Files>(
     alloc: Global,
     files: &mut F,
     path: SplitPath<'_>,
-    places: &[Place],
+    places: &[CompanionPlace],
 ) -> Option<Companion<'a>>
     ensures { (own : List ℕ) → Looks (record { state = F.state; reason = F.reason; was_read = F.was_read; was_written = F.was_written }) own files.old files.new (map (place_seen path.entry.folder.now path.entry.name.now) places.now) (option_map (companion_seen own) result) }
 {
@@ -258,7 +258,7 @@ fn look_at<'a, F: Files>(
     alloc: Global,
     files: &mut F,
     path: SplitPath<'_>,
-    place: Place,
+    place: CompanionPlace,
 ) -> Option<Companion<'a>>
     ensures { (own : List ℕ) → LooksAt (record { state = F.state; reason = F.reason; was_read = F.was_read; was_written = F.was_written }) own files.old files.new (place_seen path.entry.folder.now path.entry.name.now place) (option_map (companion_seen own) result) }
 {
@@ -269,7 +269,11 @@ fn look_at<'a, F: Files>(
 }
 
 /// Returns the path of a place.
-fn place_path(alloc: Global, path: SplitPath<'_>, place: Place) -> Result<Vec<u8>, AllocError>
+fn place_path(
+    alloc: Global,
+    path: SplitPath<'_>,
+    place: CompanionPlace,
+) -> Result<Vec<u8>, AllocError>
     ensures { IfOk result (λ p. p.items ≡ place_of path.entry.folder.now path.entry.name.now place.before.now place.after.now) }
 {
     let mut bytes = Vec::from_slice(alloc, path.folder)?;

@@ -4,7 +4,7 @@ ghost use Rattle.pef_tool.specs.Explain.{Explains, IsNoted, NotesHelp};
 ghost use Rattle.pef_faults.specs.Notes.Notes.{note_text};
 
 use crate::answers::{Outcome, Reply, deliver};
-use pef_faults::{Note, print_note};
+use pef_faults::{Explanation, print_note};
 use pef_lines::decimal_number;
 use pef_ports::{Page, Piece, Sink, StreamFault, print_pieces, send};
 use pef_refusals::{help, name};
@@ -33,7 +33,7 @@ pub fn explain<W: Sink>(alloc: Global, words: &[String], outcome: Outcome, notes
 }
 
 /// Writes the help for an error, if there is some, and what else is known.
-fn note_help<W: Sink>(notes: &mut W, text: Option<&'static str>, note: Note)
+fn note_help<W: Sink>(notes: &mut W, text: Option<&'static str>, note: Explanation)
     ensures { NotesHelp (option_map (λ text. text.now) text.entry) note (W.stream notes.old) (W.stream notes.new) }
 {
     match text {
@@ -155,7 +155,7 @@ impl<'a> Reply for NumberNote<'a> {
 #[derive(Clone, Copy)]
 struct HelpNote<'a> {
     text: &'a [u8],
-    note: Note,
+    note: Explanation,
 }
 
 impl<'a> Reply for HelpNote<'a> {

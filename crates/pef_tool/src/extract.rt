@@ -13,7 +13,7 @@ use crate::answers::{Outcome, Reply, deliver};
 use crate::companion::{Companion, find_companion, may_have_companion};
 use crate::reading::read_file;
 use crate::spelling::container_asked;
-use cfm_members::{FragmentFault, numbered_container};
+use cfm_members::{MemberLookupFault, numbered_container};
 use pef_faults::Fault;
 use pef_lines::decimal_number;
 use pef_ports::{FileFault, Files, Page, Piece, Sink, StreamFault, print_pieces};
@@ -101,7 +101,7 @@ fn find_with<'a>(
 }
 
 /// Returns what was found, with the error as one of a command.
-fn as_fault<'a>(found: Result<&'a [u8], FragmentFault>) -> Result<&'a [u8], Fault<'a>>
+fn as_fault<'a>(found: Result<&'a [u8], MemberLookupFault>) -> Result<&'a [u8], Fault<'a>>
     ensures { result_map (λ container. container.now) result ≡ as_fault (result_map (λ container. container.now) found.entry) }
 {
     match found {
@@ -145,7 +145,7 @@ fn write_container<F: Files, W: Sink>(
 /// Returns the container of a file with a number, if the name is `#` and a decimal number, else that of the fragment with
 /// the name.
 #[tactic(auto, unfolding(crate::specs::Extract::found_in))]
-fn find<'a>(bytes: &'a [u8], name: &[u8]) -> Result<&'a [u8], FragmentFault>
+fn find<'a>(bytes: &'a [u8], name: &[u8]) -> Result<&'a [u8], MemberLookupFault>
     ensures { result_map (λ container. container.now) result ≡ found_in bytes.entry.now name.now }
 {
     match number_of(name) {
@@ -155,12 +155,12 @@ fn find<'a>(bytes: &'a [u8], name: &[u8]) -> Result<&'a [u8], FragmentFault>
 }
 
 /// Returns the container with a number, without the bytes after it.
-fn find_numbered<'a>(bytes: &'a [u8], number: usize) -> Result<&'a [u8], FragmentFault>
+fn find_numbered<'a>(bytes: &'a [u8], number: usize) -> Result<&'a [u8], MemberLookupFault>
     ensures { result_map (λ container. container.now) result ≡ numbered bytes.entry.now number }
 {
     match numbered_container(bytes, number) {
         Some(rest) => Ok(own_part(rest)),
-        None => Err(FragmentFault::NoContainer),
+        None => Err(MemberLookupFault::NoContainer),
     }
 }
 

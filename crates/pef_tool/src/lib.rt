@@ -28,6 +28,6 @@ mod version;
 pub use answers::Outcome;
 pub use commands::{out_of_memory, perform, run};
 pub use explanation::explain;
-pub use pef_faults::{Excerpt, Note, Reason, ScriptNote};
+pub use pef_faults::{Excerpt, Explanation, Reason, ScriptNote};
 pub use pef_ports::{FileFault, Files, Sink, Source, StreamFault};
 pub use pef_request::plain_words;

@@ -13,7 +13,7 @@ ghost use Rattle.pef_tool.specs.Kept.Spelling.{after, after_one};
 ghost use Rattle.pef_tool.specs.Spellings.{container_asked, container_of_name, first_spelled, is_spelled, spelled_here, spelled_in, spelled_name, utf8_of, utf8_text};
 
 use cfm_members::{
-    FragmentFault, FragmentTable, Member, MemberFault, container_in_pair, fragment_table,
+    FragmentTable, Member, MemberFault, MemberLookupFault, container_in_pair, fragment_table,
 };
 use pef_rows::character_of;
 
@@ -26,11 +26,11 @@ pub(crate) fn container_asked<'a>(
     bytes: &'a [u8],
     resources: &'a [u8],
     asked: &[u8],
-) -> Result<&'a [u8], FragmentFault>
+) -> Result<&'a [u8], MemberLookupFault>
     ensures { result_map (λ container. container.now) result ≡ container_asked bytes.entry.now resources.entry.now asked.now }
 {
     match container_in_pair(bytes, resources, asked) {
-        Err(FragmentFault::NoContainer) => container_of_name(
+        Err(MemberLookupFault::NoContainer) => container_of_name(
             bytes,
             resources,
             spelled_in(resources, asked),
@@ -44,12 +44,12 @@ fn container_of_name<'a>(
     bytes: &'a [u8],
     resources: &'a [u8],
     name: Option<&[u8]>,
-) -> Result<&'a [u8], FragmentFault>
+) -> Result<&'a [u8], MemberLookupFault>
     ensures { result_map (λ container. container.now) result ≡ container_of_name bytes.entry.now resources.entry.now (option_copied name.entry) }
 {
     match name {
         Some(name) => container_in_pair(bytes, resources, name),
-        None => Err(FragmentFault::NoContainer),
+        None => Err(MemberLookupFault::NoContainer),
     }
 }
 

@@ -8,7 +8,7 @@ use Rattle.pef_faults.specs.declared.fault.Fault.TheVariants.{OutOfMemory}
 use Rattle.pef_tool.specs.Companions.{CompanionIs, mirror_of, mirrors_before, place_of}
 use Rattle.pef_tool.specs.declared.companion.Companion.{Companion}
 use Rattle.pef_tool.specs.declared.companion.Companion.TheVariants as companion
-use Rattle.pef_tool.specs.declared.companion.Place.{Place}
+use Rattle.pef_tool.specs.declared.companion.CompanionPlace.{CompanionPlace}
 
 -- the bytes that were read, or why not
 abbrev pub read_seen : Result (Vec ℕ Global) Fault → Result (List ℕ) Fault
@@ -26,5 +26,5 @@ mirrors_from folder name None = []
 mirrors_from folder name (Some at) = mirror_of folder name at ∷ mirrors_before folder name at
 
 -- the path of a place
-abbrev pub place_seen : List ℕ → List ℕ → Place → List ℕ
+abbrev pub place_seen : List ℕ → List ℕ → CompanionPlace → List ℕ
 place_seen folder name place = place_of folder name place.before.now place.after.now

@@ -1,7 +1,7 @@
 ghost use Rattle.std.specs.Prelude.{◌≡◌};
 ghost use Rattle.pef_tool.specs.Answers.Answers.{status_of};
 
-use pef_faults::Note;
+use pef_faults::Explanation;
 
 /// The outcome of a run.
 #[derive(Clone, Copy, Debug, PartialEq, Eq)]
@@ -11,7 +11,7 @@ pub enum Outcome {
     /// The command is done, and `check` answered no for a section, or `inspect` found an error in a file.
     SaidNo,
     /// The command reported an error: its number, and what is known beyond its line.
-    Refused { number: u32, note: Note },
+    Refused { number: u32, note: Explanation },
     /// The command line is invalid.
     Usage,
     /// The output failed.

@@ -4,7 +4,7 @@ use Rattle.std.proofs.lemmas.List.{at_drop_more, drop_all}
 use Rattle.pef_ports.specs.Ports.{FilesPort}
 use Rattle.pef_tool.specs.Companions.{Looks}
 use Rattle.pef_tool.specs.Kept.Inspecting.{companion_seen, place_seen}
-use Rattle.pef_tool.specs.declared.companion.Place.{Place}
+use Rattle.pef_tool.specs.declared.companion.CompanionPlace.{CompanionPlace}
 use Rattle.pef_tool.proofs.companion.look_at_places.Goals as goal
 
 pub loop-place-init : goal.loop-place-init
@@ -13,7 +13,7 @@ loop-place-init g c = λ own last companion looks. looks
 pub loop-place-preserved : goal.loop-place-preserved
 loop-place-preserved g c =
     let port : FilesPort _ = record { state = g.F.Files.state; reason = g.F.Files.reason; was_read = g.F.Files.was_read; was_written = g.F.Files.was_written } in
-    let seen : Place → List ℕ = place_seen c.args.path.folder.now c.args.path.name.now in
+    let seen : CompanionPlace → List ℕ = place_seen c.args.path.folder.now c.args.path.name.now in
     let at = c.loop-place in
     λ own last companion looks.
     let P : List (List ℕ) → Type 0 = λ (places : List (List ℕ)). Looks port own at.files last places companion in
@@ -23,7 +23,7 @@ loop-place-preserved g c =
 pub returns-in-Some : goal.returns-in-Some
 returns-in-Some g c =
     let port : FilesPort _ = record { state = g.F.Files.state; reason = g.F.Files.reason; was_read = g.F.Files.was_read; was_written = g.F.Files.was_written } in
-    let seen : Place → List ℕ = place_seen c.args.path.folder.now c.args.path.name.now in
+    let seen : CompanionPlace → List ℕ = place_seen c.args.path.folder.now c.args.path.name.now in
     let at = c.loop-place in
     λ own.
     let found = companion_seen own c.in-Some.companion in
@@ -34,7 +34,7 @@ returns-in-Some g c =
 pub returns : goal.returns
 returns g c =
     let port : FilesPort _ = record { state = g.F.Files.state; reason = g.F.Files.reason; was_read = g.F.Files.was_read; was_written = g.F.Files.was_written } in
-    let seen : Place → List ℕ = place_seen c.args.path.folder.now c.args.path.name.now in
+    let seen : CompanionPlace → List ℕ = place_seen c.args.path.folder.now c.args.path.name.now in
     let at = c.loop-place in
     λ own.
     let P : List (List ℕ) → Type 0 = λ (places : List (List ℕ)). Looks port own at.files at.files places None in
