@@ -519,6 +519,10 @@ static void call(struct pef_context *context, uint8_t what, uint8_t one, uint8_t
             pef_free(context);
         else if (one % 8 == 1)
             is_ok("pef_reserve", pef_reserve(context, 0x00010000u + other * 16u, one));
+        else if (one % 16 == 2)
+            is_ok("pef_unreserve", pef_unreserve(context, 0x00010000u + other * 16u, one - 1u));
+        else if (one % 8 <= 3)
+            is_ok("pef_remove", pef_remove(context, (const uint8_t *)names[other % NAMES], strlen(names[other % NAMES])));
         break;
     case 2:
     case 3:

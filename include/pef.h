@@ -178,7 +178,8 @@ struct pef_bytes {
 
 /* Only this library returns these: the caller's buffer is too small; there is no such thing; the context isn't open; a
  * fragment of an open connection was prepared without the weak library that is added; the context has as many fragments as
- * it may; the granule is none; the options have another size. */
+ * it may; the granule is none; the options have another size; the fragment is present; a fragment of an open connection names
+ * it as a library; a fragment has the name already. */
 #define PEF_ROOM_TOO_SMALL 200
 #define PEF_NOT_THERE 201
 #define PEF_NOT_OPEN 202
@@ -186,8 +187,11 @@ struct pef_bytes {
 #define PEF_STORE_FULL 204
 #define PEF_BAD_GRANULE 205
 #define PEF_BAD_OPTIONS 206
+#define PEF_STILL_PRESENT 207
+#define PEF_STILL_NAMED 208
+#define PEF_NAME_TAKEN 209
 
-/* How many fragments a context has at most, and how many connections it gives if no other number was asked for, closed ones
+/* How many fragments a context has at most at a time, and how many connections it gives if no other number was asked for, closed ones
  * included. */
 #define PEF_MAX_FRAGMENTS 256
 #define PEF_MAX_CONNECTIONS 65536
@@ -843,7 +847,8 @@ uint32_t pef_numbered_container(const uint8_t *bytes, size_t length, size_t numb
  * nothing, if the context isn't open: pef_open() wasn't called, failed, or was followed by pef_free(). Several contexts may be
  * open at once, also in different threads.
  *
- * A fragment is named by its number, counted from 0 in the order in which fragments were added. It is present while the
+ * A fragment is named by its number, counted from 0 in the order in which fragments were added. The number of a removed one is
+ * free, and goes to the next fragment whose name isn't there. A fragment is present while the
  * closure of an open connection has it: the fragment that was prepared, with all fragments that it needs. A present
  * fragment keeps its addresses. Its sections are numbered as in its container, and only instantiated sections are in
  * memory. A call on a fragment looks it up, however many there are.
@@ -918,10 +923,11 @@ static inline void pef_free_unless_null(struct pef_context *context)
  * Adds a fragment: its name, and the bytes of its container. They are read by each preparation, and refused then. If two
  * fragments have the same name, the first is used.
  *
- * `name` and `bytes` are kept, not copied: both have to stay, unchanged, until pef_free() of this context returns. From then on
- * they are the caller's again. Names that the library gave are parts of them.
+ * `name` and `bytes` are kept, not copied: both have to stay, unchanged, until pef_remove() of this fragment or pef_free() of this
+ * context returns. From then on they are the caller's again. Names that the library gave are parts of them.
  *
- * Fragments may be added at any time, also while connections are open. Those stay as they are.
+ * Fragments may be added at any time, also while connections are open. Those stay as they are. A fragment whose name isn't there
+ * gets the first number that is free, and any other the number after all others, so that the first with a name stays the first.
  *
  * Returns PEF_OK; or PEF_ADDED_TOO_LATE, if a fragment of an open connection has a weak library of this name, and was
  * prepared without it; or PEF_STORE_FULL, if the context has PEF_MAX_FRAGMENTS fragments; or PEF_OUT_OF_MEMORY. The
@@ -930,7 +936,23 @@ static inline void pef_free_unless_null(struct pef_context *context)
 uint32_t pef_add(struct pef_context *context, const uint8_t *name, size_t name_length, const uint8_t *bytes, size_t bytes_length);
 
 /*
- * Takes `size` addresses from `address` on out of use, as long as the context is open: no section is placed in them. The
+ * Adds a fragment as pef_add() does, if none has its name. Otherwise returns PEF_NAME_TAKEN, and the context is unchanged: a second
+ * fragment of a name is never used as long as the first one is there.
+ */
+uint32_t pef_add_new(struct pef_context *context, const uint8_t *name, size_t name_length, const uint8_t *bytes, size_t bytes_length);
+
+/*
+ * Removes the first fragment of a name. If another one has the name, that is the first then. The numbers of the others don't change,
+ * and neither do open connections. The name and the bytes that were added are the caller's again.
+ *
+ * Returns PEF_OK; or PEF_ROOT_MISSING, if no fragment has the name; or PEF_STILL_PRESENT, if the fragment is present; or
+ * PEF_STILL_NAMED, if a fragment of an open connection names it as a library: a weak one, whose version didn't fit; or
+ * PEF_OUT_OF_MEMORY. The context is changed only if PEF_OK is returned.
+ */
+uint32_t pef_remove(struct pef_context *context, const uint8_t *name, size_t name_length);
+
+/*
+ * Takes `size` addresses from `address` on out of use, until pef_unreserve gives them back: no section is placed in them. The
  * range begins at the multiple of 16 at or below `address`, and ends at the one at or above its end. A size of 0 takes
  * nothing.
  *
@@ -938,6 +960,15 @@ uint32_t pef_add(struct pef_context *context, const uint8_t *name, size_t name_l
  * bits; or PEF_OUT_OF_MEMORY. The context is changed only if PEF_OK is returned.
  */
 uint32_t pef_reserve(struct pef_context *context, uint32_t address, uint32_t size);
+
+/*
+ * Gives back a range that pef_reserve took out of use for the same numbers, or for others with the same ends: sections can
+ * be placed there again. A size of 0 gives nothing back.
+ *
+ * Returns PEF_OK; or PEF_NOT_THERE, if the addresses aren't exactly such a range, also if they are a part of one or several.
+ * The context is changed only if PEF_OK is returned.
+ */
+uint32_t pef_unreserve(struct pef_context *context, uint32_t address, uint32_t size);
 
 /* The names that are reported with a refusal. A name that isn't reported is empty. */
 struct pef_names {

@@ -266,8 +266,11 @@ public:
     context(context &&) = default;
     context &operator=(context &&) = default;
 
-    /* Adds a fragment. Both have to stay until the context and all of its connections are gone. Throws 203, 204 or 99. */
+    /* Adds a fragment. Both have to stay until it is removed, or the context and all of its connections are gone. Throws 203, 204 or
+     * 99. */
     void add(bytes name, bytes contents) { check(pef_add(&state_->it, name.data(), name.size(), contents.data(), contents.size())); }
+    /* The same, if no fragment has the name; throws 209 otherwise. */
+    void add_new(bytes name, bytes contents) { check(pef_add_new(&state_->it, name.data(), name.size(), contents.data(), contents.size())); }
     /* The same of bytes that the context owns from now on. */
     void keep(std::string name, buffer contents)
     {
@@ -279,7 +282,16 @@ public:
             throw;
         }
     }
+    /* Removes the first fragment of a name, and what the context owns of it. Throws 60, 207, 208 or 99. */
+    void remove(bytes name)
+    {
+        const void *first = name_of_first(name);
+        check(pef_remove(&state_->it, name.data(), name.size()));
+        state_->kept.remove_if([first](const std::pair<std::string, buffer> &it) { return static_cast<const void *>(it.first.data()) == first; });
+    }
     void reserve(uint32_t address, uint32_t size) { check(pef_reserve(&state_->it, address, size)); }
+    /* Throws 201 if the addresses aren't exactly a range that was reserved. */
+    void unreserve(uint32_t address, uint32_t size) { check(pef_unreserve(&state_->it, address, size)); }
     /* The libraries that are missing for a fragment and for all that it needs. Throws 60, 1 to 20 with the fragment's name, or 99. */
     std::vector<missing_library> missing(bytes name)
     {
@@ -307,6 +319,16 @@ public:
 private:
     friend class connection;
     friend class fragment;
+    /* Where the name of the first fragment of a name is. */
+    const void *name_of_first(bytes name) const
+    {
+        for (size_t number = 0; number < PEF_MAX_FRAGMENTS; number++) {
+            struct ::pef_bytes found = PEF_NO_BYTES;
+            if (pef_fragment_name_const(&state_->it, number, &found) == PEF_OK && bytes(found) == name)
+                return found.at;
+        }
+        return nullptr;
+    }
     struct state {
         struct ::pef_context it = PEF_NO_CONTEXT;
         std::list<std::pair<std::string, buffer>> kept;

@@ -41,7 +41,10 @@ static void expect_not_open(struct pef_context *context)
     expect(pef_fragment_bytes(context, 0, 0, room, 1, &count) == PEF_NOT_OPEN, "pef_fragment_bytes on a closed context");
     expect(pef_fragment_entries(context, 0, 0, &entries) == PEF_NOT_OPEN, "pef_fragment_entries on a closed context");
     expect(pef_fragment_symbol(context, 0, 0, room, 1, &address) == PEF_NOT_OPEN, "pef_fragment_symbol on a closed context");
+    expect(pef_add_new(context, room, 1, room, 1) == PEF_NOT_OPEN, "pef_add_new on a closed context");
+    expect(pef_remove(context, room, 1) == PEF_NOT_OPEN, "pef_remove on a closed context");
     expect(pef_reserve(context, 0, 1) == PEF_NOT_OPEN, "pef_reserve on a closed context");
+    expect(pef_unreserve(context, 0, 1) == PEF_NOT_OPEN, "pef_unreserve on a closed context");
     expect(pef_missing(context, room, 1, 0, &missing, 1, &count, &names) == PEF_NOT_OPEN && missing.fragment == 7, "pef_missing on a closed context");
     expect(pef_new_fragments(context, 0, order, 1, &count) == PEF_NOT_OPEN, "pef_new_fragments on a closed context");
     expect(pef_released_by(context, 0, order, 1, &count) == PEF_NOT_OPEN, "pef_released_by on a closed context");
@@ -124,6 +127,8 @@ static void expect_reserved(void)
     expect(open_all(&context, 0x10000000) == PEF_OK, "a third context");
     expect(pef_reserve(&context, 0x00010000, 0x100) == PEF_OK && pef_reserve(&context, 0x000100FF, 0) == PEF_OK, "a range");
     expect(pef_reserve(&context, 0x000100FF, 1) == PEF_NO_ROOM && pef_reserve(&context, 0xFFFFFFF0, 17) == PEF_NO_ROOM, "a range that is taken");
+    expect(pef_unreserve(&context, 0x00010000, 0x10) == PEF_NOT_THERE, "a part of a range");
+    expect(pef_unreserve(&context, 0x00010000, 0x100) == PEF_OK && pef_reserve(&context, 0x00010000, 0x100) == PEF_OK, "a range that is given back");
     expect(prepare_first(&context, &connection, &names) == PEF_OK, "a preparation around a range");
     expect(pef_fragments(&context, connection, order, PEF_MAX_FRAGMENTS, &count) == PEF_OK, "its fragments");
     for (size_t i = 0; i < count; i++) {

@@ -162,7 +162,7 @@ static void test_present(void)
     EXPECT(pef_is_present(&context, TEXT("L"), &is_present) == PEF_NOT_OPEN && is_present);
 }
 
-/* Sections are placed around a range, and no range meets a section or another range. */
+/* Sections are placed around a range until it is given back, and no range meets a section or another range. */
 static void test_reserved(void)
 {
     struct pef_context context = PEF_NO_CONTEXT;
@@ -175,8 +175,18 @@ static void test_reserved(void)
     prepare(&context, "L", 0);
     EXPECT(pef_export_address(&context, 0, 1, 0, &address) == PEF_OK && address == 0x00010010);
     EXPECT(pef_reserve(&context, 0x0001001F, 1) == PEF_NO_ROOM);
+    EXPECT(pef_close(&context, 0) == PEF_OK);
+    EXPECT(pef_reserve(&context, 0x00010010, 16) == PEF_OK);
+    EXPECT(pef_unreserve(&context, 0x00010000, 32) == PEF_NOT_THERE);
+    EXPECT(pef_unreserve(&context, 0x00010020, 1) == PEF_NOT_THERE);
+    EXPECT(pef_unreserve(&context, 0x00010020, 0) == PEF_OK);
+    EXPECT(pef_unreserve(&context, 0x0001000F, 1) == PEF_OK);
+    EXPECT(pef_unreserve(&context, 0x00010000, 16) == PEF_NOT_THERE);
+    prepare(&context, "L", 1);
+    EXPECT(pef_export_address(&context, 1, 1, 0, &address) == PEF_OK && address == 0x00010000);
     pef_free(&context);
     EXPECT(pef_reserve(&context, 0, 1) == PEF_NOT_OPEN);
+    EXPECT(pef_unreserve(&context, 0, 1) == PEF_NOT_OPEN);
 }
 
 /* Three imports of a library: a place, a number, and a weak one that it lacks. */
@@ -291,6 +301,33 @@ static void test_added_too_late(void)
     EXPECT(pef_close(&context, 0) == PEF_OK);
     EXPECT(pef_add(&context, TEXT("M"), TEXT("")) == PEF_OK);
     pef_free(&context);
+}
+
+/* A fragment is removed that isn't present and that no open connection misses. Its number is free for the next one. */
+static void test_removed(void)
+{
+    static const char weak[] = "library M 5 5 weak\nimport m data strong\nsection w data process 4 4\nfix w 0 import m\n";
+    struct pef_context context = PEF_NO_CONTEXT;
+    struct pef_bytes name = PEF_NO_BYTES;
+    EXPECT(pef_open(&context, limit) == PEF_OK);
+    EXPECT(pef_remove(&context, TEXT("M")) == PEF_ROOT_MISSING);
+    add(&context, "M", "versions 1 1 1\n");
+    add(&context, "W", weak);
+    EXPECT(pef_add_new(&context, TEXT("M"), TEXT("")) == PEF_NAME_TAKEN);
+    EXPECT(pef_add(&context, TEXT("M"), TEXT("")) == PEF_OK);
+    prepare(&context, "W", 0);
+    EXPECT(pef_remove(&context, TEXT("W")) == PEF_STILL_PRESENT);
+    EXPECT(pef_remove(&context, TEXT("M")) == PEF_STILL_NAMED);
+    EXPECT(pef_close(&context, 0) == PEF_OK);
+    EXPECT(pef_remove(&context, TEXT("M")) == PEF_OK);
+    EXPECT(pef_fragment_name(&context, 0, &name) == PEF_NOT_THERE);
+    EXPECT(pef_add_new(&context, TEXT("M"), TEXT("")) == PEF_NAME_TAKEN);
+    EXPECT(pef_add_new(&context, TEXT("N"), TEXT("")) == PEF_OK);
+    EXPECT(pef_fragment_name(&context, 0, &name) == PEF_OK && is_named(name, "N"));
+    EXPECT(pef_remove(&context, TEXT("M")) == PEF_OK && pef_remove(&context, TEXT("M")) == PEF_ROOT_MISSING);
+    prepare(&context, "W", 1);
+    pef_free(&context);
+    EXPECT(pef_remove(&context, TEXT("N")) == PEF_NOT_OPEN);
 }
 
 /* A refusal is reported with its names. A context that isn't open is reported, also after it was freed twice. */
@@ -417,6 +454,7 @@ int main(void)
     test_meanings();
     test_missing();
     test_added_too_late();
+    test_removed();
     test_refused();
     test_symbol_missing();
     test_options();

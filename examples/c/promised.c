@@ -1,6 +1,7 @@
 /*
  * What callers do all the same, and what pef.h promises: slices of no bytes that are null, structs that come as zero bytes or
- * with any bytes, pef_free() of NULL and of a context that isn't open, and names and containers that go after pef_free().
+ * with any bytes, pef_free() of NULL and of a context that isn't open, and names and containers that go after pef_free() or
+ * pef_remove().
  * With --memory it opens, fills and frees a context 100,000 times instead, and the process may not grow; and it frees contexts that have a
  * megabyte, contexts that have nothing, and contexts by opening them again.
  */
@@ -247,6 +248,32 @@ static void test_listing(void)
     pef_list_free(&listing);
 }
 
+/* The name and the container of a fragment that was removed go, while a connection is open to another one that was prepared when the
+ * removed one was there. */
+static void test_removed(void)
+{
+    struct pef_context context = PEF_NO_CONTEXT;
+    struct pef_names names;
+    uint32_t connection = 7, address = 7;
+    uint8_t *name = copy("gone", 4), *bytes = copy(container, container_length), found[16];
+    size_t written = 0;
+    expect(pef_open(&context, 0x10000000) == PEF_OK && pef_add(&context, name, 4, bytes, container_length) == PEF_OK, "a fragment");
+    expect(pef_add(&context, (const uint8_t *)"it", 2, container, container_length) == PEF_OK, "another one");
+    expect(pef_prepare(&context, name, 4, &connection, &names) == PEF_OK && pef_close(&context, connection) == PEF_OK, "the first one");
+    expect(pef_prepare(&context, (const uint8_t *)"it", 2, &connection, &names) == PEF_OK, "the other one");
+    expect(pef_remove(&context, NULL, 0) == PEF_ROOT_MISSING, "pef_remove of null");
+    expect(pef_remove(&context, name, 4) == PEF_OK, "pef_remove");
+    memset(name, 0xA5, 4);
+    memset(bytes, 0xA5, container_length);
+    free(name);
+    free(bytes);
+    expect(pef_fragment_bytes(&context, 1, 0, found, sizeof found, &written) == PEF_OK && written == 16 && found[3] == 4, "what is still there");
+    expect(pef_fragment_symbol(&context, connection, 1, (const uint8_t *)"x", 1, &address) == PEF_OK && address == 0x00010004, "its symbol");
+    expect(pef_add_new(&context, (const uint8_t *)"new", 3, container, container_length) == PEF_OK, "one in the free place");
+    expect(pef_prepare(&context, (const uint8_t *)"new", 3, &connection, &names) == PEF_OK && pef_close(&context, connection) == PEF_OK, "its preparation");
+    pef_free(&context);
+}
+
 /* Opens a context, prepares a fragment whose name and container are blocks of their own, and frees all of it. */
 static void open_once(void)
 {
@@ -346,6 +373,7 @@ int main(int count, char **words)
         test_filled_by_context(0xFF);
         test_free();
         test_listing();
+        test_removed();
         open_once();
     }
     return failures == 0 ? 0 : 1;

@@ -77,6 +77,31 @@ static bool prepares(struct pef_context *context, size_t *lacking)
     return tell_connection(&told, context, connection) || wrong("telling", 0);
 }
 
+/* Removes the first fragment after its connection was closed, and adds it again. If memory is lacking, either is done again. */
+static bool removes(struct pef_context *context, size_t *lacking)
+{
+    struct pef_bytes first = fragments[0].name, name = PEF_NO_BYTES;
+    uint32_t answer = pef_close(context, 0);
+    if (answer == PEF_OK)
+        answer = pef_remove(context, first.at, first.length);
+    if (answer == PEF_OUT_OF_MEMORY) {
+        (*lacking)++;
+        if (pef_fragment_name(context, 0, &name) != PEF_OK)
+            return wrong("pef_remove removes without memory", answer);
+        answer = pef_remove(context, first.at, first.length);
+    }
+    if (answer != PEF_OK || pef_fragment_name(context, 0, &name) != PEF_NOT_THERE)
+        return wrong("removing", answer);
+    answer = pef_add_new(context, first.at, first.length, fragments[0].container.at, fragments[0].container.length);
+    if (answer == PEF_OUT_OF_MEMORY) {
+        (*lacking)++;
+        if (pef_fragment_name(context, 0, &name) != PEF_NOT_THERE)
+            return wrong("pef_add_new adds without memory", answer);
+        answer = pef_add_new(context, first.at, first.length, fragments[0].container.at, fragments[0].container.length);
+    }
+    return (answer == PEF_OK && pef_fragment_name(context, 0, &name) == PEF_OK) || wrong("adding once more", answer);
+}
+
 /* Makes all calls with one growth refused, or none for 0. */
 static bool is_right(size_t refused, size_t *lacking)
 {
@@ -85,6 +110,7 @@ static bool is_right(size_t refused, size_t *lacking)
     bool right = adds_all(&context, lacking) && asks(&context, lacking) && prepares(&context, lacking);
     if (right && refused != 0 && !is_same(&told, &wanted))
         right = wrong("something else is told", 0);
+    right = right && removes(&context, lacking);
     pef_free(&context);
     return right && (live_blocks == 0 || wrong("blocks are left", (uint32_t)live_blocks));
 }

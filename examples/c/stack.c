@@ -255,6 +255,11 @@ static void call_reserve(void)
     answer = pef_reserve(&context, 0x10000, 0x100);
 }
 
+static void call_unreserve(void)
+{
+    answer = pef_unreserve(&context, 0x10000, 0x100);
+}
+
 static void call_missing(void)
 {
     static struct pef_missing missing[16];
@@ -343,6 +348,7 @@ static void measure_container(const char *what)
     if (answer != PEF_OK)
         exit(2);
     measure("pef_reserve", what, call_reserve);
+    measure("pef_unreserve", what, call_unreserve);
     measure_context(what);
 }
 

@@ -393,10 +393,13 @@ _CALLS: Dict[str, List[Any]] = {
     "pef_version": [],
     "pef_free": _IN_HANDLE,
     "pef_add": _IN_HANDLE + _IN * 2,
+    "pef_add_new": _IN_HANDLE + _IN * 2,
+    "pef_remove": _IN_HANDLE + _IN,
     "pef_prepare": _IN_HANDLE + _IN + [ctypes.POINTER(ctypes.c_uint32), ctypes.POINTER(_Names)],
     "pef_prepare_with_place": _IN_HANDLE + _IN + [ctypes.POINTER(ctypes.c_uint32), ctypes.POINTER(_Names), ctypes.POINTER(_Place)],
     "pef_missing": _IN_HANDLE + _IN + [ctypes.c_size_t, ctypes.POINTER(_Missing), ctypes.c_size_t] + _SIZE + [ctypes.POINTER(_Names)],
     "pef_reserve": _IN_HANDLE + [ctypes.c_uint32] * 2,
+    "pef_unreserve": _IN_HANDLE + [ctypes.c_uint32] * 2,
     "pef_close": _IN_HANDLE + [ctypes.c_uint32],
     "pef_new_fragments": _IN_HANDLE + [ctypes.c_uint32] + _PLACES + _SIZE,
     "pef_released_by": _IN_HANDLE + [ctypes.c_uint32] + _PLACES + _SIZE,
@@ -1141,8 +1144,9 @@ class Context:
         self._context = _Handle()
         #: Held during each call: a call writes to the struct, even if it only reads.
         self._lock = threading.RLock()
-        #: The names and containers that were added: the library reads them until the context is freed.
-        self._kept: List[_Contents] = []
+        #: The names and containers that were added, in this order: the library reads them until they are removed or the context is
+        #: freed.
+        self._kept: List[Tuple[_Contents, _Contents]] = []
         if (granule, connections, steps, bytes) == (None, None, None, None):
             self._call("pef_open", limit)
             return
@@ -1171,18 +1175,37 @@ class Context:
     def add(self, name: Text, contents: bytes) -> None:
         """Adds a fragment. Its container is read when it is prepared, and refused then.
 
-        Fragments may be added at any time. The name and the container stay in memory until the context is freed. Raises
-        PefError: 203 if a fragment of an open connection has a weak library of this name and was prepared without it, 204
-        for the 257th fragment, or 99.
+        Fragments may be added at any time. The name and the container stay in memory until the fragment is removed or the
+        context is freed. Raises PefError: 203 if a fragment of an open connection has a weak library of this name and was
+        prepared without it, 204 for the 257th fragment, or 99.
         """
+        self._add("pef_add", name, contents)
+
+    def add_new(self, name: Text, contents: bytes) -> None:
+        """Adds a fragment as add() does, if none has its name. Raises PefError: 209 otherwise, and those of add()."""
+        self._add("pef_add_new", name, contents)
+
+    def _add(self, call: str, name: Text, contents: bytes) -> None:
         raw, kept = _raw(name), bytes(contents)
         with self._lock:
-            self._kept += [raw, kept]
+            self._kept.append((raw, kept))
             try:
-                self._call("pef_add", raw, len(raw), kept, len(kept))
+                self._call(call, raw, len(raw), kept, len(kept))
             except PefError:
-                del self._kept[-2:]
+                del self._kept[-1]
                 raise
+
+    def remove(self, name: Text) -> None:
+        """Removes the first fragment of a name. If another one has the name, that is the first then.
+
+        The numbers of the others don't change, and neither do open connections. The number of the removed one goes to the next
+        fragment that is added and whose name isn't there. Raises PefError: 60 if no fragment has the name, 207 if it is present,
+        208 if a fragment of an open connection names it as a library (a weak one, whose version didn't fit), or 99.
+        """
+        raw = _raw(name)
+        with self._lock:
+            self._call("pef_remove", raw, len(raw))
+            del self._kept[next(number for number, (added, _) in enumerate(self._kept) if added == raw)]
 
     def reserve(self, address: int, size: int) -> None:
         """Takes addresses out of use: no section is placed in them.
@@ -1194,6 +1217,16 @@ class Context:
         if not (0 <= address < 2**32 and 0 <= size < 2**32):
             raise ValueError("an address and a size have 32 bits")
         self._call("pef_reserve", address, size)
+
+    def unreserve(self, address: int, size: int) -> None:
+        """Gives back a range that reserve() took out of use: sections can be placed there again.
+
+        A size of 0 gives nothing back. Raises PefError: 201 if the addresses aren't exactly such a range, also if they are a
+        part of one or several. ValueError if a number has more than 32 bits.
+        """
+        if not (0 <= address < 2**32 and 0 <= size < 2**32):
+            raise ValueError("an address and a size have 32 bits")
+        self._call("pef_unreserve", address, size)
 
     def missing(self, name: Text) -> List[MissingLibrary]:
         """The libraries that are missing for a fragment and for all that it needs, in the order in which prepare() looks for them.

@@ -2,7 +2,7 @@
 //!
 //! With the feature `native` the library is looked for: in the folder that `PEF_LIB_DIR` names, or else by pkg-config. The static
 //! library is used if `PEF_STATIC` is 1, or if there is no shared one. Without the feature the source in `portable/` is compiled, by the
-//! compiler that `CC` names, or else by `cc`.
+//! compiler that `CC_` with the name of the target names, or `CC`, or else by `cc`.
 
 use std::env;
 use std::path::{Path, PathBuf};
@@ -12,7 +12,7 @@ use std::process::{exit, Command};
 const VERSION: &str = env!("CARGO_PKG_VERSION");
 
 fn main() {
-    for name in ["PEF_LIB_DIR", "PEF_STATIC", "PKG_CONFIG", "PKG_CONFIG_PATH", "PKG_CONFIG_LIBDIR", "CC", "CFLAGS", "AR"] {
+    for name in ["PEF_LIB_DIR", "PEF_STATIC", "PKG_CONFIG", "PKG_CONFIG_PATH", "PKG_CONFIG_LIBDIR"] {
         println!("cargo:rerun-if-env-changed={name}");
     }
     println!("cargo:rerun-if-changed=build.rs");
@@ -90,7 +90,7 @@ fn compile() -> Result<(), String> {
     let archive = out.join("libpef.a");
     // an archive that is there would be added to
     let _ = std::fs::remove_file(&archive);
-    run(Command::new(env::var_os("AR").unwrap_or_else(|| "ar".into())).arg("crs").arg(&archive).args(&objects))?;
+    run(Command::new(named("AR").unwrap_or_else(|| "ar".into())).arg("crs").arg(&archive).args(&objects))?;
     println!("cargo:rustc-link-search=native={}", out.display());
     println!("cargo:rustc-link-lib=static=pef");
     Ok(())
@@ -103,13 +103,28 @@ fn sources_in(folder: &Path) -> Vec<PathBuf> {
     found
 }
 
-/// The compiler with the options that all sources have. `CC` and `CFLAGS` may have several words.
+/// What the environment says of the target, or else of all targets.
+fn named(name: &str) -> Option<String> {
+    let target = env::var("TARGET").unwrap_or_default();
+    let names = [format!("{name}_{target}"), format!("{name}_{}", target.replace('-', "_")), name.into()];
+    names.into_iter().find_map(|name| {
+        println!("cargo:rerun-if-env-changed={name}");
+        env::var(name).ok()
+    })
+}
+
+/// The compiler with the options that all sources have. What names it may have several words.
 fn compiler() -> Result<Command, String> {
-    let words = env::var("CC").unwrap_or_else(|_| "cc".into());
+    let (host, target) = (variable("HOST")?, variable("TARGET")?);
+    let words = match named("CC") {
+        Some(words) => words,
+        None if host == target => "cc".into(),
+        None => return Err(format!("CC_{} has to name a C compiler for {target}, or CC", target.replace('-', "_"))),
+    };
     let mut words = words.split_whitespace();
     let mut command = Command::new(words.next().ok_or("CC names no compiler")?);
     command.args(words).args(["-O2", "-fPIC", "-w"]);
-    command.args(env::var("CFLAGS").unwrap_or_default().split_whitespace());
+    command.args(named("CFLAGS").unwrap_or_default().split_whitespace());
     Ok(command)
 }
 

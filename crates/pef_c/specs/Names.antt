@@ -13,6 +13,9 @@ library_name number =
     else if number == 204 then Some (codes "StoreFull")
     else if number == 205 then Some (codes "BadGranule")
     else if number == 206 then Some (codes "BadOptions")
+    else if number == 207 then Some (codes "StillPresent")
+    else if number == 208 then Some (codes "StillNamed")
+    else if number == 209 then Some (codes "NameTaken")
     else None
 
 -- the help of this library's own numbers
@@ -25,6 +28,9 @@ library_help number =
     else if number == 204 then Some (codes "The context has 256 fragments, and takes no more.")
     else if number == 205 then Some (codes "The granule isn't a power of two, or is below 16.")
     else if number == 206 then Some (codes "The size of the options isn't that of this library's struct. Set it to sizeof, and build with the header of this library.")
+    else if number == 207 then Some (codes "The closure of an open connection has this fragment. Close its connections first.")
+    else if number == 208 then Some (codes "A fragment of an open connection has a weak library of this name, whose version didn't fit. Remove this fragment after that connection is closed.")
+    else if number == 209 then Some (codes "The context has a fragment with this name, which stays the first. Remove it first, or add this one by pef_add.")
     else None
 
 -- all names; refusals and notes have numbers below 200

@@ -29,6 +29,9 @@ pub(crate) const NOT_OPEN: u32 = 202;
 /// The options have another size than this library's struct.
 pub(crate) const BAD_OPTIONS: u32 = 206;
 
+/// A fragment with this name is there already.
+pub(crate) const NAME_TAKEN: u32 = 209;
+
 /// Returns the bytes that C passed, or the empty slice if there are none: C may then have passed a null pointer, which no slice
 /// has.
 pub(crate) fn given<'a>(bytes: &'a [u8]) -> &'a [u8]

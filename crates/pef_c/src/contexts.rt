@@ -10,7 +10,8 @@ mod refusal_names;
 
 pub use connections::{pef_export_address, pef_import_target, pef_new_fragments, pef_released_by};
 pub use context::{
-    pef_add, pef_close, pef_free, pef_open, pef_prepare, pef_prepare_with_place, pef_reserve,
+    pef_add, pef_add_new, pef_close, pef_free, pef_open, pef_prepare, pef_prepare_with_place,
+    pef_remove, pef_reserve, pef_unreserve,
 };
 pub use fragments::{
     pef_fragment_bytes, pef_fragment_entries, pef_fragment_name, pef_fragment_section,

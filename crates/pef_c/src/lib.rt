@@ -17,36 +17,107 @@ mod scripts;
 mod structs;
 mod theorems;
 
-pub use containers::{
-    pef_container_place, pef_expand, pef_export_named, pef_exports, pef_findings, pef_fixups,
-    pef_header, pef_imports, pef_libraries, pef_loader, pef_more_notes, pef_partial_exports,
-    pef_partial_header, pef_partial_imports, pef_partial_libraries, pef_partial_loader,
-    pef_partial_relocations, pef_partial_section, pef_partial_section_name, pef_relocations,
-    pef_section, pef_section_name,
-};
-pub use contexts::{
-    PefContext, PefOptions, pef_add, pef_close, pef_export_address, pef_fragment_bytes,
-    pef_fragment_entries, pef_fragment_name, pef_fragment_section, pef_fragment_sections,
-    pef_fragment_symbol, pef_fragments, pef_free, pef_import_target, pef_init_order,
-    pef_is_present, pef_missing, pef_new_fragments, pef_open, pef_open_with, pef_prepare,
-    pef_prepare_with_place, pef_released_by, pef_reserve, pef_version,
-};
-pub use files::{
-    PefFinder, PefForks, PefMember, PefPart, PefResource, PefResourceMap, pef_file_container,
-    pef_file_kind, pef_find_containers, pef_find_resource, pef_fork_container, pef_forks,
-    pef_members, pef_numbered_container, pef_resource_map, pef_resources,
-};
-pub use names::{pef_help, pef_name};
-pub use reports::{
-    PefText, pef_list, pef_list_free, pef_list_next, pef_list_open, pef_report_free,
-    pef_report_next, pef_report_open, pef_report_open_container,
-};
-pub use scripts::{pef_link, pef_script_place};
-pub use structs::{
-    PefEntries, PefExport, PefFinding, PefFixup, PefFragmentSection, PefHeader, PefImport,
-    PefLibrary, PefLoader, PefMissing, PefNames, PefPlace, PefRelocation, PefSection, PefTarget,
-};
-pub use theorems::{
-    add_names, close_names, container_names, finding_names, granule_names, listing_names,
-    loader_names, packed_names, script_names,
-};
+pub use containers::pef_container_place;
+pub use containers::pef_expand;
+pub use containers::pef_export_named;
+pub use containers::pef_exports;
+pub use containers::pef_findings;
+pub use containers::pef_fixups;
+pub use containers::pef_header;
+pub use containers::pef_imports;
+pub use containers::pef_libraries;
+pub use containers::pef_loader;
+pub use containers::pef_more_notes;
+pub use containers::pef_partial_exports;
+pub use containers::pef_partial_header;
+pub use containers::pef_partial_imports;
+pub use containers::pef_partial_libraries;
+pub use containers::pef_partial_loader;
+pub use containers::pef_partial_relocations;
+pub use containers::pef_partial_section;
+pub use containers::pef_partial_section_name;
+pub use containers::pef_relocations;
+pub use containers::pef_section;
+pub use containers::pef_section_name;
+pub use contexts::PefContext;
+pub use contexts::PefOptions;
+pub use contexts::pef_add;
+pub use contexts::pef_add_new;
+pub use contexts::pef_close;
+pub use contexts::pef_export_address;
+pub use contexts::pef_fragment_bytes;
+pub use contexts::pef_fragment_entries;
+pub use contexts::pef_fragment_name;
+pub use contexts::pef_fragment_section;
+pub use contexts::pef_fragment_sections;
+pub use contexts::pef_fragment_symbol;
+pub use contexts::pef_fragments;
+pub use contexts::pef_free;
+pub use contexts::pef_import_target;
+pub use contexts::pef_init_order;
+pub use contexts::pef_is_present;
+pub use contexts::pef_missing;
+pub use contexts::pef_new_fragments;
+pub use contexts::pef_open;
+pub use contexts::pef_open_with;
+pub use contexts::pef_prepare;
+pub use contexts::pef_prepare_with_place;
+pub use contexts::pef_released_by;
+pub use contexts::pef_remove;
+pub use contexts::pef_reserve;
+pub use contexts::pef_unreserve;
+pub use contexts::pef_version;
+pub use files::PefFinder;
+pub use files::PefForks;
+pub use files::PefMember;
+pub use files::PefPart;
+pub use files::PefResource;
+pub use files::PefResourceMap;
+pub use files::pef_file_container;
+pub use files::pef_file_kind;
+pub use files::pef_find_containers;
+pub use files::pef_find_resource;
+pub use files::pef_fork_container;
+pub use files::pef_forks;
+pub use files::pef_members;
+pub use files::pef_numbered_container;
+pub use files::pef_resource_map;
+pub use files::pef_resources;
+pub use names::pef_help;
+pub use names::pef_name;
+pub use reports::PefText;
+pub use reports::pef_list;
+pub use reports::pef_list_free;
+pub use reports::pef_list_next;
+pub use reports::pef_list_open;
+pub use reports::pef_report_free;
+pub use reports::pef_report_next;
+pub use reports::pef_report_open;
+pub use reports::pef_report_open_container;
+pub use scripts::pef_link;
+pub use scripts::pef_script_place;
+pub use structs::PefEntries;
+pub use structs::PefExport;
+pub use structs::PefFinding;
+pub use structs::PefFixup;
+pub use structs::PefFragmentSection;
+pub use structs::PefHeader;
+pub use structs::PefImport;
+pub use structs::PefLibrary;
+pub use structs::PefLoader;
+pub use structs::PefMissing;
+pub use structs::PefNames;
+pub use structs::PefPlace;
+pub use structs::PefRelocation;
+pub use structs::PefSection;
+pub use structs::PefTarget;
+pub use theorems::add_names;
+pub use theorems::close_names;
+pub use theorems::container_names;
+pub use theorems::finding_names;
+pub use theorems::granule_names;
+pub use theorems::listing_names;
+pub use theorems::loader_names;
+pub use theorems::packed_names;
+pub use theorems::remove_names;
+pub use theorems::script_names;

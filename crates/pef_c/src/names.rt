@@ -76,6 +76,9 @@ fn library_name(number: u32) -> Option<&'static str>
         204 => Some("StoreFull"),
         205 => Some("BadGranule"),
         206 => Some("BadOptions"),
+        207 => Some("StillPresent"),
+        208 => Some("StillNamed"),
+        209 => Some("NameTaken"),
         _ => None,
     }
 }
@@ -98,6 +101,15 @@ fn library_help(number: u32) -> Option<&'static str>
         205 => Some("The granule isn't a power of two, or is below 16."),
         206 => Some(
             "The size of the options isn't that of this library's struct. Set it to sizeof, and build with the header of this library.",
+        ),
+        207 => Some(
+            "The closure of an open connection has this fragment. Close its connections first.",
+        ),
+        208 => Some(
+            "A fragment of an open connection has a weak library of this name, whose version didn't fit. Remove this fragment after that connection is closed.",
+        ),
+        209 => Some(
+            "The context has a fragment with this name, which stays the first. Remove it first, or add this one by pef_add.",
         ),
         _ => None,
     }

@@ -1,4 +1,8 @@
 //! The structs of `include/pef.h`, field by field.
+ghost use Rattle.std.specs.Prelude.{◌≡◌};
+
+use pef_format::{ExportView, ImportView};
+use pef_loader::LibraryView;
 
 /// A container's header.
 #[repr(C)]
@@ -76,6 +80,26 @@ pub struct PefLibrary<'a> {
     pub options: u8,
 }
 
+impl<'a> PefLibrary<'a> {
+    ghost use Rattle.pef_loader.specs.Views.{library_seen};
+    ghost use Rattle.pef_c.specs.Containers.Rows.{library_shown};
+
+    /// Returns a library as C sees it.
+    pub(crate) fn of(library: LibraryView<'a>) -> PefLibrary<'a>
+        ensures { library_shown result ≡ library_seen library.entry }
+    {
+        let fields = library.fields;
+        PefLibrary {
+            name: library.name,
+            current_version: fields.current,
+            old_imp_version: fields.old_imp,
+            import_count: fields.count,
+            first_import: fields.first,
+            options: fields.options,
+        }
+    }
+}
+
 /// An imported symbol.
 #[repr(C)]
 #[derive(Clone, Copy, Debug)]
@@ -84,6 +108,23 @@ pub struct PefImport<'a> {
     pub library: usize,
     pub class: u8,
     pub weak: bool,
+}
+
+impl<'a> PefImport<'a> {
+    ghost use Rattle.pef_format.specs.Symbols.{import_seen};
+    ghost use Rattle.pef_c.specs.Containers.Rows.{import_shown};
+
+    /// Returns an import as C sees it.
+    pub(crate) fn of(import: ImportView<'a>) -> PefImport<'a>
+        ensures { import_shown result ≡ import_seen import.entry }
+    {
+        PefImport {
+            name: import.name,
+            library: import.library,
+            class: import.fields.class,
+            weak: import.fields.weak,
+        }
+    }
 }
 
 /// A relocation header: the bytes of its instructions, and the section that they relocate.
@@ -113,6 +154,23 @@ pub struct PefExport<'a> {
     pub section: i32,
     pub value: u32,
     pub class: u8,
+}
+
+impl<'a> PefExport<'a> {
+    ghost use Rattle.pef_format.specs.Exports.{export_seen};
+    ghost use Rattle.pef_c.specs.Containers.Rows.{export_shown};
+
+    /// Returns an export as C sees it.
+    pub(crate) fn of(export: ExportView<'a>) -> PefExport<'a>
+        ensures { export_shown result ≡ export_seen export.entry }
+    {
+        PefExport {
+            name: export.name,
+            section: export.fields.section,
+            value: export.fields.value,
+            class: export.fields.class,
+        }
+    }
 }
 
 /// The names that are reported with a refusal. A name that isn't reported is empty.

@@ -1,7 +1,7 @@
 //! Laws: the number of each refusal and of each note has its name. The functions do nothing.
 ghost use Rattle.std.specs.Prelude.{◌≡◌, Some};
 ghost use Rattle.cfm_memory.specs.Faults.{granule_fault_name, granule_fault_number};
-ghost use Rattle.cfm_prepare.specs.Faults.{add_fault_name, add_fault_number, close_fault_name, close_fault_number};
+ghost use Rattle.cfm_prepare.specs.Faults.{add_fault_name, add_fault_number, close_fault_name, close_fault_number, remove_fault_name, remove_fault_number};
 ghost use Rattle.pef_inspect.specs.Findings.{finding_name, finding_number};
 ghost use Rattle.pef_listing.specs.Faults as listing;
 ghost use Rattle.pef_loader.specs.Faults as loader;
@@ -11,7 +11,7 @@ ghost use Rattle.pef_views.specs.Faults as views;
 ghost use Rattle.pef_c.specs.Names.{name_of};
 
 use cfm_memory::GranuleFault;
-use cfm_prepare::{AddFault, CloseFault};
+use cfm_prepare::{AddFault, CloseFault, RemoveFault};
 use pef_inspect::Finding;
 use pef_listing::ListFault;
 use pef_loader::LoaderFault;
@@ -59,6 +59,12 @@ pub fn finding_names(finding: Finding)
 #[tactic(auto, unfolding(pef_refusals::specs::Names::port_name, crate::specs::Names::library_name))]
 pub fn add_names(fault: AddFault)
     ensures { name_of (add_fault_number fault) ≡ Some (add_fault_name fault) }
+{}
+
+/// The number of the refusal of a fragment that isn't removed has its name.
+#[tactic(auto, unfolding(pef_refusals::specs::Names::closure_name, pef_refusals::specs::Names::port_name, crate::specs::Names::library_name))]
+pub fn remove_names(fault: RemoveFault)
+    ensures { name_of (remove_fault_number fault) ≡ Some (remove_fault_name fault) }
 {}
 
 /// The number of a refused closing has its name.

@@ -225,7 +225,8 @@ pub const PEF_NOTE_NAME_OUTSIDE: u32 = 121;
 
 // Only this library returns these: the caller's buffer is too small; there is no such thing; the context isn't open; a
 // fragment of an open connection was prepared without the weak library that is added; the context has as many fragments as
-// it may; the granule is none; the options have another size.
+// it may; the granule is none; the options have another size; the fragment is present; a fragment of an open connection names
+// it as a library; a fragment has the name already.
 pub const PEF_ROOM_TOO_SMALL: u32 = 200;
 
 pub const PEF_NOT_THERE: u32 = 201;
@@ -240,7 +241,13 @@ pub const PEF_BAD_GRANULE: u32 = 205;
 
 pub const PEF_BAD_OPTIONS: u32 = 206;
 
-// How many fragments a context has at most, and how many connections it gives if no other number was asked for, closed ones
+pub const PEF_STILL_PRESENT: u32 = 207;
+
+pub const PEF_STILL_NAMED: u32 = 208;
+
+pub const PEF_NAME_TAKEN: u32 = 209;
+
+// How many fragments a context has at most at a time, and how many connections it gives if no other number was asked for, closed ones
 // included.
 pub const PEF_MAX_FRAGMENTS: usize = 256;
 
@@ -665,7 +672,8 @@ pub struct pef_member {
 /// nothing, if the context isn't open: `pef_open()` wasn't called, failed, or was followed by `pef_free()`. Several contexts may be
 /// open at once, also in different threads.
 ///
-/// A fragment is named by its number, counted from 0 in the order in which fragments were added. It is present while the
+/// A fragment is named by its number, counted from 0 in the order in which fragments were added. The number of a removed one is
+/// free, and goes to the next fragment whose name isn't there. A fragment is present while the
 /// closure of an open connection has it: the fragment that was prepared, with all fragments that it needs. A present
 /// fragment keeps its addresses. Its sections are numbered as in its container, and only instantiated sections are in
 /// memory. A call on a fragment looks it up, however many there are.
@@ -866,7 +874,6 @@ extern "C" {
     /// PEF_NOTE_PROGRAMS_UNVERIFIED.
     ///
     /// Returns PEF_OK; or PEF_OUT_OF_MEMORY, and leaves `places` and `*count` unchanged.
-    #[cfg(feature = "native")]
     pub fn pef_more_notes(container: *const u8, container_length: usize, from: usize, places: *mut pef_finding, place_count: usize, count: *mut usize) -> u32;
 
     /// Makes the report on a file, to be read by `pef_report_next()`: the object of JSON that `pef inspect --json` prints of it, on one line
@@ -1044,10 +1051,11 @@ extern "C" {
     /// Adds a fragment: its name, and the bytes of its container. They are read by each preparation, and refused then. If two
     /// fragments have the same name, the first is used.
     ///
-    /// `name` and `bytes` are kept, not copied: both have to stay, unchanged, until `pef_free()` of this context returns. From then on
-    /// they are the caller's again. Names that the library gave are parts of them.
+    /// `name` and `bytes` are kept, not copied: both have to stay, unchanged, until `pef_remove()` of this fragment or `pef_free()` of this
+    /// context returns. From then on they are the caller's again. Names that the library gave are parts of them.
     ///
-    /// Fragments may be added at any time, also while connections are open. Those stay as they are.
+    /// Fragments may be added at any time, also while connections are open. Those stay as they are. A fragment whose name isn't there
+    /// gets the first number that is free, and any other the number after all others, so that the first with a name stays the first.
     ///
     /// Returns PEF_OK; or PEF_ADDED_TOO_LATE, if a fragment of an open connection has a weak library of this name, and was
     /// prepared without it; or PEF_STORE_FULL, if the context has PEF_MAX_FRAGMENTS fragments; or PEF_OUT_OF_MEMORY. The
@@ -1055,7 +1063,21 @@ extern "C" {
     #[cfg(feature = "native")]
     pub fn pef_add(context: *mut pef_context, name: *const u8, name_length: usize, bytes: *const u8, bytes_length: usize) -> u32;
 
-    /// Takes `size` addresses from `address` on out of use, as long as the context is open: no section is placed in them. The
+    /// Adds a fragment as `pef_add()` does, if none has its name. Otherwise returns PEF_NAME_TAKEN, and the context is unchanged: a second
+    /// fragment of a name is never used as long as the first one is there.
+    #[cfg(feature = "native")]
+    pub fn pef_add_new(context: *mut pef_context, name: *const u8, name_length: usize, bytes: *const u8, bytes_length: usize) -> u32;
+
+    /// Removes the first fragment of a name. If another one has the name, that is the first then. The numbers of the others don't change,
+    /// and neither do open connections. The name and the bytes that were added are the caller's again.
+    ///
+    /// Returns PEF_OK; or PEF_ROOT_MISSING, if no fragment has the name; or PEF_STILL_PRESENT, if the fragment is present; or
+    /// PEF_STILL_NAMED, if a fragment of an open connection names it as a library: a weak one, whose version didn't fit; or
+    /// PEF_OUT_OF_MEMORY. The context is changed only if PEF_OK is returned.
+    #[cfg(feature = "native")]
+    pub fn pef_remove(context: *mut pef_context, name: *const u8, name_length: usize) -> u32;
+
+    /// Takes `size` addresses from `address` on out of use, until pef_unreserve gives them back: no section is placed in them. The
     /// range begins at the multiple of 16 at or below `address`, and ends at the one at or above its end. A size of 0 takes
     /// nothing.
     ///
@@ -1063,6 +1085,14 @@ extern "C" {
     /// bits; or PEF_OUT_OF_MEMORY. The context is changed only if PEF_OK is returned.
     #[cfg(feature = "native")]
     pub fn pef_reserve(context: *mut pef_context, address: u32, size: u32) -> u32;
+
+    /// Gives back a range that pef_reserve took out of use for the same numbers, or for others with the same ends: sections can
+    /// be placed there again. A size of 0 gives nothing back.
+    ///
+    /// Returns PEF_OK; or PEF_NOT_THERE, if the addresses aren't exactly such a range, also if they are a part of one or several.
+    /// The context is changed only if PEF_OK is returned.
+    #[cfg(feature = "native")]
+    pub fn pef_unreserve(context: *mut pef_context, address: u32, size: u32) -> u32;
 
     /// Gives the libraries that are missing for the fragment of a name and for all that it needs, in the order in which `pef_prepare()`
     /// looks for them, each name once: those from number `from` on in the first of `places`, and how many they were in `*count`, which

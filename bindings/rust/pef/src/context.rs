@@ -166,7 +166,40 @@ impl<'a> Context<'a> {
         self.shared.write().add(name.as_ref(), bytes).map_err(Error::new)
     }
 
-    /// Takes addresses out of use, as long as the context is open: no section is placed in them.
+    /// Adds a fragment as [`add`](Self::add) does, if none has its name.
+    ///
+    /// # Errors
+    ///
+    /// 209 if a fragment has the name; or those of [`add`](Self::add). The context is changed only if there is no error.
+    pub fn add_new<N: AsRef<[u8]> + ?Sized>(&self, name: &'a N, bytes: &'a [u8]) -> Result<(), Error> {
+        self.shared.write().add_new(name.as_ref(), bytes).map_err(Error::new)
+    }
+
+    /// Removes the first fragment of a name. If another one has the name, that is the first then. The numbers of the others don't change, and
+    /// neither do open connections. The number of the removed one goes to the next fragment that is added and whose name isn't there.
+    ///
+    /// ```
+    /// let (one, other) = (pef::link("versions 1 0 0\n")?, pef::link("versions 2 0 0\n")?);
+    /// let context = pef::Context::new()?;
+    /// context.add("Plug-in", &one)?;
+    /// let connection = context.prepare("Plug-in")?;
+    /// assert_eq!(context.remove("Plug-in").unwrap_err().number(), 207);
+    /// connection.close()?;
+    /// context.remove("Plug-in")?;
+    /// context.add("Other", &other)?;
+    /// assert_eq!(context.fragment_name(0), Some(&b"Other"[..]));
+    /// # Ok::<(), Box<dyn std::error::Error>>(())
+    /// ```
+    ///
+    /// # Errors
+    ///
+    /// 60 if no fragment has the name; 207 if it is present; 208 if a fragment of an open connection names it as a library (a weak one, whose
+    /// version didn't fit); or 99. The context is changed only if there is no error.
+    pub fn remove<N: AsRef<[u8]> + ?Sized>(&self, name: &N) -> Result<(), Error> {
+        self.shared.write().remove(name.as_ref()).map_err(Error::new)
+    }
+
+    /// Takes addresses out of use, until [`unreserve`](Self::unreserve) gives them back: no section is placed in them.
     ///
     /// The range begins at the multiple of 16 at or below the address, and ends at the one at or above its end. A size of 0 takes nothing.
     ///
@@ -175,6 +208,15 @@ impl<'a> Context<'a> {
     /// 67 if the range meets a section in memory or another range, or passes the last address of 32 bits; or 99.
     pub fn reserve(&self, address: u32, size: u32) -> Result<(), Error> {
         self.shared.write().reserve(address, size).map_err(Error::new)
+    }
+
+    /// Gives back a range that [`reserve`](Self::reserve) took out of use: sections can be placed there again. A size of 0 gives nothing back.
+    ///
+    /// # Errors
+    ///
+    /// 201 if the addresses aren't exactly such a range, also if they are a part of one or several.
+    pub fn unreserve(&self, address: u32, size: u32) -> Result<(), Error> {
+        self.shared.write().unreserve(address, size).map_err(Error::new)
     }
 
     /// The libraries that are missing for the fragment of a name and for all that it needs, in the order in which
@@ -229,7 +271,7 @@ impl<'a> Context<'a> {
         self.shared.read().is_present(name.as_ref())
     }
 
-    /// The name of a fragment by its number, from 0 in the order in which they were added.
+    /// The name of a fragment by its number, from 0 in the order in which they were added. `None` if no fragment has the number.
     pub fn fragment_name(&self, number: usize) -> Option<&'a [u8]> {
         self.shared.read().name(number)
     }
@@ -237,12 +279,24 @@ impl<'a> Context<'a> {
 
 impl fmt::Debug for Context<'_> {
     fn fmt(&self, out: &mut fmt::Formatter<'_>) -> fmt::Result {
-        let names: Vec<_> = (0..).map_while(|number| self.fragment_name(number)).map(Text).collect();
+        let names: Vec<_> = (0..sys::PEF_MAX_FRAGMENTS).filter_map(|number| self.fragment_name(number)).map(Text).collect();
         out.debug_struct("Context").field("fragments", &names).finish()
     }
 }
 
 /// A library that a fragment names, and that no fragment of the context serves.
+///
+/// ```
+/// let app = pef::link("library Tools 2 1 -\n")?;
+/// let context = pef::Context::new()?;
+/// context.add("App", &app)?;
+/// for library in context.missing("App")? {
+///     let by = context.fragment_name(library.fragment).unwrap_or_default();
+///     println!("{} needs {}", by.escape_ascii(), library.name.escape_ascii());
+///     assert!(!library.weak && library.found.is_none());
+/// }
+/// # Ok::<(), Box<dyn std::error::Error>>(())
+/// ```
 #[derive(Clone, Copy, PartialEq, Eq)]
 #[non_exhaustive]
 pub struct MissingLibrary<'a> {
@@ -399,6 +453,17 @@ impl fmt::Debug for Connection<'_> {
 }
 
 /// Fragments of a connection.
+///
+/// ```
+/// let (tools, app) = (pef::link("")?, pef::link("library Tools 0 0 -\n")?);
+/// let context = pef::Context::new()?;
+/// context.add("App", &app)?;
+/// context.add("Tools", &tools)?;
+/// let connection = context.prepare("App")?;
+/// let names: Vec<_> = connection.fragments().map(|it| it.name()).collect();
+/// assert_eq!(names, [b"Tools".as_slice(), b"App"]);
+/// # Ok::<(), Box<dyn std::error::Error>>(())
+/// ```
 #[derive(Clone)]
 pub struct Fragments<'c, 'a> {
     connection: &'c Connection<'a>,
@@ -517,6 +582,15 @@ impl fmt::Debug for Fragment<'_, '_> {
 }
 
 /// The addresses at which a fragment is entered, as far as it has them.
+///
+/// ```
+/// let app = pef::link("section data data process 4 8\nmain data 0\ninit data 4\n")?;
+/// let context = pef::Context::new()?;
+/// context.add("App", &app)?;
+/// let entries = context.prepare("App")?.root().entries();
+/// assert_eq!((entries.main, entries.init, entries.term), (Some(0x10000), Some(0x10004), None));
+/// # Ok::<(), Box<dyn std::error::Error>>(())
+/// ```
 #[derive(Clone, Copy, Debug, Default, PartialEq, Eq, Hash)]
 pub struct Entries {
     /// The initialization routine.
@@ -534,6 +608,15 @@ impl Entries {
 }
 
 /// What an import means.
+///
+/// ```
+/// let app = pef::link("library Tools 1 0 weak\nimport answer data weak\n")?;
+/// let context = pef::Context::new()?;
+/// context.add("App", &app)?;
+/// let connection = context.prepare("App")?;
+/// assert!(matches!(connection.root().import_target(0), Some(pef::Target::Missing)));
+/// # Ok::<(), Box<dyn std::error::Error>>(())
+/// ```
 #[derive(Clone, Copy, Debug)]
 #[non_exhaustive]
 pub enum Target<'c, 'a> {
@@ -646,6 +729,16 @@ impl fmt::Debug for PlacedSection<'_, '_> {
 }
 
 /// The sections of a fragment that are in memory.
+///
+/// ```
+/// let app = pef::link("section code code global 4 4\nsection data data process 4 4\n")?;
+/// let context = pef::Context::new()?;
+/// context.add("App", &app)?;
+/// let connection = context.prepare("App")?;
+/// let addresses: Vec<_> = connection.root().sections().map(|it| it.address()).collect();
+/// assert_eq!(addresses, [0x10000, 0x10010]);
+/// # Ok::<(), Box<dyn std::error::Error>>(())
+/// ```
 #[derive(Clone)]
 pub struct PlacedSections<'c, 'a> {
     fragment: Fragment<'c, 'a>,

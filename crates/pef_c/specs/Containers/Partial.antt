@@ -10,6 +10,7 @@ use Rattle.pef_views.specs.Partial.{header_in, name_of_section, partial_of, sect
 use Rattle.pef_views.specs.Section.{raw_of}
 use Rattle.pef_views.specs.declared.fault.ViewFault.{ViewFault}
 use Rattle.pef_views.specs.declared.section.SectionHeader.{SectionHeader}
+use Rattle.pef_format.specs.Rows.{named}
 use Rattle.pef_loader.specs.Faults as loader
 use Rattle.pef_loader.specs.Header.{imports_from, library_place, relocs_from}
 use Rattle.pef_loader.specs.Library.{Library}
@@ -84,19 +85,19 @@ PartLoaderAnswers bytes old new answer =
 -- rows as C sees them: what is missing has no bytes, and a library that no import belongs to has the greatest number
 
 abbrev pub library_part : LibraryRow → Library
-library_part r = record { name = unwrap_or r.name []; current = r.current; old_imp = r.old_imp; count = r.count; first = r.first; options = r.options }
+library_part r = named (λ name. unwrap_or name []) r
 
 abbrev pub no_library : ℕ
 no_library = 2 ^ 64 - 1
 
 abbrev pub import_part : ImportRow → Import
-import_part r = record { name = unwrap_or r.name []; class = r.class; weak = r.weak; library = unwrap_or r.library no_library }
+import_part r = record { name = unwrap_or r.name []; class = r.fields.class; weak = r.fields.weak; library = unwrap_or r.library no_library }
 
 abbrev pub relocation_part : RelocationRow → ℕ × List ℕ
 relocation_part r = (r.section, unwrap_or r.program [])
 
 abbrev pub export_part : ExportRow → Export
-export_part r = record { name = unwrap_or r.name []; class = r.class; section = r.section; value = r.value }
+export_part r = record { name = unwrap_or r.name []; class = r.fields.class; section = r.fields.section; value = r.fields.value }
 
 -- the rows of each table, by their numbers
 

@@ -14,7 +14,10 @@ use Rattle.pef_c.specs.declared.structs.PefRelocation.{PefRelocation}
 -- the rows that the structs hold
 
 abbrev pub library_shown : PefLibrary → Library
-library_shown v = record { name = v.name.now; current = v.current_version; old_imp = v.old_imp_version; count = v.import_count; first = v.first_import; options = v.options }
+library_shown v = record {
+  fields = record { current = v.current_version; old_imp = v.old_imp_version; count = v.import_count; first = v.first_import; options = v.options };
+  name = v.name.now;
+}
 
 abbrev pub import_shown : PefImport → Import
 import_shown v = record { name = v.name.now; class = v.class; weak = v.weak; library = v.library }

@@ -1,13 +1,16 @@
 -- What the calls return and write that change a context. 202 means that it isn't open.
-use Rattle.std.specs.Prelude.{◌≡◌, ◌==◌, ℕ, List, [], Option, None, Some, MatchBool}
+use Rattle.std.specs.Prelude.{◌≡◌, ◌==◌, ℕ, List, [], Option, None, Some, MatchBool, MatchOption}
+use Rattle.cfm_closure.specs.Stores.{place_of}
 use Rattle.cfm_memory.specs.Faults.{fault_number as memory_fault_number}
-use Rattle.cfm_memory.specs.Reservation.{MayNotReserve}
+use Rattle.cfm_memory.specs.Reservation.{IsNoRange, MayNotReserve}
 use Rattle.cfm_memory.specs.declared.place.MemoryFault.{MemoryFault}
 use Rattle.cfm_prepare.specs.Contexts.{ContextState, fresh_state, open_of}
-use Rattle.cfm_prepare.specs.Faults.{add_fault_number, fault_number}
-use Rattle.cfm_prepare.specs.Steps.{Adds, Closes, MayNotAdd, MayNotPrepare, Prepares, TakesOut}
+use Rattle.cfm_prepare.specs.Faults.{add_fault_number, fault_number, remove_fault_number}
+use Rattle.cfm_prepare.specs.Removals.{MayNotRemove, Removes}
+use Rattle.cfm_prepare.specs.Steps.{Adds, Closes, MayNotAdd, MayNotPrepare, Prepares, PutsBack, TakesOut}
 use Rattle.cfm_prepare.specs.declared.add_fault.AddFault.{AddFault}
 use Rattle.cfm_prepare.specs.declared.fault.PrepareFault.{PrepareFault}
+use Rattle.cfm_prepare.specs.declared.remove_fault.RemoveFault.{RemoveFault}
 use Rattle.pef_faults.specs.Names as faults
 use Rattle.pef_faults.specs.Places.{fault_place}
 use Rattle.pef_faults.specs.declared.fault.Fault.TheVariants.{Prepare}
@@ -42,6 +45,26 @@ AddsIn name bytes s t answer = MatchBool (answer == 0) (Adds s name bytes t) ((t
 abbrev pub AddAnswers : List ℕ → List ℕ → Option ContextState → Option ContextState → ℕ → Type 0
 AddAnswers name bytes old new answer = Changes (answer ≡ 202) (λ s t. AddsIn name bytes s t answer) old new
 
+-- a fragment is added if none has its name, or refused
+abbrev pub NewAddsIn : List ℕ → List ℕ → ContextState → ContextState → ℕ → Type 0
+NewAddsIn name bytes s t answer = MatchOption (place_of s.pairs name) (AddsIn name bytes s t answer) (λ p. (answer ≡ 209) × (t ≡ s))
+
+-- what `pef_add_new` returns and changes
+abbrev pub NewAddAnswers : List ℕ → List ℕ → Option ContextState → Option ContextState → ℕ → Type 0
+NewAddAnswers name bytes old new answer = Changes (answer ≡ 202) (λ s t. NewAddsIn name bytes s t answer) old new
+
+-- the number says why the fragment with this name isn't removed
+abbrev pub IsNotRemoved : ContextState → List ℕ → ℕ → Type 0
+IsNotRemoved s name answer = (fault : RemoveFault) × MayNotRemove s name fault × (answer ≡ remove_fault_number fault)
+
+-- a fragment is removed, or refused
+abbrev pub RemovesIn : List ℕ → ContextState → ContextState → ℕ → Type 0
+RemovesIn name s t answer = MatchBool (answer == 0) (Removes s name t) ((t ≡ s) × IsNotRemoved s name answer)
+
+-- what `pef_remove` returns and changes
+abbrev pub RemoveAnswers : List ℕ → Option ContextState → Option ContextState → ℕ → Type 0
+RemoveAnswers name old new answer = Changes (answer ≡ 202) (λ s t. RemovesIn name s t answer) old new
+
 -- the number says why the addresses aren't reserved
 abbrev pub IsNotReserved : ContextState → ℕ → ℕ → ℕ → Type 0
 IsNotReserved s address size answer = (fault : MemoryFault) × MayNotReserve s.memory address size fault × (answer ≡ memory_fault_number fault)
@@ -53,6 +76,14 @@ ReservesIn address size s t answer = MatchBool (answer == 0) (TakesOut s address
 -- what `pef_reserve` returns and changes
 abbrev pub ReserveAnswers : ℕ → ℕ → Option ContextState → Option ContextState → ℕ → Type 0
 ReserveAnswers address size old new answer = Changes (answer ≡ 202) (λ s t. ReservesIn address size s t answer) old new
+
+-- a range that was reserved is given back, or there is none
+abbrev pub UnreservesIn : ℕ → ℕ → ContextState → ContextState → ℕ → Type 0
+UnreservesIn address size s t answer = MatchBool (answer == 0) (PutsBack s address size t) ((answer ≡ 201) × IsNoRange s.memory address size × (t ≡ s))
+
+-- what `pef_unreserve` returns and changes
+abbrev pub UnreserveAnswers : ℕ → ℕ → Option ContextState → Option ContextState → ℕ → Type 0
+UnreserveAnswers address size old new answer = Changes (answer ≡ 202) (λ s t. UnreservesIn address size s t answer) old new
 
 -- the names of a fragment, of its library and of its symbol
 pub record Names : Type 0 where

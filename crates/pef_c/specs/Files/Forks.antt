@@ -3,8 +3,8 @@ use Rattle.std.specs.Prelude.{◌≡◌, ◌==◌, ℕ, List, Option, None, Some
 use Rattle.mac_forks.specs.Faults.{fault_number}
 use Rattle.mac_forks.specs.MacFile.{MacFileIs, mac_file_of}
 use Rattle.mac_forks.specs.declared.fault.ForkFault.{ForkFault}
-use Rattle.cfm_members.specs.FragmentFaults.{fragment_fault_number}
-use Rattle.cfm_members.specs.declared.fragment_fault.FragmentFault.{FragmentFault}
+use Rattle.cfm_members.specs.MemberLookupFaults.{member_lookup_fault_number}
+use Rattle.cfm_members.specs.declared.member_lookup_fault.MemberLookupFault.{MemberLookupFault}
 use Rattle.pef_c.specs.Files.Parts.{ForksRow, forks_row}
 
 -- `pef_forks`: 0, and the forks of the file; or the error of its header, and nothing is written
@@ -15,10 +15,10 @@ ForksAnswers bytes old new answer =
     ((new ≡ old) × (fault : ForkFault) × (mac_file_of bytes ≡ Err fault) × (answer ≡ fault_number fault))
 
 -- `pef_file_container` and `pef_fork_container`: 0, and the container; or the error, and nothing is written
-abbrev pub FoundAnswers : Result (List ℕ) FragmentFault → List ℕ → List ℕ → ℕ → Type 0
+abbrev pub FoundAnswers : Result (List ℕ) MemberLookupFault → List ℕ → List ℕ → ℕ → Type 0
 FoundAnswers found old new answer =
     MatchBool (answer == 0) (found ≡ Ok new)
-    ((new ≡ old) × (fault : FragmentFault) × (found ≡ Err fault) × (answer ≡ fragment_fault_number fault))
+    ((new ≡ old) × (fault : MemberLookupFault) × (found ≡ Err fault) × (answer ≡ member_lookup_fault_number fault))
 
 -- `pef_numbered_container`: 0, and the container; or 80, and nothing is written
 abbrev pub NumberedAnswers : Option (List ℕ) → List ℕ → List ℕ → ℕ → Type 0

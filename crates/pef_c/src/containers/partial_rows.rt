@@ -9,6 +9,7 @@ ghost use Rattle.pef_c.specs.Containers.Rows.{export_shown, import_shown, librar
 use crate::containers::partial::read_part;
 use crate::fill::{Table, fill_table};
 use crate::structs::{PefExport, PefImport, PefLibrary, PefRelocation};
+use pef_format::{Imported, Named};
 use pef_loader::{
     PartialExport, PartialImport, PartialImports, PartialLibrary, PartialLoader, PartialRelocation,
 };
@@ -184,26 +185,21 @@ impl<'a> Table<PefExport<'a>> for PartialLoader<'a> {
 fn library_given<'a>(library: PartialLibrary<'a>) -> PefLibrary<'a>
     ensures { library_shown result ≡ library_part (library_seen library.entry) }
 {
-    PefLibrary {
+    PefLibrary::of(Named {
+        fields: library.fields,
         name: bytes_or_none(library.name),
-        current_version: library.current,
-        old_imp_version: library.old_imp,
-        import_count: library.count,
-        first_import: library.first,
-        options: library.options,
-    }
+    })
 }
 
 /// Returns an import as C sees it.
 fn import_given<'a>(import: PartialImport<'a>) -> PefImport<'a>
     ensures { import_shown result ≡ import_part (import_seen import.entry) }
 {
-    PefImport {
+    PefImport::of(Imported {
+        fields: import.fields,
         name: bytes_or_none(import.name),
         library: import.library.unwrap_or(NO_LIBRARY),
-        class: import.class,
-        weak: import.weak,
-    }
+    })
 }
 
 /// Returns a relocation header as C sees it.
@@ -220,12 +216,10 @@ fn relocation_given<'a>(relocation: PartialRelocation<'a>) -> PefRelocation<'a>
 fn export_given<'a>(export: PartialExport<'a>) -> PefExport<'a>
     ensures { export_shown result ≡ export_part (export_seen export.entry) }
 {
-    PefExport {
+    PefExport::of(Named {
+        fields: export.fields,
         name: bytes_or_none(export.name),
-        section: export.section,
-        value: export.value,
-        class: export.class,
-    }
+    })
 }
 
 /// Returns bytes, or none if they are missing.

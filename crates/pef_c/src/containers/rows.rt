@@ -1,17 +1,14 @@
 //! The rows of a loader section's tables. Each call reads the whole section, and then as many rows as the caller has
 //! places for, so reading n rows in one call takes time linear in n. An export is also found by its name.
 ghost use Rattle.std.specs.Prelude.{◌≡◌};
-ghost use Rattle.pef_format.specs.Exports.{export_seen};
-ghost use Rattle.pef_format.specs.Symbols.{import_seen};
-ghost use Rattle.pef_loader.specs.Views.{library_seen, reloc_seen};
-ghost use Rattle.pef_c.specs.Containers.Rows.{ExportsAnswer, ImportsAnswer, LibrariesAnswer, NamedAnswer, RelocationsAnswer, export_shown, import_shown, library_shown, relocation_shown};
+ghost use Rattle.pef_loader.specs.Views.{reloc_seen};
+ghost use Rattle.pef_c.specs.Containers.Rows.{ExportsAnswer, ImportsAnswer, LibrariesAnswer, NamedAnswer, RelocationsAnswer, export_shown, relocation_shown};
 
 use crate::answers::{NOT_THERE, given};
 use crate::containers::loader::read_tables;
 use crate::fill::{Table, fill_table};
 use crate::structs::{PefExport, PefImport, PefLibrary, PefRelocation};
-use pef_format::{ExportView, ImportView};
-use pef_loader::{ImportReader, LibraryView, Loader};
+use pef_loader::{ImportReader, Loader};
 
 /// Reads the imported libraries from number `from` on into the first places, and counts them.
 ///
@@ -120,7 +117,7 @@ pub extern "C" fn pef_export_named<'a>(
         unreachable!()
     };
     *number = place;
-    *export = export_given(found);
+    *export = PefExport::of(found);
     0
 }
 
@@ -138,7 +135,7 @@ impl<'a> Table<PefLibrary<'a>> for Loader<'a> {
 
     fn row(&mut self, i: usize) -> Option<PefLibrary<'a>> {
         match self.library(i) {
-            Some(row) => Some(library_given(row)),
+            Some(row) => Some(PefLibrary::of(row)),
             None => None,
         }
     }
@@ -158,7 +155,7 @@ impl<'a> Table<PefImport<'a>> for ImportReader<'a> {
 
     fn row(&mut self, i: usize) -> Option<PefImport<'a>> {
         match self.import(i) {
-            Some(row) => Some(import_given(row)),
+            Some(row) => Some(PefImport::of(row)),
             None => None,
         }
     }
@@ -198,35 +195,9 @@ impl<'a> Table<PefExport<'a>> for Loader<'a> {
 
     fn row(&mut self, i: usize) -> Option<PefExport<'a>> {
         match self.export(i) {
-            Some(row) => Some(export_given(row)),
+            Some(row) => Some(PefExport::of(row)),
             None => None,
         }
-    }
-}
-
-/// Returns a library as C sees it.
-fn library_given<'a>(library: LibraryView<'a>) -> PefLibrary<'a>
-    ensures { library_shown result ≡ library_seen library.entry }
-{
-    PefLibrary {
-        name: library.name,
-        current_version: library.current,
-        old_imp_version: library.old_imp,
-        import_count: library.count,
-        first_import: library.first,
-        options: library.options,
-    }
-}
-
-/// Returns an import as C sees it.
-fn import_given<'a>(import: ImportView<'a>) -> PefImport<'a>
-    ensures { import_shown result ≡ import_seen import.entry }
-{
-    PefImport {
-        name: import.name,
-        library: import.library,
-        class: import.class,
-        weak: import.weak,
     }
 }
 
@@ -238,17 +209,5 @@ fn relocation_given<'a>(relocation: (u32, &'a [u8])) -> PefRelocation<'a>
     PefRelocation {
         instructions,
         section,
-    }
-}
-
-/// Returns an export as C sees it.
-fn export_given<'a>(export: ExportView<'a>) -> PefExport<'a>
-    ensures { export_shown result ≡ export_seen export.entry }
-{
-    PefExport {
-        name: export.name,
-        section: export.section,
-        value: export.value,
-        class: export.class,
     }
 }

@@ -2,17 +2,17 @@
 //! out of the handle and puts it back.
 ghost use Rattle.std.specs.Prelude.{◌≡◌, ◌==◌, None, false};
 ghost use Rattle.cfm_memory.specs.Faults as memory;
-ghost use Rattle.cfm_prepare.specs.Faults.{add_fault_number, close_fault_number, fault_number};
-ghost use Rattle.pef_c.specs.Contexts.Context.{AddAnswers, AddsIn, CloseAnswers, ClosesIn, OpenAnswers, PlacedPrepareAnswers, PrepareAnswers, PreparesIn, ReserveAnswers, ReservesIn, held, names_shown};
+ghost use Rattle.cfm_prepare.specs.Faults.{add_fault_number, close_fault_number, fault_number, remove_fault_number};
+ghost use Rattle.pef_c.specs.Contexts.Context.{AddAnswers, AddsIn, CloseAnswers, ClosesIn, NewAddAnswers, NewAddsIn, OpenAnswers, PlacedPrepareAnswers, PrepareAnswers, PreparesIn, RemoveAnswers, RemovesIn, ReserveAnswers, ReservesIn, UnreserveAnswers, UnreservesIn, held, names_shown};
 
-use crate::answers::{NOT_OPEN, OUT_OF_MEMORY, given};
+use crate::answers::{NAME_TAKEN, NOT_OPEN, NOT_THERE, OUT_OF_MEMORY, given};
 use crate::contexts::handle::{PefContext, put, take};
 use crate::contexts::refusal_names::{names_of, place_of};
 use crate::place::place_or_nowhere;
 use crate::structs::{PefNames, PefPlace};
 use cfm_closure::Store;
 use cfm_memory::MemoryFault;
-use cfm_prepare::{AddFault, CloseFault, Connection, Context, PrepareFault};
+use cfm_prepare::{AddFault, CloseFault, Connection, Context, PrepareFault, RemoveFault};
 use std::alloc::Global;
 
 /// Opens a context without fragments. No section may pass the address `limit`. A context that was open is freed.
@@ -71,6 +71,62 @@ fn add_in(context: &mut Context<'static>, name: &'static [u8], bytes: &'static [
     }
 }
 
+/// Adds a fragment as `pef_add` does, if none has its name.
+///
+/// Returns 0, or 202 if the context isn't open, or 209 if a fragment has the name, or 203, 204 or 99. The context is changed
+/// only if it returns 0.
+#[unsafe(no_mangle)]
+pub extern "C" fn pef_add_new(
+    alloc: Global,
+    context: &mut PefContext,
+    name: &'static [u8],
+    bytes: &'static [u8],
+) -> u32
+    ensures { NewAddAnswers name.entry.now bytes.entry.now (held context.old) (held context.new) result }
+{
+    let Some(mut boxed) = take(alloc, context) else {
+        return NOT_OPEN;
+    };
+    let answer = add_new_in(&mut boxed, given(name), given(bytes));
+    put(context, boxed);
+    answer
+}
+
+/// Adds a fragment to a context that is open, if none has its name. Returns 0, or the number of the error.
+fn add_new_in(context: &mut Context<'static>, name: &'static [u8], bytes: &'static [u8]) -> u32
+    ensures { NewAddsIn name.entry.now bytes.entry.now context.old context.new result }
+{
+    match context.find(name) {
+        Some(_) => NAME_TAKEN,
+        None => add_in(context, name, bytes),
+    }
+}
+
+/// Removes the first fragment with this name, unless it is present, or a fragment of an open connection names it as a library.
+///
+/// Returns 0, or 202 if the context isn't open, or 60, 207, 208 or 99. The context is changed only if it returns 0.
+#[unsafe(no_mangle)]
+pub extern "C" fn pef_remove(alloc: Global, context: &mut PefContext, name: &[u8]) -> u32
+    ensures { RemoveAnswers name.now (held context.old) (held context.new) result }
+{
+    let Some(mut boxed) = take(alloc, context) else {
+        return NOT_OPEN;
+    };
+    let answer = remove_in(&mut boxed, name);
+    put(context, boxed);
+    answer
+}
+
+/// Removes a fragment of a context that is open. Returns 0, or the number of the error.
+fn remove_in(context: &mut Context<'static>, name: &[u8]) -> u32
+    ensures { RemovesIn name.now context.old context.new result }
+{
+    match context.remove(name) {
+        Ok(()) => 0,
+        Err(fault) => remove_number(fault),
+    }
+}
+
 /// Takes `size` addresses from `address` on out of use: no section is placed in them.
 ///
 /// Returns 0, or 202 if the context isn't open, or 67 or 99. The context is changed only if it returns 0.
@@ -98,6 +154,38 @@ fn reserve_in(context: &mut Context<'static>, address: u32, size: u32) -> u32
     match context.reserve(address, size) {
         Ok(()) => 0,
         Err(fault) => memory_number(fault),
+    }
+}
+
+/// Gives back a range that [`pef_reserve`] took out of use for the same numbers: sections can be placed there again.
+///
+/// Returns 0, or 202 if the context isn't open, or 201 if the addresses aren't exactly such a range. The context is changed
+/// only if it returns 0.
+#[unsafe(no_mangle)]
+pub extern "C" fn pef_unreserve(
+    alloc: Global,
+    context: &mut PefContext,
+    address: u32,
+    size: u32,
+) -> u32
+    ensures { UnreserveAnswers address size (held context.old) (held context.new) result }
+{
+    let Some(mut boxed) = take(alloc, context) else {
+        return NOT_OPEN;
+    };
+    let answer = unreserve_in(&mut boxed, address, size);
+    put(context, boxed);
+    answer
+}
+
+/// Gives a range of a context that is open back. Returns 0, or the number of the error.
+fn unreserve_in(context: &mut Context<'static>, address: u32, size: u32) -> u32
+    ensures { UnreservesIn address size context.old context.new result }
+{
+    if context.unreserve(address, size) {
+        0
+    } else {
+        NOT_THERE
     }
 }
 
@@ -194,6 +282,14 @@ fn close_in(context: &mut Context<'static>, connection: u32) -> u32
 /// Returns the number of the refusal of a fragment that isn't added, which isn't 0.
 fn add_number(fault: AddFault) -> u32
     ensures number { result ≡ add_fault_number fault }
+    ensures refused { (result == 0) ≡ false }
+{
+    fault.number()
+}
+
+/// Returns the number of the refusal of a fragment that isn't removed, which isn't 0.
+fn remove_number(fault: RemoveFault) -> u32
+    ensures number { result ≡ remove_fault_number fault }
     ensures refused { (result == 0) ≡ false }
 {
     fault.number()

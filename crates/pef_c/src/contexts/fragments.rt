@@ -1,7 +1,8 @@
 //! Readers of a context: which fragments a connection has, and what these have in memory. They write only into
 //! the caller's memory.
-ghost use Rattle.std.specs.Prelude.{◌≡◌, Some, length, option_map, slice_get};
+ghost use Rattle.std.specs.Prelude.{◌≡◌, Some, length, option_map};
 ghost use Rattle.std.specs.Option.{option_and_then, option_copied};
+ghost use Rattle.cfm_closure.specs.Stores.{name_at};
 ghost use Rattle.cfm_prepare.specs.Contexts.{open_of};
 ghost use Rattle.cfm_prepare.specs.Fragments.{places_of};
 ghost use Rattle.cfm_prepare.specs.Readers.{entries_of, has_present, symbol_of};
@@ -61,7 +62,7 @@ pub extern "C" fn pef_init_order(
 
 /// Reads the name of a fragment.
 ///
-/// Returns 0, or 201 past the last fragment, or 202 if the context isn't open.
+/// Returns 0, or 201 if no fragment has this number, or 202 if the context isn't open.
 #[unsafe(no_mangle)]
 pub extern "C" fn pef_fragment_name(
     alloc: Global,
@@ -70,7 +71,7 @@ pub extern "C" fn pef_fragment_name(
     name: &mut &'static [u8],
 ) -> u32
     ensures same { held context.new ≡ held context.old }
-    ensures read { ReadAnswers (λ s. option_map (λ p. p.name) (slice_get s.pairs fragment)) (held context.old) name.old.now name.new.now result }
+    ensures read { ReadAnswers (λ s. name_at s.pairs fragment) (held context.old) name.old.now name.new.now result }
 {
     let Some(boxed) = take(alloc, context) else {
         return NOT_OPEN;

@@ -72,16 +72,21 @@ fn fill_missing(
     ensures count { result ≡ fitting (length libraries.now) from (length places.old) }
     ensures rows { map missing_shown places.new ≡ filled (missing_at (map missing_seen libraries.now)) from result (map missing_shown places.old) }
 {
-    fill_table(&mut Listed { libraries }, libraries.len(), from, places)
+    fill_table(
+        &mut MissingRows { libraries },
+        libraries.len(),
+        from,
+        places,
+    )
 }
 
 /// Missing libraries in memory.
 #[derive(Drop)]
-struct Listed<'b> {
+struct MissingRows<'b> {
     libraries: &'b [MissingLibrary<'static>],
 }
 
-impl<'b> Table<PefMissing> for Listed<'b> {
+impl<'b> Table<PefMissing> for MissingRows<'b> {
     ghost use Rattle.std.specs.Prelude.{map};
     ghost use Rattle.cfm_closure.specs.Views.{missing_seen};
     ghost use Rattle.pef_c.specs.Contexts.Missing.{MissingRow, missing_at, missing_shown};

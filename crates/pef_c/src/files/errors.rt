@@ -3,11 +3,11 @@ ghost use Rattle.std.specs.Prelude.{◌≡◌, ◌==◌, false};
 ghost use Rattle.mac_forks.specs.Faults as fork;
 ghost use Rattle.mac_resources.specs.Faults as resource;
 ghost use Rattle.cfm_members.specs.Faults as member;
-ghost use Rattle.cfm_members.specs.FragmentFaults.{fragment_fault_number};
+ghost use Rattle.cfm_members.specs.MemberLookupFaults.{member_lookup_fault_number};
 ghost use Rattle.pef_c.specs.Files.Parts.{offset_or_none};
 
 use crate::place::NO_OFFSET;
-use cfm_members::{FragmentFault, MemberFault};
+use cfm_members::{MemberFault, MemberLookupFault};
 use mac_forks::ForkFault;
 use mac_resources::ResourceFault;
 
@@ -36,8 +36,8 @@ pub(crate) fn member_number(fault: MemberFault) -> u32
 }
 
 /// Returns the number of a fragment's error.
-pub(crate) fn fragment_number(fault: FragmentFault) -> u32
-    ensures value { result ≡ fragment_fault_number fault }
+pub(crate) fn fragment_number(fault: MemberLookupFault) -> u32
+    ensures value { result ≡ member_lookup_fault_number fault }
     ensures some { (result == 0) ≡ false }
 {
     fault.number()

@@ -14,9 +14,9 @@ use crate::files::errors::{fork_number, fragment_number, offset_or_none};
 use crate::files::structs::{PefFinder, PefForks, PefPart};
 use crate::place::NO_OFFSET;
 use cfm_members::{
-    FileKind, Forks, FragmentFault, container_in_forks, named_container, numbered_container,
+    FileKind, Forks, MemberLookupFault, container_in_forks, named_container, numbered_container,
 };
-use mac_forks::{FinderInfo, ForkFault, MacFile, Part};
+use mac_forks::{FinderInfo, ForkBytes, ForkFault, MacFile};
 
 /// No container has the number.
 const NO_CONTAINER: u32 = 80;
@@ -72,7 +72,7 @@ pub extern "C" fn pef_fork_container<'a>(
 ) -> u32
     ensures { FoundAnswers (named_in_forks name.now (Some (Ok (record { offset = 0; bytes = data_fork.entry.now }))) resource_fork.entry.now) container.old.now container.new.now result }
 {
-    let data_fork = Part {
+    let data_fork = ForkBytes {
         offset: 0,
         bytes: given(data_fork),
     };
@@ -103,7 +103,7 @@ pub extern "C" fn pef_numbered_container<'a>(
 }
 
 /// Writes a container that was found, or returns the number of the error.
-fn give<'a>(found: Result<&'a [u8], FragmentFault>, container: &mut &'a [u8]) -> u32
+fn give<'a>(found: Result<&'a [u8], MemberLookupFault>, container: &mut &'a [u8]) -> u32
     ensures { FoundAnswers (result_map (λ bytes. bytes.now) found.entry) container.old.now container.new.now result }
 {
     match found {
@@ -134,7 +134,7 @@ fn forks_given<'a>(bytes: &'a [u8], file: &MacFile<'a>) -> PefForks<'a>
 }
 
 /// Returns a part as C sees it.
-fn part_given<'a>(part: Option<Result<Part<'a>, ForkFault>>) -> PefPart<'a>
+fn part_given<'a>(part: Option<Result<ForkBytes<'a>, ForkFault>>) -> PefPart<'a>
     ensures { part_shown result ≡ part_row (option_map (result_map part_seen) part.entry) }
 {
     match part {
@@ -158,7 +158,7 @@ fn with_cut<'a>(part: PefPart<'a>, cut: Option<ForkFault>) -> PefPart<'a>
 }
 
 /// Returns a part that the file has, or its error.
-fn part_or_error<'a>(part: Result<Part<'a>, ForkFault>) -> PefPart<'a>
+fn part_or_error<'a>(part: Result<ForkBytes<'a>, ForkFault>) -> PefPart<'a>
     ensures { part_shown result ≡ part_row (Some (result_map part_seen part.entry)) }
 {
     match part {

@@ -13,7 +13,7 @@ use crate::files::structs::PefMember;
 use crate::fill::{Rows, fill_rows};
 use crate::place::NO_OFFSET;
 use cfm_members::{Containers, FragmentTable, Member, MemberFault, Members};
-use mac_forks::Part;
+use mac_forks::ForkBytes;
 
 /// Reads the members of a table of fragments from number `from` on into the first places, each with its container in a
 /// data fork, and counts them.
@@ -63,7 +63,7 @@ fn fill_members<'a>(
 ) -> usize
     ensures { FillsRows (member_row data_fork.entry.now) (left rows.entry) from (map member_shown places.old) (map member_shown places.new) result }
 {
-    fill_rows(&mut Found { rows, data_fork }, from, places)
+    fill_rows(&mut MemberRows { rows, data_fork }, from, places)
 }
 
 /// Fills the first places with the places of containers from number `from` on, and returns how many they are.
@@ -76,12 +76,12 @@ fn fill_places(found: Containers<'_>, from: usize, places: &mut [usize]) -> usiz
 
 /// The members of a table, and the data fork that their containers are in.
 #[derive(Drop)]
-struct Found<'a> {
+struct MemberRows<'a> {
     rows: Members<'a>,
     data_fork: &'a [u8],
 }
 
-impl<'a> Rows<PefMember<'a>> for Found<'a> {
+impl<'a> Rows<PefMember<'a>> for MemberRows<'a> {
     ghost use Rattle.std.specs.Prelude.{map};
     ghost use Rattle.cfm_members.specs.Views.{left};
     ghost use Rattle.pef_c.specs.Files.Rows.{MemberRow, member_row, member_shown};
@@ -190,7 +190,7 @@ fn fault_given<'a>(fault: MemberFault) -> PefMember<'a>
 }
 
 /// Returns the container of a member in a data fork, or no bytes.
-fn container_given<'a>(container: Option<Result<Part<'a>, MemberFault>>) -> &'a [u8]
+fn container_given<'a>(container: Option<Result<ForkBytes<'a>, MemberFault>>) -> &'a [u8]
     ensures { result.now ≡ container_given (option_map (result_map part_seen) container.entry) }
 {
     match container {
@@ -200,7 +200,7 @@ fn container_given<'a>(container: Option<Result<Part<'a>, MemberFault>>) -> &'a 
 }
 
 /// Returns a container, or no bytes.
-fn container_or_none<'a>(container: Result<Part<'a>, MemberFault>) -> &'a [u8]
+fn container_or_none<'a>(container: Result<ForkBytes<'a>, MemberFault>) -> &'a [u8]
     ensures { result.now ≡ container_given (Some (result_map part_seen container.entry)) }
 {
     match container {
@@ -210,7 +210,7 @@ fn container_or_none<'a>(container: Result<Part<'a>, MemberFault>) -> &'a [u8]
 }
 
 /// Returns the number of the error of a container, or 201 if it isn't in the data fork.
-fn container_error(container: Option<Result<Part<'_>, MemberFault>>) -> u32
+fn container_error(container: Option<Result<ForkBytes<'_>, MemberFault>>) -> u32
     ensures { result ≡ container_error (option_map (result_map part_seen) container.entry) }
 {
     match container {
@@ -221,7 +221,7 @@ fn container_error(container: Option<Result<Part<'_>, MemberFault>>) -> u32
 }
 
 /// Returns the offset of the error of a container.
-fn container_error_offset(container: Option<Result<Part<'_>, MemberFault>>) -> usize
+fn container_error_offset(container: Option<Result<ForkBytes<'_>, MemberFault>>) -> usize
     ensures { result ≡ container_error_offset (option_map (result_map part_seen) container.entry) }
 {
     match container {

@@ -12,7 +12,7 @@ use crate::files::errors::resource_number;
 use crate::files::structs::{PefResource, PefResourceMap};
 use crate::fill::{Rows, fill_rows};
 use crate::place::NO_OFFSET;
-use mac_forks::Part;
+use mac_forks::ForkBytes;
 use mac_resources::{Resource, ResourceFault, ResourceFork, Resources};
 
 /// Reads the header and the map of a resource fork.
@@ -228,7 +228,7 @@ fn name_or_error<'a>(name: Result<&'a [u8], ResourceFault>) -> HeldBytes<'a>
 }
 
 /// Returns the bytes of a resource.
-fn contents_held<'a>(contents: Result<Part<'a>, ResourceFault>) -> HeldBytes<'a>
+fn contents_held<'a>(contents: Result<ForkBytes<'a>, ResourceFault>) -> HeldBytes<'a>
     ensures { held_seen result ≡ held_contents (result_map part_seen contents.entry) }
 {
     match contents {
