@@ -152,6 +152,9 @@ codes! {
     StoreFull = PEF_STORE_FULL,
     BadGranule = PEF_BAD_GRANULE,
     BadOptions = PEF_BAD_OPTIONS,
+    StillPresent = PEF_STILL_PRESENT,
+    StillNamed = PEF_STILL_NAMED,
+    NameTaken = PEF_NAME_TAKEN,
 }
 
 impl Code {

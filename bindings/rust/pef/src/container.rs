@@ -135,6 +135,16 @@ impl fmt::Debug for Container<'_> {
 }
 
 /// The sections of a container, by their numbers.
+///
+/// ```
+/// # #[cfg(feature = "native")] {
+/// let bytes = pef::link("section code code global 4 4\nsection data data process 4 8\n")?;
+/// let container = pef::Container::read(&bytes)?;
+/// let sizes: Vec<_> = container.sections().filter(|it| it.instantiated).map(|it| it.total_size).collect();
+/// assert_eq!(sizes, [4, 8]);
+/// # }
+/// # Ok::<(), Box<dyn std::error::Error>>(())
+/// ```
 #[derive(Clone)]
 pub struct Sections<'a> {
     bytes: &'a [u8],
@@ -199,6 +209,19 @@ impl fmt::Debug for Sections<'_> {
 }
 
 /// The additions of a relocation program. After an error it ends.
+///
+/// ```
+/// # #[cfg(feature = "native")] {
+/// let bytes = pef::link("section data data process 4 8\nfix data 0 section data\nfix data 4 section data\n")?;
+/// let relocation = pef::Container::read(&bytes)?.relocations().next().unwrap();
+/// for fixup in relocation.fixups() {
+///     let fixup = fixup?;
+///     println!("at {:X}: {:?}", fixup.offset, fixup.target);
+/// }
+/// assert_eq!(relocation.fixups().count(), 2);
+/// # }
+/// # Ok::<(), Box<dyn std::error::Error>>(())
+/// ```
 pub struct Fixups<'a> {
     bytes: &'a [u8],
     header: usize,

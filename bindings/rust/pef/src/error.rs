@@ -7,6 +7,16 @@ use crate::code::Code;
 use crate::raw;
 
 /// A kind of part of a container or a script that an error can be about.
+///
+/// ```
+/// # #[cfg(feature = "native")] {
+/// let mut bytes = pef::link("section data data process 4 4\nbytes data 0000002A\n")?;
+/// bytes.pop();
+/// let place = pef::Container::read(&bytes).unwrap_err().place().unwrap();
+/// assert_eq!((place.part, place.to_string()), (pef::Part::Section, "section 1 at 0x58".to_string()));
+/// # }
+/// # Ok::<(), Box<dyn std::error::Error>>(())
+/// ```
 #[derive(Clone, Copy, Debug, PartialEq, Eq, Hash)]
 #[non_exhaustive]
 #[allow(missing_docs)]

@@ -10,6 +10,15 @@ use crate::error::{Error, Place};
 use crate::{raw, rows};
 
 /// An error of a container, or a note on it: something odd that breaks no rule.
+///
+/// ```
+/// for finding in pef::findings(b"no container")? {
+///     let word = if finding.is_error { "error" } else { "note" };
+///     println!("{word} {finding}: {}", finding.code.help());
+///     assert_eq!(finding.code, pef::Code::TooShort);
+/// }
+/// # Ok::<(), Box<dyn std::error::Error>>(())
+/// ```
 #[derive(Clone, Copy, Debug, PartialEq, Eq)]
 #[non_exhaustive]
 pub struct Finding {
@@ -43,7 +52,7 @@ impl fmt::Display for Finding {
 ///
 /// Packed data is expanded and relocation programs are run, without keeping what they make. So a container without errors is refused by no
 /// preparation, as far as its own bytes are concerned. Errors come in the order in which other calls find the first one. Bytes that are no
-/// container have one error. The notes that need memory, 109 and 112 to 114, need the feature `native`.
+/// container have one error.
 ///
 /// # Errors
 ///

@@ -78,6 +78,11 @@ impl FileKind {
 }
 
 /// A part of a file that an error is about, or that has a container.
+///
+/// ```
+/// assert_eq!(pef::MacPart::Resource { kind: *b"cfrg", id: 0 }.to_string(), "resource cfrg 0");
+/// # Ok::<(), Box<dyn std::error::Error>>(())
+/// ```
 #[derive(Clone, Copy, Debug, PartialEq, Eq, Hash)]
 #[non_exhaustive]
 pub enum MacPart {
@@ -114,6 +119,16 @@ impl fmt::Display for MacPart {
 }
 
 /// An error of a part of a file.
+///
+/// ```
+/// // The header of an AppleSingle file is cut.
+/// let file = pef::MacFile::read(b"\x00\x05\x16\x00\x00\x02\x00\x00cut");
+/// for damage in file.errors() {
+///     println!("{damage}: {}", damage.code.help());
+/// }
+/// assert!(!file.errors().is_empty());
+/// # Ok::<(), Box<dyn std::error::Error>>(())
+/// ```
 #[derive(Clone, Copy, Debug, PartialEq, Eq)]
 #[non_exhaustive]
 pub struct Damage {
@@ -134,6 +149,14 @@ impl fmt::Display for Damage {
 }
 
 /// What the Finder knows of a file.
+///
+/// ```no_run
+/// let file = std::fs::read("Calculator.bin")?;
+/// if let Some(finder) = pef::MacFile::read(&file).finder() {
+///     println!("{} {}", finder.file_type.escape_ascii(), finder.creator.escape_ascii());
+/// }
+/// # Ok::<(), Box<dyn std::error::Error>>(())
+/// ```
 #[derive(Clone, Copy, Debug, PartialEq, Eq)]
 #[non_exhaustive]
 #[allow(missing_docs)]
@@ -147,6 +170,14 @@ pub struct Finder {
 }
 
 /// A resource.
+///
+/// ```no_run
+/// let file = std::fs::read("Calculator.bin")?;
+/// for resource in pef::MacFile::read(&file).resources() {
+///     println!("{} {} {:?}", resource.kind.escape_ascii(), resource.id, resource.bytes.map(<[u8]>::len));
+/// }
+/// # Ok::<(), Box<dyn std::error::Error>>(())
+/// ```
 #[derive(Clone, Copy, PartialEq, Eq)]
 #[non_exhaustive]
 pub struct Resource<'a> {
@@ -182,6 +213,14 @@ impl fmt::Debug for Resource<'_> {
 }
 
 /// A member of the table of fragments: what the table says of a fragment, and its container.
+///
+/// ```no_run
+/// let file = std::fs::read("Calculator.bin")?;
+/// for member in pef::MacFile::read(&file).members() {
+///     println!("{} {}", member.usage, member.name.unwrap_or_default().escape_ascii());
+/// }
+/// # Ok::<(), Box<dyn std::error::Error>>(())
+/// ```
 #[derive(Clone, Copy, PartialEq, Eq)]
 #[non_exhaustive]
 #[allow(missing_docs)]
@@ -242,6 +281,15 @@ impl fmt::Debug for Member<'_> {
 }
 
 /// A container in a file: where it is, and the members that name it.
+///
+/// ```no_run
+/// let file = std::fs::read("Calculator.bin")?;
+/// for found in pef::MacFile::read(&file).containers() {
+///     let names: Vec<_> = found.names().map(|it| it.escape_ascii().to_string()).collect();
+///     println!("{} in {} at {:X}", names.join(" "), found.part, found.offset);
+/// }
+/// # Ok::<(), Box<dyn std::error::Error>>(())
+/// ```
 #[derive(Clone, PartialEq, Eq)]
 #[non_exhaustive]
 pub struct FoundContainer<'a> {

@@ -202,12 +202,8 @@ reads_rows! {
     partial_relocations: pef_partial_relocations -> pef_relocation;
     partial_exports: pef_partial_exports -> pef_export;
     findings: pef_findings -> pef_finding;
-    resources: pef_resources -> pef_resource;
-}
-
-#[cfg(feature = "native")]
-reads_rows! {
     more_notes: pef_more_notes -> pef_finding;
+    resources: pef_resources -> pef_resource;
 }
 
 pub(crate) fn fixups(bytes: &[u8], header: usize, from: usize, most: usize) -> Result<Vec<sys::pef_fixup>, Number> {
@@ -471,10 +467,28 @@ mod native {
                 done(unsafe { sys::pef_add(&mut self.0, name.as_ptr(), name.len(), bytes.as_ptr(), bytes.len()) })
             }
 
+            pub(crate) fn add_new(&mut self, name: &'a [u8], bytes: &'a [u8]) -> Result<(), Number> {
+                touch_stack();
+                // SAFETY: both stay, unchanged, for 'a, and so until the context is freed.
+                done(unsafe { sys::pef_add_new(&mut self.0, name.as_ptr(), name.len(), bytes.as_ptr(), bytes.len()) })
+            }
+
+            pub(crate) fn remove(&mut self, name: &[u8]) -> Result<(), Number> {
+                touch_stack();
+                // SAFETY: the context is borrowed alone.
+                done(unsafe { sys::pef_remove(&mut self.0, name.as_ptr(), name.len()) })
+            }
+
             pub(crate) fn reserve(&mut self, address: u32, size: u32) -> Result<(), Number> {
                 touch_stack();
                 // SAFETY: the context is borrowed alone.
                 done(unsafe { sys::pef_reserve(&mut self.0, address, size) })
+            }
+
+            pub(crate) fn unreserve(&mut self, address: u32, size: u32) -> Result<(), Number> {
+                touch_stack();
+                // SAFETY: the context is borrowed alone.
+                done(unsafe { sys::pef_unreserve(&mut self.0, address, size) })
             }
 
             /// Missing libraries from a number on, at most so many, with their names. An error comes with its names.

@@ -102,12 +102,51 @@ macro_rules! iterators {
 
 iterators! {
     /// The libraries of a container.
+    ///
+    /// ```
+    /// # #[cfg(feature = "native")] {
+    /// let bytes = pef::link("library Tools 1 0 -\nlibrary Sounds 1 0 weak\n")?;
+    /// let names: Vec<_> = pef::Container::read(&bytes)?.libraries().map(|it| it.name).collect();
+    /// assert_eq!(names, [b"Tools".as_slice(), b"Sounds"]);
+    /// # }
+    /// # Ok::<(), Box<dyn std::error::Error>>(())
+    /// ```
     Libraries: pef_library, Library, |bytes, _, row| Library::of(bytes, row);
     /// The imports of a container, by their numbers.
+    ///
+    /// ```
+    /// # #[cfg(feature = "native")] {
+    /// let bytes = pef::link("library Tools 1 0 -\nimport answer data strong\nimport start code weak\n")?;
+    /// let weak: Vec<_> = pef::Container::read(&bytes)?.imports().filter(|it| it.weak).map(|it| it.number).collect();
+    /// assert_eq!(weak, [1]);
+    /// # }
+    /// # Ok::<(), Box<dyn std::error::Error>>(())
+    /// ```
     Imports: pef_import, Import, Import::of;
     /// The relocation headers of a container, by their numbers.
+    ///
+    /// ```
+    /// # #[cfg(feature = "native")] {
+    /// let bytes = pef::link("section data data process 4 8\nfix data 4 section data\n")?;
+    /// let sections: Vec<_> = pef::Container::read(&bytes)?.relocations().map(|it| it.section).collect();
+    /// assert_eq!(sections, [0]);
+    /// # }
+    /// # Ok::<(), Box<dyn std::error::Error>>(())
+    /// ```
     Relocations: pef_relocation, Relocation, Relocation::of;
     /// The exports of a container, by their numbers.
+    ///
+    /// ```
+    /// # #[cfg(feature = "native")] {
+    /// use std::collections::HashMap;
+    ///
+    /// let bytes = pef::link("section data data process 4 8\nexport answer data data 4\n")?;
+    /// let container = pef::Container::read(&bytes)?;
+    /// let by_name: HashMap<_, _> = container.exports().map(|it| (it.name, it.value)).collect();
+    /// assert!(by_name.contains_key(b"answer".as_slice()));
+    /// # }
+    /// # Ok::<(), Box<dyn std::error::Error>>(())
+    /// ```
     Exports: pef_export, Export, Export::of;
 }
 
@@ -126,11 +165,7 @@ pub(crate) fn all_rows<Row>(call: impl Fn(usize, usize) -> Result<Vec<Row>, Numb
 }
 
 pub(crate) fn findings(bytes: &[u8]) -> Result<Vec<sys::pef_finding>, Number> {
-    let found = all_rows(|from, most| raw::findings(bytes, from, most))?;
-    #[cfg(feature = "native")]
-    let found = {
-        let more = all_rows(|from, most| raw::more_notes(bytes, from, most))?;
-        found.into_iter().chain(more).collect()
-    };
+    let mut found = all_rows(|from, most| raw::findings(bytes, from, most))?;
+    found.extend(all_rows(|from, most| raw::more_notes(bytes, from, most))?);
     Ok(found)
 }

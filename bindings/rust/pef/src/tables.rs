@@ -400,6 +400,20 @@ impl fmt::Debug for Import<'_> {
 }
 
 /// What an exported symbol is.
+///
+/// ```
+/// # #[cfg(feature = "native")] {
+/// let bytes = pef::link("section data data process 4 8\nexport answer data data 4\nabsolute version data 3\n")?;
+/// for export in pef::Container::read(&bytes)?.exports() {
+///     match export.value {
+///         pef::ExportValue::InSection { section, offset } => assert_eq!((section, offset), (0, 4)),
+///         pef::ExportValue::Absolute(number) => assert_eq!(number, 3),
+///         other => println!("{other:?}"),
+///     }
+/// }
+/// # }
+/// # Ok::<(), Box<dyn std::error::Error>>(())
+/// ```
 #[derive(Clone, Copy, Debug, PartialEq, Eq, Hash)]
 #[non_exhaustive]
 pub enum ExportValue {
@@ -518,6 +532,15 @@ impl fmt::Debug for Relocation<'_> {
 }
 
 /// What is added to a word: the address of the section or of the target of the import with this number.
+///
+/// ```
+/// # #[cfg(feature = "native")] {
+/// let bytes = pef::link("library Tools 1 0 -\nimport answer data strong\nsection data data process 4 4\nfix data 0 import answer\n")?;
+/// let fixup = pef::Container::read(&bytes)?.relocations().next().unwrap().fixups().next().unwrap()?;
+/// assert_eq!(fixup.target, pef::FixupTarget::Import(0));
+/// # }
+/// # Ok::<(), Box<dyn std::error::Error>>(())
+/// ```
 #[derive(Clone, Copy, Debug, PartialEq, Eq, Hash)]
 #[allow(missing_docs)]
 pub enum FixupTarget {
@@ -526,6 +549,15 @@ pub enum FixupTarget {
 }
 
 /// An addition of a relocation program: the offset of a word in the section, and what is added to it.
+///
+/// ```
+/// # #[cfg(feature = "native")] {
+/// let bytes = pef::link("section data data process 4 8\nfix data 4 section data\n")?;
+/// let fixup = pef::Container::read(&bytes)?.relocations().next().unwrap().fixups().next().unwrap()?;
+/// assert_eq!(fixup, pef::Fixup { offset: 4, target: pef::FixupTarget::Section(0) });
+/// # }
+/// # Ok::<(), Box<dyn std::error::Error>>(())
+/// ```
 #[derive(Clone, Copy, Debug, PartialEq, Eq, Hash)]
 pub struct Fixup {
     /// The offset of the word in the section that is relocated.

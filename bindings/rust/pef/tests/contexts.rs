@@ -206,6 +206,23 @@ fn reserved() {
 }
 
 #[test]
+fn given_back() {
+    let tools = linked("shared-library");
+    let context = Context::new().unwrap();
+    context.add("Tools", &tools).unwrap();
+    context.reserve(0x10000, 0x20).unwrap();
+    context.reserve(0x10020, 0x10).unwrap();
+    for (address, size) in [(0x10000, 0x10), (0x10000, 0x30), (0x10030, 1)] {
+        refuses(201, context.unreserve(address, size));
+    }
+    context.unreserve(0x10030, 0).unwrap();
+    context.unreserve(0x1000F, 0x11).unwrap();
+    refuses(201, context.unreserve(0x10000, 0x20));
+    let connection = context.prepare("Tools").unwrap();
+    assert_eq!(connection.root().section(0).unwrap().address(), 0x10000);
+}
+
+#[test]
 fn refusals_have_names() {
     let (user, lacks) = (linked("uses-library"), pef::link("library L 1 0 -\nimport w data strong\n").unwrap());
     let other = pef::link("versions 1 0 0\nabsolute v data 0\n").unwrap();

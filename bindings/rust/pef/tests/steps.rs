@@ -72,7 +72,8 @@ type Placed = BTreeMap<usize, Vec<(u64, Vec<u8>)>>;
 /// What a context does, as docs/RULES.md has it, for fragments that are made as above.
 #[derive(Default)]
 struct Model {
-    store: Vec<Made>,
+    /// By their numbers; a removed one leaves its number free.
+    store: Vec<Option<Made>>,
     reserved: Vec<(u64, u64)>,
     given: u32,
     connections: BTreeMap<u32, Opened>,
@@ -89,7 +90,11 @@ fn up(number: u64, step: u64) -> u64 {
 
 impl Model {
     fn place_of(&self, name: &str) -> Option<usize> {
-        self.store.iter().position(|it| it.name == name)
+        self.store.iter().position(|it| it.as_ref().map_or(false, |it| it.name == name))
+    }
+
+    fn made(&self, number: usize) -> &Made {
+        self.store[number].as_ref().unwrap()
     }
 
     fn taken(&self, placed: &Placed) -> Vec<(u64, u64)> {
@@ -98,11 +103,24 @@ impl Model {
     }
 
     fn add(&mut self, made: &Made) -> Result<(), Refused> {
-        let mut needed = self.connections.values().flat_map(|it| &it.0).flat_map(|number| &self.store[*number].libraries);
+        let mut needed = self.connections.values().flat_map(|it| &it.0).flat_map(|number| &self.made(*number).libraries);
         if self.place_of(made.name).is_none() && needed.any(|it| it.name == made.name) {
             return Err(refused(203, &[]));
         }
-        self.store.push(made.clone());
+        let free = self.store.iter().position(Option::is_none);
+        match free.filter(|_| self.place_of(made.name).is_none()) {
+            Some(number) => self.store[number] = Some(made.clone()),
+            None => self.store.push(Some(made.clone())),
+        }
+        Ok(())
+    }
+
+    fn remove(&mut self, name: &str) -> Result<(), Refused> {
+        let number = self.place_of(name).ok_or_else(|| refused(60, &[]))?;
+        if self.placed.contains_key(&number) {
+            return Err(refused(207, &[]));
+        }
+        self.store[number] = None;
         Ok(())
     }
 
@@ -120,9 +138,9 @@ impl Model {
 
     fn visit(&self, number: usize, met: &mut HashSet<usize>, order: &mut Vec<usize>) -> Result<(), Refused> {
         met.insert(number);
-        for it in &self.store[number].libraries {
+        for it in &self.made(number).libraries {
             match self.place_of(it.name) {
-                None if !it.weak => return Err(refused(61, &[self.store[number].name, it.name])),
+                None if !it.weak => return Err(refused(61, &[self.made(number).name, it.name])),
                 Some(library) if !met.contains(&library) => self.visit(library, met, order)?,
                 _ => {}
             }
@@ -134,9 +152,9 @@ impl Model {
     /// The fragment whose section 0 the import from a library means, if there is one.
     fn target(&self, number: usize, name: &str) -> Result<Option<usize>, Refused> {
         let (mut at, mut met) = (self.place_of(name), HashSet::new());
-        while let Some((it, from)) = at.and_then(|it| self.store[it].passes.map(|from| (it, from))) {
+        while let Some((it, from)) = at.and_then(|it| self.made(it).passes.map(|from| (it, from))) {
             if !met.insert(it) {
-                return Err(refused(65, &[self.store[number].name, &format!("v{name}")]));
+                return Err(refused(65, &[self.made(number).name, &format!("v{name}")]));
             }
             at = self.place_of(from);
         }
@@ -147,12 +165,12 @@ impl Model {
         let (mut left, mut done) = (order.to_vec(), Vec::new());
         while !left.is_empty() {
             let is_ready = |number: &usize| {
-                let needed = self.store[*number].libraries.iter().filter(|it| it.before);
+                let needed = self.made(*number).libraries.iter().filter(|it| it.before);
                 needed.map(|it| self.place_of(it.name)).all(|it| it.map_or(true, |it| done.contains(&it)))
             };
             match left.iter().position(is_ready) {
                 Some(at) => done.push(left.remove(at)),
-                None => return Err(refused(66, &[self.store[left[0]].name])),
+                None => return Err(refused(66, &[self.made(left[0]).name])),
             }
         }
         Ok(done)
@@ -170,7 +188,7 @@ impl Model {
         self.visit(root, &mut HashSet::new(), &mut order)?;
         let mut targets = HashMap::new();
         for number in &order {
-            let own: Result<Vec<_>, _> = self.store[*number].libraries.iter().map(|it| self.target(*number, it.name)).collect();
+            let own: Result<Vec<_>, _> = self.made(*number).libraries.iter().map(|it| self.target(*number, it.name)).collect();
             targets.insert(*number, own?);
         }
         let init = self.init_order(&order)?;
@@ -178,8 +196,8 @@ impl Model {
         let new: Vec<usize> = order.iter().copied().filter(|it| !self.placed.contains_key(it)).collect();
         for number in &new {
             placed.insert(*number, Vec::new());
-            for (size, alignment) in &self.store[*number].sections {
-                let address = self.address_for(*size, *alignment, &placed).ok_or_else(|| refused(67, &[self.store[*number].name]))?;
+            for (size, alignment) in &self.made(*number).sections {
+                let address = self.address_for(*size, *alignment, &placed).ok_or_else(|| refused(67, &[self.made(*number).name]))?;
                 placed.entry(*number).or_default().push((address, vec![0; *size]));
             }
         }
@@ -255,12 +273,18 @@ fn as_the_model() {
         let (mut added, mut model, mut open) = (all.iter(), Model::default(), BTreeMap::new());
         let context = Context::with(ContextOptions::new().limit(LIMIT as u32)).unwrap();
         for step in 0..34 {
-            let kind = if step < 4 { b'A' } else { random.one(b"AAPPPPPPCCRR") };
+            let kind = if step < 4 { b'A' } else { random.one(b"AAPPPPPPCCRRDDD") };
             let number = match kind {
                 b'A' => {
                     let (made, bytes) = added.next().unwrap();
                     let given = of_library(context.add(made.name, bytes));
                     assert_eq!(given, model.add(made));
+                    given.map_or_else(|error| error.0, |()| 0)
+                }
+                b'D' => {
+                    let name = random.one(&NAMES);
+                    let given = of_library(context.remove(name));
+                    assert_eq!(given, model.remove(name));
                     given.map_or_else(|error| error.0, |()| 0)
                 }
                 b'R' => {
@@ -304,7 +328,7 @@ fn as_the_model() {
         }
     }
     if rounds == 150 {
-        for number in [0, 60, 61, 65, 66, 67, 203] {
+        for number in [0, 60, 61, 65, 66, 67, 203, 207] {
             assert!(answers.get(&number).copied().unwrap_or(0) > 10, "{answers:?}");
         }
     }
