@@ -180,6 +180,7 @@ ROWS(partial_imports, pef_import, tell_imports(them, *count, whole))
 ROWS(partial_relocations, pef_relocation, tell_relocations(them, *count, whole))
 ROWS(partial_exports, pef_export, tell_exports(them, *count, whole))
 ROWS(findings, pef_finding, tell_findings(them, *count))
+ROWS(more_notes, pef_finding, tell_findings(them, *count))
 
 /* --- containers --- */
 
@@ -232,7 +233,7 @@ static void tell_expanded(struct pef_bytes packed, size_t length)
 
 static void tell_sections(struct pef_bytes container, size_t count)
 {
-    for (size_t i = 0; i < count + 1 && i < MOST_SECTIONS; i++) {
+    for (size_t i = 0; i <= count && i < MOST_SECTIONS; i++) {
         struct pef_section section = {0};
         struct pef_bytes raw = PEF_NO_BYTES, name = PEF_NO_BYTES;
         tell("section", pef_section(container.at, container.length, i, &section, &raw));
@@ -252,7 +253,7 @@ static void tell_sections(struct pef_bytes container, size_t count)
 
 static void tell_programs(struct pef_bytes container, size_t count)
 {
-    for (size_t i = 0; i < count + 1 && i < MOST_HEADERS; i++) {
+    for (size_t i = 0; i <= count && i < MOST_HEADERS; i++) {
         size_t found = 0;
         tell("fixups", pef_fixups(container.at, container.length, i, 0, &rows->fixup, MOST_ROWS, &found));
         tell("count", found);
@@ -302,6 +303,7 @@ static void tell_container(struct pef_bytes container)
     tell_rows("partial relocations", partial_relocations_rows, container);
     tell_rows("partial exports", partial_exports_rows, container);
     tell_rows("findings", findings_rows, container);
+    tell_rows("more notes", more_notes_rows, container);
     tell_programs(container, loader.relocation_count);
     tell_names(container);
 }
@@ -435,7 +437,7 @@ static void tell_file(struct pef_bytes file)
     tell("count", count);
     for (size_t i = 0; i < count; i++)
         tell_size("at", ((const size_t *)rows)[i]);
-    for (size_t i = 0; i < count + 1 && i < MOST_CONTAINERS; i++) {
+    for (size_t i = 0; i <= count && i < MOST_CONTAINERS; i++) {
         struct pef_bytes container = PEF_NO_BYTES;
         tell("numbered", pef_numbered_container(file.at, file.length, i, &container));
         tell_part("container", container, file);
@@ -508,9 +510,12 @@ static size_t damage(uint8_t *bytes, size_t length)
     case 1:
         bytes[at] = numbers[chance(sizeof numbers)];
         return length;
-    case 2:
-        memset(bytes + at, (int)numbers[chance(sizeof numbers)], 1 + chance(count));
+    case 2: {
+        /* Two calls in one expression would be made in an order of the compiler's. */
+        const int number = (int)numbers[chance(sizeof numbers)];
+        memset(bytes + at, number, 1 + chance(count));
         return length;
+    }
     case 3:
         return at;
     case 4:

@@ -31,6 +31,12 @@
 /* How many rows a call is asked for at once. */
 #define ROWS_AT_ONCE ((size_t)1 << 20)
 
+/* How much memory is lent to a call that allocates: this, and so much for each byte that it reads, up to a number of bytes. If it is too
+ * little, more is lent. */
+#define LENT_AT_FIRST ((uint64_t)1 << 20)
+#define LENT_FOR_A_BYTE 16
+#define MOST_ESTIMATED ((uint64_t)8 << 20)
+
 /* Bytes that a call reads: the caller's, and where they are in the memory. */
 struct slice {
     const uint8_t *at;
@@ -204,6 +210,18 @@ static void put64(uint8_t *at, uint64_t number)
 {
     for (int i = 0; i < 8; i++)
         at[i] = (uint8_t)(number >> 8 * i);
+}
+
+/* Lends the memory after so much of the room. */
+static void lend(struct instance *it, uint64_t room, uint64_t lent)
+{
+    put64(it->memory + LENT, (it->room + room + 15) / 16 * 16);
+    put64(it->memory + LENT + 8, lent);
+}
+
+static uint64_t estimated(size_t length)
+{
+    return length < MOST_ESTIMATED ? length : MOST_ESTIMATED;
 }
 
 /* A length, an offset or a number of a row. The greatest one stands for none, here and in the module. */
@@ -452,7 +470,11 @@ struct asked {
     struct slice slices[SLICES];
     size_t count;
     size_t header;
+    uint64_t lent;
 };
+
+/* How many bytes a finding is in the module. */
+enum { NOTE = 48 };
 
 /* Lets the module write rows into the room. */
 typedef uint32_t ask(struct instance *it, const struct asked *asked, uint64_t from, uint64_t most);
@@ -494,7 +516,15 @@ static uint32_t ask_members(struct instance *it, const struct asked *asked, uint
     return Z_pefZ_pef_members(&it->module, table->address, table->length, fork->address, fork->length, from, it->room, most, COUNT);
 }
 
-static const struct table FINDINGS = {ask_findings, get_finding, 48, sizeof(struct pef_finding)};
+static uint32_t ask_more_notes(struct instance *it, const struct asked *asked, uint64_t from, uint64_t most)
+{
+    const struct slice *container = &asked->slices[0];
+    lend(it, most * NOTE, asked->lent);
+    return Z_pefZ_pef_more_notes(&it->module, LENT, container->address, container->length, from, it->room, most, COUNT);
+}
+
+static const struct table FINDINGS = {ask_findings, get_finding, NOTE, sizeof(struct pef_finding)};
+static const struct table MORE_NOTES = {ask_more_notes, get_finding, NOTE, sizeof(struct pef_finding)};
 static const struct table LIBRARIES = {ask_libraries, get_library, 40, sizeof(struct pef_library)};
 static const struct table IMPORTS = {ask_imports, get_import, 32, sizeof(struct pef_import)};
 static const struct table RELOCATIONS = {ask_relocations, get_relocation, 24, sizeof(struct pef_relocation)};
@@ -514,7 +544,7 @@ static uint32_t get_rows(struct pef_space *space, const struct table *table, str
     size_t done = 0, most, found;
     do {
         most = place_count - done < ROWS_AT_ONCE ? place_count - done : ROWS_AT_ONCE;
-        struct instance *it = enter(space, asked->slices, asked->count, (uint64_t)most * table->row);
+        struct instance *it = enter(space, asked->slices, asked->count, (uint64_t)most * table->row + 16 + asked->lent);
         if (it == NULL)
             return PEF_OUT_OF_MEMORY;
         const uint32_t answer = table->ask(it, asked, (uint64_t)from + done, most);
@@ -531,7 +561,7 @@ static uint32_t get_rows(struct pef_space *space, const struct table *table, str
 
 static uint32_t get_rows_of(struct pef_space *space, const struct table *table, const uint8_t *at, size_t length, size_t from, void *places, size_t place_count, size_t *count)
 {
-    struct asked asked = {{{at, length, 0}}, 1, 0};
+    struct asked asked = {{{at, length, 0}}, 1, 0, 0};
     return get_rows(space, table, &asked, from, places, place_count, count);
 }
 
@@ -672,7 +702,7 @@ uint32_t pef_exports_in(struct pef_space *space, const uint8_t *container, size_
 
 uint32_t pef_fixups_in(struct pef_space *space, const uint8_t *container, size_t container_length, size_t header, size_t from, struct pef_fixup *places, size_t place_count, size_t *count)
 {
-    struct asked asked = {{{container, container_length, 0}}, 1, header};
+    struct asked asked = {{{container, container_length, 0}}, 1, header, 0};
     return get_rows(space, &FIXUPS, &asked, from, places, place_count, count);
 }
 
@@ -704,6 +734,17 @@ uint32_t pef_container_place_in(struct pef_space *space, const uint8_t *containe
 uint32_t pef_findings_in(struct pef_space *space, const uint8_t *container, size_t container_length, size_t from, struct pef_finding *places, size_t place_count, size_t *count)
 {
     return get_rows_of(space, &FINDINGS, container, container_length, from, places, place_count, count);
+}
+
+uint32_t pef_more_notes_in(struct pef_space *space, const uint8_t *container, size_t container_length, size_t from, struct pef_finding *places, size_t place_count, size_t *count)
+{
+    struct asked asked = {{{container, container_length, 0}}, 1, 0, LENT_AT_FIRST + LENT_FOR_A_BYTE * estimated(container_length)};
+    uint32_t answer;
+    do {
+        answer = get_rows(space, &MORE_NOTES, &asked, from, places, place_count, count);
+        asked.lent *= 4;
+    } while (answer == PEF_OUT_OF_MEMORY && asked.lent <= MOST_MEMORY);
+    return answer;
 }
 
 uint32_t pef_partial_header_in(struct pef_space *space, const uint8_t *container, size_t container_length, struct pef_header *header)
@@ -800,7 +841,7 @@ uint32_t pef_find_resource_in(struct pef_space *space, const uint8_t *fork, size
 
 uint32_t pef_members_in(struct pef_space *space, const uint8_t *table, size_t table_length, const uint8_t *data_fork, size_t data_fork_length, size_t from, struct pef_member *places, size_t place_count, size_t *count)
 {
-    struct asked asked = {{{table, table_length, 0}, {data_fork, data_fork_length, 0}}, 2, 0};
+    struct asked asked = {{{table, table_length, 0}, {data_fork, data_fork_length, 0}}, 2, 0, 0};
     return get_rows(space, &MEMBERS, &asked, from, places, place_count, count);
 }
 
@@ -863,9 +904,6 @@ enum part { HEAD, CONTAINER, END };
 /* What a container's object says if the lent memory was too small to look into it. Such an object is short. */
 static const char LACKING[] = "{\"number\":99,\"name\":\"OutOfMemory\"";
 
-/* Of a longer file not more is estimated at first. */
-#define MOST_ESTIMATED ((uint64_t)8 << 20)
-
 enum { MOST_LACKING = 600, PLACES_AT_ONCE = 256 };
 
 static bool lacks_memory(const uint8_t *text, size_t length)
@@ -900,8 +938,7 @@ static uint32_t append(struct text *text, const uint8_t *bytes, size_t length)
 static uint32_t ask_part(struct instance *it, const struct making *making, enum part part)
 {
     const struct slice *file = &making->slices[0], *path = &making->slices[1];
-    put64(it->memory + LENT, (it->room + making->room + 15) / 16 * 16);
-    put64(it->memory + LENT + 8, making->lent);
+    lend(it, making->room, making->lent);
     memcpy(it->memory + STATE, making->state, sizeof making->state);
     if (part == HEAD)
         return Z_pefZ_page_head(&it->module, LENT, path->address, path->length, file->address, file->length, it->room, making->room, COUNT);
@@ -979,8 +1016,8 @@ static uint32_t add_containers(struct pef_space *space, struct making *making, s
 uint32_t pef_report_open(struct pef_report *report, const uint8_t *path, size_t path_length, const uint8_t *file, size_t file_length)
 {
     struct pef_space space = PEF_NO_SPACE;
-    const uint64_t length = file_length < MOST_ESTIMATED ? file_length : MOST_ESTIMATED;
-    struct making making = {{{file, file_length, 0}, {path, path_length, 0}}, 65536 + 4 * length, 1048576 + 16 * length, true, {0}};
+    const uint64_t length = estimated(file_length);
+    struct making making = {{{file, file_length, 0}, {path, path_length, 0}}, 65536 + 4 * length, LENT_AT_FIRST + LENT_FOR_A_BYTE * length, true, {0}};
     struct text *text = calloc(1, sizeof *text);
     pef_report_free(report);
     uint32_t answer = PEF_OUT_OF_MEMORY;
@@ -1043,6 +1080,11 @@ uint32_t pef_container_place(const uint8_t *container, size_t container_length, 
 uint32_t pef_findings(const uint8_t *container, size_t container_length, size_t from, struct pef_finding *places, size_t place_count, size_t *count)
 {
     ALONE(pef_findings_in(&space, container, container_length, from, places, place_count, count));
+}
+
+uint32_t pef_more_notes(const uint8_t *container, size_t container_length, size_t from, struct pef_finding *places, size_t place_count, size_t *count)
+{
+    ALONE(pef_more_notes_in(&space, container, container_length, from, places, place_count, count));
 }
 
 uint32_t pef_header(const uint8_t *container, size_t container_length, struct pef_header *header)

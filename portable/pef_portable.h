@@ -6,7 +6,7 @@
  *     pef_version, pef_name, pef_help
  *     pef_header, pef_section, pef_section_name, pef_expand, pef_loader, pef_libraries, pef_imports, pef_relocations, pef_exports,
  *     pef_fixups, pef_export_named, pef_container_place
- *     pef_findings, pef_partial_header, pef_partial_section, pef_partial_section_name, pef_partial_loader, pef_partial_libraries,
+ *     pef_findings, pef_more_notes, pef_partial_header, pef_partial_section, pef_partial_section_name, pef_partial_loader, pef_partial_libraries,
  *     pef_partial_imports, pef_partial_relocations, pef_partial_exports
  *     pef_file_kind, pef_forks, pef_resource_map, pef_resources, pef_find_resource, pef_members, pef_find_containers,
  *     pef_file_container, pef_fork_container, pef_numbered_container
@@ -53,6 +53,7 @@ void pef_space_free(struct pef_space *space);
 /* The calls of pef.h in a space. */
 uint32_t pef_container_place_in(struct pef_space *space, const uint8_t *container, size_t container_length, struct pef_place *place);
 uint32_t pef_findings_in(struct pef_space *space, const uint8_t *container, size_t container_length, size_t from, struct pef_finding *places, size_t place_count, size_t *count);
+uint32_t pef_more_notes_in(struct pef_space *space, const uint8_t *container, size_t container_length, size_t from, struct pef_finding *places, size_t place_count, size_t *count);
 
 uint32_t pef_header_in(struct pef_space *space, const uint8_t *container, size_t container_length, struct pef_header *header);
 uint32_t pef_section_in(struct pef_space *space, const uint8_t *container, size_t container_length, size_t number, struct pef_section *section, struct pef_bytes *raw);

@@ -37,6 +37,12 @@ static uint32_t call_findings(void)
     return pef_findings(bytes, length, 0, room, 1000, &count);
 }
 
+static uint32_t call_more_notes(void)
+{
+    size_t count;
+    return pef_more_notes(bytes, length, 0, room, 1000, &count);
+}
+
 static uint32_t call_imports(void)
 {
     size_t count;
@@ -122,6 +128,7 @@ int main(int count, char **words)
     measure("fixups", call_fixups);
     measure("expand", call_expand);
     measure("findings", call_findings);
+    measure("more notes", call_more_notes);
     measure("report", call_report);
 #ifdef IN_A_SPACE
     pef_space_free(&space);
