@@ -112,11 +112,12 @@ def compared(pef):
         first, further = again(pef, fragments, adds)
         yield name, 10, further, AGAIN * first
 
-    # Sections lie side by side, so the next one comes after them. If there is a gap that is too small for each of them, it is looked for
-    # from there on.
-    sections = container([Section(total=17)] * 8_192)
-    fast = seconds(prepared(pef, [("it", sections)]), 3)
-    yield "sections side by side", 10, fast, seconds(prepared(pef, [("it", sections)], [(0x10010, 16)]))
+    # A section is looked for from where the last one of its kind ended, also after a gap that is too small for each of them. If each was
+    # looked for from the front, four times as many sections would take sixteen times as long.
+    few, many = (prepared(pef, [("it", container([Section(total=17)] * count))], [(0x10010, 16)]) for count in (8_192, 32_768))
+    yield "sections after a gap", 2, seconds(many, 3), 16 * seconds(few, 3)
+    few, many = (prepared(pef, [("it", container([Section(total=0, align=12)] * count))], limit=0xFFFFFFF0) for count in (15_000, 60_000))
+    yield "sections with gaps between them", 2, seconds(many, 3), 16 * seconds(few, 3)
 
     # The library of each import is the next one, if they are in order.
     count = 200_000
