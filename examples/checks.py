@@ -118,9 +118,9 @@ def shown(readme: pathlib.Path, text: str) -> None:
             check(f"{readme.name}: {block[0]} ..", all(line in rest for line in block), "\n".join(block))
 
 
-def run(command: Sequence, **options) -> Tuple[int, str]:
+def run(command: Sequence, timeout: int = 120, **options) -> Tuple[int, str]:
     """The status and the output of a command; of a status that isn't 0, with what went to the standard error."""
-    done = subprocess.run([str(word) for word in command], capture_output=True, text=True, errors="replace", timeout=120, **options)
+    done = subprocess.run([str(word) for word in command], capture_output=True, text=True, errors="replace", timeout=timeout, **options)
     return done.returncode, done.stdout + (done.stderr if done.returncode else "")
 
 
