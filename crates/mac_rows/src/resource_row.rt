@@ -17,8 +17,9 @@ use crate::wrapping::{Wrapping, resources_in};
 use cfm_members::readable;
 use mac_forks::ForkBytes;
 use mac_resources::{Resource, ResourceFault, ResourceFork};
+use pef_listing::{magnitude, sign};
 use pef_ports::{Page, Sink, StreamFault};
-use pef_rows::{Token, at_or_dash, magnitude, number_or_null, print_separator, print_tokens, sign};
+use pef_rows::{Token, at_or_dash, number_or_null, print_separator, print_tokens};
 
 /// Prints the resources of a file whose rows can be read.
 pub fn print_resources<W: Sink>(

@@ -5,6 +5,7 @@ use Rattle.pef_format.specs.declared.export.ExportValue.{ExportValue}
 use Rattle.pef_format.specs.declared.export.ExportValue.TheVariants.{Absolute, InSection, Reexport}
 use Rattle.pef_format.specs.declared.export.ExportFields.{ExportFields}
 use Rattle.pef_format.specs.declared.named.Named.{Named}
+use Rattle.pef_format.specs.Rows.{named}
 use Rattle.std.specs.Borrow.{Bor}
 
 -- the sections of an absolute value (-2) and of an import that is passed on (-3)
@@ -26,11 +27,8 @@ value_of (pos section) value = InSection section value
 value_of (negsuc n) value = if n == 1 then Absolute value else Reexport value
 
 -- an exported symbol
-pub record Export : Type 0 where
-  pub name : List ℕ
-  pub class : ℕ
-  pub section : ℤ
-  pub value : ℕ
+abbrev pub Export : Type 0
+Export = Named ExportFields (List ℕ)
 
 -- a view of an exported symbol
 abbrev pub ExportView : Type 0
@@ -38,4 +36,4 @@ ExportView = Named ExportFields (Bor (List ℕ))
 
 -- the symbol that a view shows
 abbrev pub export_seen : ExportView → Export
-export_seen v = record { name = v.name.now; class = v.fields.class; section = v.fields.section; value = v.fields.value }
+export_seen v = named (λ name. name.now) v

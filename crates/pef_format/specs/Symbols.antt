@@ -43,20 +43,17 @@ options_of code = record {
 }
 
 -- an imported symbol, of a library by its number
-pub record Import : Type 0 where
-  pub name : List ℕ
-  pub class : ℕ
-  pub weak : Bool
-  pub library : ℕ
+abbrev pub Import : Type 0
+Import = Imported (List ℕ) ℕ
 
 -- a view of an imported symbol
 abbrev pub ImportView : Type 0
 ImportView = Imported (Bor (List ℕ)) ℕ
 
--- the symbol that a view shows
-abbrev pub import_seen : ImportView → Import
-import_seen v = record { name = v.name.now; class = v.fields.class; weak = v.fields.weak; library = v.library }
-
 -- an imported symbol with another kind of name
 abbrev pub import_named : {A B L : Type 0} → (A → B) → Imported A L → Imported B L
 import_named f import = record { fields = import.fields; name = f import.name; library = import.library }
+
+-- the symbol that a view shows
+abbrev pub import_seen : ImportView → Import
+import_seen v = import_named (λ name. name.now) v

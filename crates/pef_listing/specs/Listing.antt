@@ -8,6 +8,8 @@ use Rattle.pef_format.specs.Exports.{Export}
 use Rattle.pef_format.specs.Symbols.{Import}
 use Rattle.pef_views.specs.Container.{Contained, Section, section_of, section_name_of}
 use Rattle.pef_views.specs.declared.header.Header.{Header}
+use Rattle.pef_format.specs.declared.export.ExportFields.{ExportFields}
+use Rattle.pef_format.specs.declared.import.ImportFields.{ImportFields}
 use Rattle.pef_format.specs.declared.library.LibraryFields.{LibraryFields}
 use Rattle.pef_loader.specs.Library.{Library}
 use Rattle.pef_loader.specs.Loader.{Loaded, export_of, import_of, init_of, library_of, main_of, reloc_of, term_of}
@@ -61,14 +63,18 @@ library_text l = library_words (name_text l.name) l.fields ++ codes "\n"
 
 -- `weak` for an import that may be missing, otherwise `strong`
 abbrev pub strength_text : Bool → List ℕ
-strength_text weak = if weak then codes " weak\n" else codes " strong\n"
+strength_text weak = if weak then codes " weak" else codes " strong"
+
+-- the words of the line of import j
+unfoldable pub import_words : ℕ → List ℕ → List ℕ → ImportFields → List ℕ
+import_words j name library fields =
+    codes "import " ++ decimal j ++ codes " " ++ name
+    ++ codes " of " ++ library
+    ++ codes " class " ++ decimal fields.class ++ strength_text fields.weak
 
 -- the line of import j, with the name of its library
 unfoldable pub import_text : ℕ → Import → List ℕ → List ℕ
-import_text j i library =
-    codes "import " ++ decimal j ++ codes " " ++ name_text i.name
-    ++ codes " of " ++ name_text library
-    ++ codes " class " ++ decimal i.class ++ strength_text i.weak
+import_text j i library = import_words j (name_text i.name) (name_text library) i.fields ++ codes "\n"
 
 -- the line of an entry that the container has: its section and its offset
 abbrev pub entry_text : List ℕ → Option (ℕ × ℕ) → List ℕ
@@ -84,13 +90,21 @@ abbrev pub magnitude : ℤ → ℕ
 magnitude (pos n) = n
 magnitude (negsuc n) = n + 1
 
+-- the number of the section of an export
+abbrev pub section_number_text : ℤ → List ℕ
+section_number_text n = sign_text n ++ decimal (magnitude n)
+
+-- the words of an export's line
+unfoldable pub export_words : List ℕ → ExportFields → List ℕ
+export_words name fields =
+    codes "export " ++ name
+    ++ codes " class " ++ decimal fields.class
+    ++ codes " section " ++ section_number_text fields.section
+    ++ codes " value " ++ word_text fields.value
+
 -- the line of an export
 unfoldable pub export_text : Export → List ℕ
-export_text e =
-    codes "export " ++ name_text e.name
-    ++ codes " class " ++ decimal e.class
-    ++ codes " section " ++ sign_text e.section ++ decimal (magnitude e.section)
-    ++ codes " value " ++ word_text e.value ++ codes "\n"
+export_text e = export_words (name_text e.name) e.fields ++ codes "\n"
 
 -- the line of a relocation header: its section and its count of halfwords
 abbrev pub reloc_header_text : ℕ × List ℕ → List ℕ

@@ -19,4 +19,4 @@ pub use line_reader::{LineReader, ListingCursor};
 pub use listing::Listing;
 pub use pef_reloc::{InstrNumbers, instr_numbers, kind_name};
 pub use reader::ListingReader;
-pub use words::LibraryWords;
+pub use words::{ExportWords, ImportWords, LibraryWords, magnitude, sign};

@@ -8,15 +8,13 @@ ghost use Rattle.pef_reloc.specs.Views.{program_bytes};
 ghost use Rattle.pef_loader.specs.Views.{loaded};
 ghost use Rattle.pef_ports.specs.Sent.{Sends};
 ghost use Rattle.pef_listing.specs.Listed.{AreReadable};
-ghost use Rattle.pef_listing.specs.Listing.{container_text, each_text, entry_text, export_lines, import_lines, library_lines, library_name, magnitude, reloc_header_text, reloc_lines, section_lines, section_name_text, sign_text, strength_text};
+ghost use Rattle.pef_listing.specs.Listing.{container_text, each_text, entry_text, export_lines, import_lines, library_lines, library_name, reloc_header_text, reloc_lines, section_lines, section_name_text};
 ghost use Rattle.pef_ports.specs.Pieces.{piece_text};
 
-use crate::words::LibraryWords;
-use pef_format::{ExportView, ImportView};
+use crate::words::{ExportWords, ImportWords, LibraryWords};
+use pef_format::ImportView;
 use pef_loader::Loader;
-use pef_ports::{
-    Decimal, Escaped, Hex, Joined, Page, Piece, Printed, Sink, StreamFault, Verbatim, print_pieces,
-};
+use pef_ports::{Escaped, Joined, Page, Piece, Printed, Sink, StreamFault, Verbatim, print_pieces};
 use pef_reloc::Program;
 use pef_views::{Container, Header};
 
@@ -169,13 +167,13 @@ pub fn print_import<'a, W: Sink>(
     ensures sends { Sends result (W.stream out.old) (W.stream out.new) page.old.items page.new.items (import_lines (loaded names.old.loader) j) }
     ensures same { names.new.loader ≡ names.old.loader }
 {
-    let library = names.of(import.library);
-    let class = u64::from(import.fields.class);
-    let number = Joined(Verbatim(b"import "), Decimal(j as u64));
-    let name = Joined(Joined(number, Verbatim(b" ")), Escaped(import.name));
-    let owner = Joined(Joined(name, Verbatim(b" of ")), Escaped(library));
-    let kind = Joined(Joined(owner, Verbatim(b" class ")), Decimal(class));
-    Joined(kind, Verbatim(strength(import.fields.weak))).print(out, page)
+    let words = ImportWords {
+        number: j as u64,
+        name: Escaped(import.name),
+        library: Escaped(names.of(import.library)),
+        fields: import.fields,
+    };
+    Joined(words, Verbatim(b"\n")).print(out, page)
 }
 
 /// The name of the library that was asked for last.
@@ -248,14 +246,11 @@ impl<'a> Lines for Exported<'a> {
         let Some(export) = self.loader.export(i) else {
             unreachable!()
         };
-        let section = section_number(export);
-        let class = u64::from(export.fields.class);
-        let magnitude = u64::from(section.magnitude);
-        let name = Joined(Verbatim(b"export "), Escaped(export.name));
-        let kind = Joined(Joined(name, Verbatim(b" class ")), Decimal(class));
-        let sign = Joined(Joined(kind, Verbatim(b" section ")), Verbatim(section.sign));
-        let number = Joined(Joined(sign, Decimal(magnitude)), Verbatim(b" value "));
-        Joined(Joined(number, Hex(export.fields.value)), Verbatim(b"\n")).print(out, page)
+        let words = ExportWords {
+            name: Escaped(export.name),
+            fields: export.fields,
+        };
+        Joined(words, Verbatim(b"\n")).print(out, page)
     }
 }
 
@@ -338,29 +333,4 @@ pub fn print_entry<W: Sink>(
         ),
         None => print_pieces(out, page, &[]),
     }
-}
-
-/// The number of a section, as its sign and the number without it.
-#[derive(Clone, Copy)]
-struct SectionNumber {
-    sign: &'static [u8],
-    magnitude: u32,
-}
-
-/// Returns the number of the section that an export is in.
-fn section_number(export: ExportView<'_>) -> SectionNumber
-    ensures sign { result.sign.now ≡ sign_text export.entry.fields.section }
-    ensures magnitude { result.magnitude ≡ magnitude export.entry.fields.section }
-{
-    SectionNumber {
-        sign: if export.fields.section < 0 { b"-" } else { b"" },
-        magnitude: export.fields.section.unsigned_abs(),
-    }
-}
-
-/// Returns the end of an import's line: whether the import may be missing.
-fn strength(weak: bool) -> &'static [u8]
-    ensures { result.now ≡ strength_text weak }
-{
-    if weak { b" weak\n" } else { b" strong\n" }
 }

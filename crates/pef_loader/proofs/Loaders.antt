@@ -225,12 +225,12 @@ named_is l name i is = export_named-some (export_table l.bytes l.header) name i 
 
 -- .. so it is there, and has the name
 pub named_there : (l : Loaded) (name : List ℕ) (i : ℕ) → IsLoader l → named_of l name ≡ Some i
-    → (x : Export) × (export_of l i ≡ Some x) × (x.name ≡ name) × IsTrue (has_section l.header l.sections x.value x.section)
+    → (x : Export) × (export_of l i ≡ Some x) × (x.name ≡ name) × IsTrue (has_section l.header l.sections x.fields.value x.fields.section)
 unfolding named_of export_of export_in
 named_there l name i ok found =
     let named = export_named-some (export_table l.bytes l.header) name i found in
     let is = export_is l i ok named.below in (
-      record { name = name; class = is.0.fields.class; section = is.0.fields.section; value = is.0.fields.value },
+      record { fields = is.0.fields; name = name },
       rw (is.1, named.named) refl,
       refl,
       is.2.section,

@@ -56,4 +56,4 @@ unfoldable pub export_in : List ℕ → LoaderHeader → ℕ → Option Export
 export_in bytes h i = do
   e ← entry_of (export_table bytes h) i
   name ← name_of (export_table bytes h) i
-  Some (record { name = name; class = e.fields.class; section = e.fields.section; value = e.fields.value })
+  Some (record { fields = e.fields; name = name })

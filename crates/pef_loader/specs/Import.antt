@@ -49,4 +49,4 @@ import_in bytes h j = if nat_lt j h.import_count then (do
   e ← import_at bytes h j
   name ← name_at bytes (h.strings_offset + e.name)
   owner ← owner_of bytes h j
-  Some (record { name = name; class = e.fields.class; weak = e.fields.weak; library = owner })) else None
+  Some (record { fields = e.fields; name = name; library = owner })) else None

@@ -3,6 +3,7 @@ pub mod Accepted
 pub mod Blocks
 pub mod Cursors
 pub mod Fields
+pub mod Marks
 pub mod Names
 pub mod Ranges
 pub mod Tests

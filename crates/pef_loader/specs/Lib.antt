@@ -3,6 +3,7 @@ pub mod Export
 pub mod Faults
 pub mod Header
 pub mod Import
+pub mod ImportNames
 pub mod Kept
 pub mod Library
 pub mod Loader

@@ -1,8 +1,11 @@
-ghost use Rattle.std.specs.Prelude.{◌≡◌, ◌+◌, min, option_map};
+ghost use Rattle.std.specs.Prelude.{◌≡◌, ◌+◌, ◌<◌, length, min, option_map};
+ghost use Rattle.std.specs.Option.{option_copied};
 ghost use Rattle.pef_words.specs.Bytes.{name_at};
 ghost use Rattle.pef_loader.specs.CutNames.{cut_name};
+ghost use Rattle.pef_loader.specs.Kept.Marks.{AreMarks};
 ghost use Rattle.pef_loader.specs.Kept.Names.{NamesEndAt, front_name};
 
+use crate::marks::{MARKS, known_end, mark_places, zero_between};
 use crate::names::names_end;
 use pef_words::Cut;
 
@@ -15,12 +18,16 @@ pub struct CutName<'a> {
 }
 
 /// The zero-ended names in some bytes. The place of the last zero byte is known, so a name that passes a limit is known to end
-/// without a search for its end.
+/// without a search for its end. Places are marked, so that a whole name is found by a short search, however long it is.
 #[derive(Clone, Copy, Debug)]
 pub struct Names<'a> {
-    cut: Cut<'a>,
-    end: usize,
+    pub(crate) cut: Cut<'a>,
+    pub(crate) end: usize,
+    step: usize,
+    marks: [u32; MARKS],
     ghost ended: { NamesEndAt cut.bytes.now end },
+    ghost stepped: { 0 < step },
+    ghost marked: { AreMarks cut.bytes.now step marks },
 }
 
 impl<'a> Names<'a> {
@@ -39,7 +46,34 @@ impl<'a> Names<'a> {
         requires { NamesEndAt cut.bytes.now end }
         ensures { names_bytes result ≡ cut.entry.bytes.now }
     {
-        Names { cut, end }
+        let step = cut.len() / MARKS + 1;
+        Names {
+            cut,
+            end,
+            step,
+            marks: mark_places(cut, step),
+        }
+    }
+
+    /// Returns how many bytes there are.
+    pub(crate) fn len(&self) -> usize
+        ensures { result ≡ length (names_bytes self.now) }
+    {
+        self.cut.len()
+    }
+
+    /// Returns the zero-ended name at `from`. `None` if no zero byte follows.
+    pub(crate) fn whole(&self, from: usize) -> Option<&'a [u8]>
+        ensures { option_copied result ≡ name_at (names_bytes self.now) from }
+    {
+        if from >= self.end {
+            return None;
+        }
+        let end = match known_end(self.cut, self.step, &self.marks, from) {
+            Some(end) => end,
+            None => zero_between(self.cut, from, self.cut.len())?,
+        };
+        Some(&self.cut.bytes()[from..end])
     }
 
     /// Returns the zero-ended name at `from`, and only its first `most` bytes if it is longer. `None` if no zero byte follows.

@@ -4,7 +4,7 @@ ghost use Rattle.std.specs.Prelude.{◌≡◌, option_map};
 ghost use Rattle.pef_loader.specs.Import.{owner_of};
 ghost use Rattle.pef_loader.specs.Partial.{cut_import_row, cut_library_row};
 
-use crate::cut_name::{CutName, Names};
+use crate::cut_name::CutName;
 use crate::import::read_import;
 use crate::library::read_library;
 use crate::partial::{PartialImports, PartialLoader};
@@ -20,7 +20,7 @@ pub type CutImport<'a> = Imported<Option<CutName<'a>>, Option<usize>>;
 pub type CutExport<'a> = Named<ExportFields, Option<CutName<'a>>>;
 
 impl<'a> PartialLoader<'a> {
-    ghost use Rattle.pef_loader.specs.PartialViews.{cut_import_seen, cut_library_seen, names_bytes, partly_loaded};
+    ghost use Rattle.pef_loader.specs.PartialViews.{cut_import_seen, cut_library_seen, partly_loaded};
 
     /// Returns library `i`, with at most `most` bytes of its name, or `None` past the last one that is in the loader section.
     /// It looks at no more than `most + 1` bytes of the name.
@@ -34,7 +34,7 @@ impl<'a> PartialLoader<'a> {
         let at = self.tables.header.name(library.name);
         Some(Named {
             fields: library.fields,
-            name: self.names().name(at, most),
+            name: self.names.name(at, most),
         })
     }
 
@@ -51,16 +51,9 @@ impl<'a> PartialLoader<'a> {
         let at = self.tables.header.name(import.name);
         Some(Imported {
             fields: import.fields,
-            name: self.names().name(at, most),
+            name: self.names.name(at, most),
             library,
         })
-    }
-
-    /// Returns the names of the loader section.
-    fn names(&self) -> Names<'a>
-        ensures { names_bytes result ≡ (partly_loaded self.now).bytes }
-    {
-        Names::ending(self.tables.cut, self.names_end)
     }
 }
 

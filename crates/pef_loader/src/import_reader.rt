@@ -6,8 +6,10 @@ ghost use Rattle.pef_loader.specs.Loader.{import_of};
 
 use crate::block::OwnerBlock;
 use crate::cursor::OwnerCursor;
+use crate::import::read_import;
+use crate::name_reader::NameReader;
 use crate::tables::Loader;
-use pef_format::ImportView;
+use pef_format::{ImportView, Imported};
 
 /// Reads many imports of a loader section, each with its library, and allocates nothing.
 ///
@@ -21,8 +23,10 @@ pub struct ImportReader<'a> {
     cursor: OwnerCursor,
     /// The last block that was painted. Libraries in order need none.
     block: OwnerBlock,
+    names: NameReader<'a>,
     ghost range: { HasRange loader.tables.cut.bytes.now cursor },
     ghost painted: { AreOwnersIf block.painted loader.tables.cut.bytes.now loader.tables.header block.from block.cells },
+    ghost named: { names.names.cut.bytes.now ≡ loader.tables.cut.bytes.now },
 }
 
 impl<'a> ImportReader<'a> {
@@ -37,6 +41,7 @@ impl<'a> ImportReader<'a> {
             loader,
             cursor: OwnerCursor::new(loader.tables.cut),
             block: OwnerBlock::new(),
+            names: NameReader::new(loader.names),
         }
     }
 
@@ -53,7 +58,13 @@ impl<'a> ImportReader<'a> {
             return None;
         }
         let library = self.owner(j)?;
-        loader.import_of(library, j)
+        let import = read_import(loader.tables, j)?;
+        let name = self.names.name(loader.tables.header.name(import.name))?;
+        Some(Imported {
+            fields: import.fields,
+            name,
+            library,
+        })
     }
 
     /// Returns the first library that has import `j`.

@@ -14,11 +14,13 @@ ghost use Rattle.pef_loader.specs.Loader.{entry_tests};
 ghost use Rattle.pef_loader.specs.Partial.{export_row, export_row_of, export_name_at, export_table_tests, exports_in, import_name_at, import_row, library_name_at, library_fields, library_row, partial_of, relocation_reserved, relocation_row, rows_in, table_tests, tests_of_export, tests_of_import, tests_of_library, tests_of_relocation};
 ghost use Rattle.pef_loader.specs.Places.{place_of};
 
+use crate::cut_name::Names;
 use crate::export::{has_exports, tests_of_export, unsearched_exports};
 use crate::fault::LoaderFault;
 use crate::header::{LoaderHeader, LoaderTables, library_place, read_header};
 use crate::import::{import_table, read_import};
 use crate::library::{library_table, read_library};
+use crate::name_reader::NameReader;
 use crate::names::names_end;
 use crate::owners::Owners;
 use crate::place::{field_from, start_with};
@@ -40,12 +42,12 @@ use pef_words::Cut;
 pub struct PartialLoader<'a> {
     pub(crate) container: PartialContainer<'a>,
     pub(crate) tables: LoaderTables<'a>,
-    pub(crate) names_end: usize,
+    pub(crate) names: Names<'a>,
     in_order: bool,
     exports: Option<Exports<'a>>,
     ghost section: { tables.cut.bytes.now ≡ (partly container).loader },
     ghost headed: { header_of tables.cut.bytes.now ≡ Some tables.header },
-    ghost named: { NamesEndAt tables.cut.bytes.now names_end },
+    ghost named: { names.cut.bytes.now ≡ tables.cut.bytes.now },
     ghost ordered: { IsTrue in_order → AreInOrder tables.cut.bytes.now tables.header.library_count },
     ghost exported: { is_some exports ≡ has_exports tables.cut.bytes.now tables.header },
     ghost tabled: { ForSome exports (λ e. table_of e ≡ export_table tables.cut.bytes.now tables.header) },
@@ -94,7 +96,7 @@ impl<'a> PartialLoader<'a> {
         Ok(PartialLoader {
             container: *container,
             tables,
-            names_end: names_end(cut),
+            names: Names::ending(cut, names_end(cut)),
             in_order: are_whole_and_in_order(tables),
             exports: exports_in(tables),
         })
@@ -220,10 +222,7 @@ impl<'a> PartialLoader<'a> {
         let library = read_library(self.tables.cut, i)?;
         Some(Named {
             fields: library.fields,
-            name: self
-                .tables
-                .cut
-                .name_at(self.tables.header.name(library.name)),
+            name: self.names.whole(self.tables.header.name(library.name)),
         })
     }
 
@@ -254,9 +253,16 @@ impl<'a> PartialLoader<'a> {
     }
 
     /// Returns import `j`, whose library was looked for, or `None` past the last one that is in the loader section.
-    fn import(&self, library: Option<usize>, j: usize) -> Option<PartialImport<'a>>
-        requires { library ≡ owner_of (partly_loaded self.now).bytes (partly_loaded self.now).header j }
-        ensures { option_map import_seen result ≡ import_row (partly_loaded self.now) j }
+    fn import(
+        &self,
+        names: &mut NameReader<'a>,
+        library: Option<usize>,
+        j: usize,
+    ) -> Option<PartialImport<'a>>
+        requires names { names.old.names.cut.bytes.now ≡ (partly_loaded self.now).bytes }
+        requires library { library ≡ owner_of (partly_loaded self.now).bytes (partly_loaded self.now).header j }
+        ensures value { option_map import_seen result ≡ import_row (partly_loaded self.now) j }
+        ensures same { names.new.names ≡ names.old.names }
     {
         if j >= self.tables.header.import_count as usize {
             return None;
@@ -264,10 +270,7 @@ impl<'a> PartialLoader<'a> {
         let import = read_import(self.tables, j)?;
         Some(Imported {
             fields: import.fields,
-            name: self
-                .tables
-                .cut
-                .name_at(self.tables.header.name(import.name)),
+            name: names.name(self.tables.header.name(import.name)),
             library,
         })
     }
@@ -391,7 +394,7 @@ impl<'a> PartialLoader<'a> {
     pub fn library_tests(&self, i: u32) -> Option<[(bool, LoaderFault); 2]>
         ensures { result ≡ tests_of_library (partly_loaded self.now) i }
     {
-        library_table(self.tables, self.names_end, i)
+        library_table(self.tables, self.names.end, i)
     }
 
     /// Returns the tests of the entry points, in order.
@@ -444,7 +447,9 @@ fn exports_in<'a>(tables: LoaderTables<'a>) -> Option<Exports<'a>>
 pub struct PartialImports<'a> {
     pub(crate) loader: PartialLoader<'a>,
     pub(crate) owners: Owners<'a>,
+    names: NameReader<'a>,
     ghost same: { owners.tables ≡ loader.tables },
+    ghost named: { names.names.cut.bytes.now ≡ loader.tables.cut.bytes.now },
 }
 
 impl<'a> PartialImports<'a> {
@@ -457,6 +462,7 @@ impl<'a> PartialImports<'a> {
         PartialImports {
             loader,
             owners: Owners::new(loader.tables, loader.in_order),
+            names: NameReader::new(loader.names),
         }
     }
 
@@ -466,7 +472,7 @@ impl<'a> PartialImports<'a> {
         ensures same { self.new.loader ≡ self.old.loader }
     {
         let library = self.owners.owner(j);
-        self.loader.import(library, j)
+        self.loader.import(&mut self.names, library, j)
     }
 
     /// Returns the tests of import `j`, in order, or `None` if it isn't in the loader section.
@@ -475,6 +481,6 @@ impl<'a> PartialImports<'a> {
         ensures same { self.new.loader ≡ self.old.loader }
     {
         let owner = self.owners.owner(j as usize);
-        import_table(self.loader.tables, self.loader.names_end, owner, j)
+        import_table(self.loader.tables, self.loader.names.end, owner, j)
     }
 }

@@ -14,6 +14,7 @@ ghost use Rattle.pef_loader.specs.Reloc.{reloc_refusal};
 
 use crate::block::OwnerBlock;
 use crate::cursor::OwnerCursor;
+use crate::cut_name::Names;
 use crate::export::{exports, has_exports, test_export};
 use crate::fault::{LoaderFault, refused_by};
 use crate::header::{EntryKind, LoaderHeader, LoaderTables, is_entry, read_header};
@@ -37,8 +38,10 @@ pub struct Loader<'a> {
     sections: u16,
     pub(crate) in_order: bool,
     exports: Exports<'a>,
+    pub(crate) names: Names<'a>,
     ghost ordered: { IsTrue in_order → AreInOrder tables.cut.bytes.now tables.header.library_count },
     ghost tabled: { table_of exports ≡ export_table tables.cut.bytes.now tables.header },
+    ghost named: { names.cut.bytes.now ≡ tables.cut.bytes.now },
     pub ghost accepted: { loaded_of sections tables.cut.bytes.now ≡ Ok (record {
       sections = sections;
       bytes = tables.cut.bytes.now;
@@ -94,6 +97,7 @@ impl<'a> Loader<'a> {
             sections,
             in_order,
             exports,
+            names: Names::ending(cut, names_end),
         })
     }
 
@@ -149,10 +153,7 @@ impl<'a> Loader<'a> {
         let library = read_library(self.tables.cut, i)?;
         Some(Named {
             fields: library.fields,
-            name: self
-                .tables
-                .cut
-                .name_at(self.tables.header.name(library.name))?,
+            name: self.names.whole(self.tables.header.name(library.name))?,
         })
     }
 
@@ -175,7 +176,7 @@ impl<'a> Loader<'a> {
 
     /// Returns import `j`, whose first library is known.
     #[tactic(auto, unfolding(crate::specs::Loader::import_of, crate::specs::Import::import_in))]
-    pub(crate) fn import_of(&self, library: usize, j: usize) -> Option<ImportView<'a>>
+    fn import_of(&self, library: usize, j: usize) -> Option<ImportView<'a>>
         requires small { j < 2 ^ 32 }
         requires place { j < (loaded self.now).header.import_count }
         requires library { owner_of (loaded self.now).bytes (loaded self.now).header j ≡ Some library }
@@ -186,10 +187,7 @@ impl<'a> Loader<'a> {
         let import = read_import(self.tables, j)?;
         Some(Imported {
             fields: import.fields,
-            name: self
-                .tables
-                .cut
-                .name_at(self.tables.header.name(import.name))?,
+            name: self.names.whole(self.tables.header.name(import.name))?,
             library,
         })
     }

@@ -1,9 +1,9 @@
--- The calls that give a part of a report.
+-- The calls that give a part of a report, and the one that gives the object of a container by itself.
 use Rattle.std.specs.Prelude.{◌≡◌, ◌==◌, ◌<◌, ℕ, MatchBool, List, ◌++◌, Option, None, Some, drop, length, if◌then◌else◌}
 use Rattle.pef_format.specs.declared.place.Part.{Part}
 use Rattle.pef_format.specs.declared.place.Part.TheVariants.{Section, Library, Import, Relocation, Export}
 use Rattle.cfm_members.specs.Contents.{rest_from}
-use Rattle.pef_report.specs.Inspection.{rows_text}
+use Rattle.pef_report.specs.Inspection.{Inspected, Inspects, inspection_object, rows_text}
 use Rattle.pef_page.specs.declared.parts.PageRange.{PageRange}
 
 -- bytes are at the front of the room, the rest of it is unchanged, and their number is stored. Or they are more than the room
@@ -36,3 +36,7 @@ abbrev pub RowsAnswer : List ℕ → PageRange → Option Part → List ℕ → 
 RowsAnswer file rows None old new count count' answer = (answer ≡ 201) × (new ≡ old) × (count' ≡ count)
 RowsAnswer file rows (Some kind) old new count count' answer =
     PartAnswer (λ text. text ≡ rows_text rows.place (rest_from file rows.place) kind rows.from rows.count) old new count count' answer
+
+-- the object of some bytes as a container, within the limits for one container
+abbrev pub IsInspection : List ℕ → List ℕ → Type 0
+IsInspection bytes text = (i : Inspected) × Inspects 0 bytes i × (text ≡ inspection_object i)

@@ -16,10 +16,10 @@ use mac_report::ReportPart;
 use pef_format::Part;
 
 /// The text is longer than the room.
-const ROOM_TOO_SMALL: u32 = 200;
+pub(crate) const ROOM_TOO_SMALL: u32 = 200;
 
 /// There is too little memory for the text.
-const OUT_OF_MEMORY: u32 = 99;
+pub(crate) const OUT_OF_MEMORY: u32 = 99;
 
 /// There is no such kind of row.
 const NO_KIND: u32 = 201;
@@ -174,7 +174,7 @@ fn give(memory: Memory, part: ReportPart<'_>, room: &mut [u8], count: &mut usize
 }
 
 /// Copies bytes to the front of a room if they fit, and stores how many they are.
-fn copy_out(bytes: &[u8], room: &mut [u8], count: &mut usize) -> Option<()>
+pub(crate) fn copy_out(bytes: &[u8], room: &mut [u8], count: &mut usize) -> Option<()>
     ensures { IsCopied bytes.now room.old room.new count.new result }
 {
     *count = bytes.len();

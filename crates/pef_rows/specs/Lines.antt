@@ -2,7 +2,7 @@
 -- (docs/FORMATS.md, "Listings"), and then what a listing leaves out.
 use Rattle.std.specs.Prelude.{ℕ, ℤ, pos, negsuc, ◌==◌, Bool, false, List, [], ◌∷◌, ◌++◌, Option, None, Some, codes, decimal, if◌then◌else◌}
 use Rattle.std.specs.Str.{bytes_eq}
-use Rattle.pef_listing.specs.Listing.{library_words, magnitude, sign_text}
+use Rattle.pef_listing.specs.Listing.{export_words, import_words, library_words, magnitude, sign_text}
 use Rattle.pef_loader.specs.CutNames.{CutName}
 use Rattle.pef_loader.specs.Partial.{CutExportRow, CutImportRow, CutLibraryRow}
 use Rattle.pef_loader.specs.declared.header.LoaderHeader.{LoaderHeader}
@@ -63,12 +63,10 @@ library_line at library =
     ++ codes " versions " ++ version_text library.fields.current ++ codes " " ++ version_text library.fields.old_imp ++ codes " imports "
     ++ decimal library.fields.count ++ codes " from " ++ decimal library.fields.first ++ codes "\n"
 
--- import `number`, with the name of its library
+-- import `number`, with the name of its library: the words of a listing
 unfoldable pub import_line : ℕ → ℕ → CutImportRow → Option CutName → List ℕ
 import_line at number import library_name =
-    at_text at ++ codes " import " ++ decimal number ++ codes " " ++ name_or_mark import.name ++ codes " of "
-    ++ name_or_mark library_name ++ codes " class " ++ decimal import.fields.class
-    ++ (if import.fields.weak then codes " weak\n" else codes " strong\n")
+    at_text at ++ codes " " ++ import_words number (name_or_mark import.name) (name_or_mark library_name) import.fields ++ codes "\n"
 
 -- the line of an entry point after its label, if the section isn't -1
 unfoldable pub entry_line : List ℕ → ℕ → ℤ → ℕ → List ℕ
@@ -83,9 +81,6 @@ relocation_line at section count first =
     at_text at ++ codes " reloc section " ++ decimal section ++ codes " halfwords " ++ decimal count
     ++ codes " first " ++ decimal first ++ codes "\n"
 
--- an export
+-- an export: the words of a listing
 unfoldable pub export_line : ℕ → CutExportRow → List ℕ
-export_line at export =
-    at_text at ++ codes " export " ++ name_or_mark export.name ++ codes " class " ++ decimal export.fields.class
-    ++ codes " section " ++ sign_text export.fields.section ++ decimal (magnitude export.fields.section) ++ codes " value "
-    ++ word_text export.fields.value ++ codes "\n"
+export_line at export = at_text at ++ codes " " ++ export_words (name_or_mark export.name) export.fields ++ codes "\n"

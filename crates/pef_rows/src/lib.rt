@@ -32,9 +32,7 @@ pub use objects::{
     print_entry_object, print_export_object, print_header_object, print_import_object,
     print_library_object, print_loader_object, print_section_object, print_separator,
 };
-pub use optional::{
-    at_digits, at_or_dash, at_word, magnitude, number_or_null, sign, text_if, truth,
-};
+pub use optional::{at_digits, at_or_dash, at_word, number_or_null, text_if, truth};
 pub use programs::{print_instr_line, print_instr_object, print_relocation_object};
 pub use rows::{
     EntryRow, ExportRow, FindingRow, HeaderRow, ImportRow, InstrRow, LibraryRow, LoaderRow,

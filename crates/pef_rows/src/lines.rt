@@ -5,15 +5,15 @@ ghost use Rattle.pef_ports.specs.Sent.{Sends};
 ghost use Rattle.pef_rows.specs.Tokens.{token_text};
 ghost use Rattle.pef_rows.specs.Lines.{section_label, entry_line, export_line, header_line, import_line, library_line, loader_line, relocation_line, section_line};
 
-use crate::optional::{is_none_entry, magnitude, sign};
+use crate::optional::is_none_entry;
 use crate::parts::{NameOrMark, Offset, Version};
 use crate::rows::{
     EntryRow, ExportRow, HeaderRow, ImportRow, LibraryRow, LoaderRow, RelocationRow, SectionRow,
 };
 use crate::tokens::{Token, print_tokens};
-use pef_listing::LibraryWords;
+use pef_listing::{ExportWords, ImportWords, LibraryWords, magnitude, sign};
 use pef_loader::CutName;
-use pef_ports::{Decimal, Hex, Joined, Page, Printed, Sink, StreamFault, Verbatim};
+use pef_ports::{Decimal, Joined, Page, Printed, Sink, StreamFault, Verbatim};
 
 /// Prints the line of a container's header.
 #[tactic(auto, unfolding(crate::specs::Lines::header_line))]
@@ -182,24 +182,14 @@ pub fn print_import<W: Sink>(
 ) -> Result<(), StreamFault>
     ensures { Sends result (W.stream out.old) (W.stream out.new) page.old.items page.new.items (import_line row.entry.at row.entry.number (cut_import_seen row.entry.import) (option_map cut_seen row.entry.library_name)) }
 {
-    let fields = row.import.fields;
-    let class = u64::from(fields.class);
-    let start = Joined(Offset(row.at), Verbatim(b" import "));
-    let number = Joined(Joined(start, Decimal(row.number)), Verbatim(b" "));
-    let name = Joined(
-        Joined(number, NameOrMark(row.import.name)),
-        Verbatim(b" of "),
-    );
-    let owner = Joined(
-        Joined(name, NameOrMark(row.library_name)),
-        Verbatim(b" class "),
-    );
-    let strength = Verbatim(if fields.weak {
-        b" weak\n"
-    } else {
-        b" strong\n"
-    });
-    Joined(Joined(owner, Decimal(class)), strength).print(out, page)
+    let words = ImportWords {
+        number: row.number,
+        name: NameOrMark(row.import.name),
+        library: NameOrMark(row.library_name),
+        fields: row.import.fields,
+    };
+    let start = Joined(Joined(Offset(row.at), Verbatim(b" ")), words);
+    Joined(start, Verbatim(b"\n")).print(out, page)
 }
 
 /// Prints the line of an entry point, if the section isn't -1.
@@ -264,18 +254,10 @@ pub fn print_export<W: Sink>(
 ) -> Result<(), StreamFault>
     ensures { Sends result (W.stream out.old) (W.stream out.new) page.old.items page.new.items (export_line row.entry.at (cut_export_seen row.entry.export)) }
 {
-    let fields = row.export.fields;
-    let class = u64::from(fields.class);
-    let start = Joined(Offset(row.at), Verbatim(b" export "));
-    let name = Joined(
-        Joined(start, NameOrMark(row.export.name)),
-        Verbatim(b" class "),
-    );
-    let kind = Joined(Joined(name, Decimal(class)), Verbatim(b" section "));
-    let number = Joined(
-        Joined(kind, Verbatim(sign(fields.section))),
-        Decimal(magnitude(fields.section)),
-    );
-    let value = Joined(Joined(number, Verbatim(b" value ")), Hex(fields.value));
-    Joined(value, Verbatim(b"\n")).print(out, page)
+    let words = ExportWords {
+        name: NameOrMark(row.export.name),
+        fields: row.export.fields,
+    };
+    let start = Joined(Joined(Offset(row.at), Verbatim(b" ")), words);
+    Joined(start, Verbatim(b"\n")).print(out, page)
 }

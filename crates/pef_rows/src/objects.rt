@@ -5,11 +5,12 @@ ghost use Rattle.pef_ports.specs.Sent.{Sends};
 ghost use Rattle.pef_rows.specs.Objects.{entry_object, export_object, header_counts, header_object, header_versions, import_object, library_imports, library_object, library_versions, loader_object, section_codes, section_object, section_sizes, separator};
 
 use crate::codes::{class_member, kind_text, share_text};
-use crate::optional::{is_none_entry, magnitude, number_or_null, sign, truth};
+use crate::optional::{is_none_entry, number_or_null, truth};
 use crate::parts::{CutNameMember, Version};
 use crate::rows::{EntryRow, ExportRow, HeaderRow, ImportRow, LibraryRow, LoaderRow, SectionRow};
 use crate::tokens::{Token, print_tokens};
 use pef_format::LibraryFields;
+use pef_listing::{magnitude, sign};
 use pef_ports::{Decimal, Joined, Page, Printed, Sink, StreamFault, Verbatim, send};
 use pef_views::Header;
 

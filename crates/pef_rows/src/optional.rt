@@ -1,6 +1,5 @@
 //! Tokens that depend on a condition.
 ghost use Rattle.std.specs.Prelude.{◌≡◌, decimal};
-ghost use Rattle.pef_listing.specs.Listing.{magnitude, sign_text};
 ghost use Rattle.pef_rows.specs.Lines.{is_none_entry};
 ghost use Rattle.pef_rows.specs.Findings.{at_digits, at_word, shown};
 ghost use Rattle.pef_rows.specs.Tokens.{at_or_dash, number_or_null, token_text, truth};
@@ -71,20 +70,6 @@ pub fn at_digits(at: Option<u64>) -> Token<'static>
         Some(at) => Token::At(at),
         None => Token::Text(b""),
     }
-}
-
-/// Returns the sign of a section's number.
-pub fn sign(section: i32) -> &'static [u8]
-    ensures { result.now ≡ sign_text section }
-{
-    if section < 0 { b"-" } else { b"" }
-}
-
-/// Returns a section's number without its sign.
-pub fn magnitude(section: i32) -> u64
-    ensures { result ≡ magnitude section }
-{
-    u64::from(section.unsigned_abs())
 }
 
 /// Returns whether an entry point isn't there.

@@ -6,8 +6,8 @@ use Rattle.pef_script.specs.declared.parts.ImportData.{ImportData}
 use Rattle.pef_script.specs.declared.parts.LibraryData.{LibraryData}
 use Rattle.pef_script.specs.declared.parts.Parts.{Parts}
 use Rattle.pef_format.specs.Exports.{Export}
-use Rattle.pef_format.specs.Symbols.{Import, class_code}
-use Rattle.pef_script.specs.Script.{DescribedLibrary, DescribedScript}
+use Rattle.pef_format.specs.Symbols.{Import}
+use Rattle.pef_script.specs.Script.{DescribedLibrary, DescribedScript, described_export, described_import}
 
 -- a name and the data beside it
 
@@ -15,10 +15,10 @@ abbrev pub library_of : Bor (List ℕ) × LibraryData → DescribedLibrary
 library_of e = record { name = e.0.now; current = e.1.current; old_imp = e.1.old_imp; options = e.1.options }
 
 abbrev pub import_of : Bor (List ℕ) × ImportData → Import
-import_of e = record { name = e.0.now; class = class_code e.1.class; weak = e.1.weak; library = e.1.library }
+import_of e = described_import e.0.now e.1.class e.1.weak e.1.library
 
 abbrev pub export_of : Bor (List ℕ) × ExportData → Export
-export_of e = record { name = e.0.now; class = class_code e.1.class; section = e.1.section; value = e.1.value }
+export_of e = described_export e.0.now e.1.class e.1.section e.1.value
 
 -- the script of some parts
 abbrev pub script_in : Parts → DescribedScript

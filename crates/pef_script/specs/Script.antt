@@ -1,12 +1,13 @@
 -- What a script describes: the parts of a container, by their names and numbers. The language of scripts is
 -- this project's own (docs/SCRIPTS.md).
-use Rattle.std.specs.Prelude.{ℕ, ◌+◌, List, Option, length, map}
+use Rattle.std.specs.Prelude.{ℕ, ℤ, ◌+◌, Bool, List, Option, length, map}
 use Rattle.std.specs.List.{sum_by}
 use Rattle.pef_format.specs.declared.section.SectionKind.{SectionKind}
 use Rattle.pef_format.specs.declared.section.Share.{Share}
 use Rattle.pef_format.specs.declared.symbol.LibraryOptions.{LibraryOptions}
+use Rattle.pef_format.specs.declared.symbol.SymbolClass.{SymbolClass}
 use Rattle.pef_format.specs.Exports.{Export}
-use Rattle.pef_format.specs.Symbols.{Import}
+use Rattle.pef_format.specs.Symbols.{Import, class_code}
 use Rattle.pef_reloc.specs.declared.fixup.Fixup.{Fixup}
 use Rattle.pef_script.specs.declared.parts.Versions.{Versions}
 
@@ -30,6 +31,13 @@ pub record DescribedLibrary : Type 0 where
   pub current : ℕ
   pub old_imp : ℕ
   pub options : LibraryOptions
+
+-- an import and an export, by what a script says of them
+abbrev pub described_import : List ℕ → SymbolClass → Bool → ℕ → Import
+described_import name class weak library = record { fields = record { class = class_code class; weak = weak }; name = name; library = library }
+
+abbrev pub described_export : List ℕ → SymbolClass → ℤ → ℕ → Export
+described_export name class section value = record { fields = record { class = class_code class; section = section; value = value }; name = name }
 
 -- a whole script; main, init and term are a section, by its number, and an offset in it
 pub record DescribedScript : Type 0 where

@@ -47,7 +47,7 @@ pub record LibrariesHold (libraries : List DescribedLibrary) : Type 0 where
 -- an import among this many libraries
 pub record ImportHolds (libraries : ℕ) (i : Import) : Type 0 where
   pub name : IsName i.name
-  pub class : is_class i.class ≡ true
+  pub class : is_class i.fields.class ≡ true
   pub library : i.library < libraries
 
 -- imports are in the order of their libraries
@@ -97,9 +97,9 @@ ValueHolds totals imports (Reexport import) = import < imports
 
 pub record ExportHolds (totals : List ℕ) (imports : ℕ) (e : Export) : Type 0 where
   pub name : IsName e.name
-  pub class : is_class e.class ≡ true
-  pub section : is_export_section e.section ≡ true
-  pub value : ValueHolds totals imports (value_of e.section e.value)
+  pub class : is_class e.fields.class ≡ true
+  pub section : is_export_section e.fields.section ≡ true
+  pub value : ValueHolds totals imports (value_of e.fields.section e.fields.value)
 
 pub record ExportsHold (totals : List ℕ) (imports : ℕ) (exports : List Export) : Type 0 where
   pub count : length exports ≤ most_exports

@@ -66,10 +66,10 @@ libraries_fit imports k (l ∷ libraries) few each =
       options = options_small l.options;
     }) (libraries_fit imports (k + 1) libraries few each.1)
 
-imports_fit : (n : ℕ) (imports : List Import) → AllByRecursion (ImportHolds n) imports → All (λ (i : Import). i.class < 16) imports
+imports_fit : (n : ℕ) (imports : List Import) → AllByRecursion (ImportHolds n) imports → All (λ (i : Import). i.fields.class < 16) imports
 imports_fit n [] each = λ i d under. absurd (omega arith)
 imports_fit n (i ∷ imports) each =
-    All-cons (λ (i : Import). i.class < 16) i imports (class-small i.class each.0.class) (imports_fit n imports each.1)
+    All-cons (λ (i : Import). i.fields.class < 16) i imports (class-small i.fields.class each.0.class) (imports_fit n imports each.1)
 
 -- the programs of at most 2^16 sections
 one_fits : (k : ℕ) (s : DescribedSection) (instrs : List Instr) (others : List ProgramEntry) → k < 2 ^ 16 → All ProgramFits others → All ProgramFits (program_of k s.fixups instrs ++ others)
@@ -131,7 +131,7 @@ exports_fit totals imports exports order few less small each below =
     All-map ExportFits (λ e. get_or exports e no_export) order
     (λ k d under. let e = get_or exports (get_or order k d) no_export in
     let holds = all-at (ExportHolds totals imports) exports (get_or order k d) no_export each (below k d under) in
-    record { class = class-small e.class holds.class; value = value_small totals imports e.section e.value small less holds.value; section = section_fits totals imports e.section e.value few holds.section holds.value })
+    record { class = class-small e.fields.class holds.class; value = value_small totals imports e.fields.section e.fields.value small less holds.value; section = section_fits totals imports e.fields.section e.fields.value few holds.section holds.value })
 
 names_short : (totals : List ℕ) (imports : ℕ) (exports : List Export) → AllByRecursion (ExportHolds totals imports) exports → All (λ name. length name ≤ longest_name) (map (λ symbol. symbol.name) exports)
 names_short totals imports [] each = λ k d under. absurd (omega arith)

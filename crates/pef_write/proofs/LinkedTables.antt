@@ -107,10 +107,10 @@ programs_there m n k (s ∷ sections) (instrs ∷ programs) few are =
     one_there n k s instrs (programs_from (k + 1) sections programs) (omega arith) (programs_there m n (k + 1) sections programs (omega arith) are.1)
 
 -- the section of an export has 16 bits
-pub export_fits : (s : DescribedScript) (e : ℕ) (x : Export) → ScriptHolds s → slice_get s.exports e ≡ Some x → FitsSigned w16 x.section
+pub export_fits : (s : DescribedScript) (e : ℕ) (x : Export) → ScriptHolds s → slice_get s.exports e ≡ Some x → FitsSigned w16 x.fields.section
 export_fits s e x holds found =
     let own = all-get (ExportHolds (totals_of s.sections) (length s.imports)) s.exports e x holds.exports.each found in
-    section_fits (totals_of s.sections) (length s.imports) x.section x.value (omega (arith, length-map s.sections (λ (section : DescribedSection). section.header.total), holds.sections.count)) own.section own.value
+    section_fits (totals_of s.sections) (length s.imports) x.fields.section x.fields.value (omega (arith, length-map s.sections (λ (section : DescribedSection). section.header.total), holds.sections.count)) own.section own.value
 
 value_there : (h : LoaderHeader) (totals : List ℕ) (sections : ℕ) (value : ExportValue) → length totals ≡ sections → ValueHolds totals h.import_count value → is_there h sections value ≡ true
 value_there h totals sections (InSection section offset) same holds = lt-ltb section sections (omega (arith, same, holds.there))
@@ -118,12 +118,12 @@ value_there h totals sections (Absolute value) same holds = refl
 value_there h totals sections (Reexport import) same holds = lt-ltb import h.import_count holds
 
 exports_there : (h : LoaderHeader) (totals : List ℕ) (sections : ℕ) (exports : List Export) (order : List ℕ) → length totals ≡ sections → AllByRecursion (ExportHolds totals h.import_count) exports → All (λ e. e < length exports) order
-    → All (λ (e : Export). has_section h sections e.value e.section ≡ true) (exports_at exports order)
+    → All (λ (e : Export). has_section h sections e.fields.value e.fields.section ≡ true) (exports_at exports order)
 exports_there h totals sections exports order same each below =
-    All-map (λ (e : Export). has_section h sections e.value e.section ≡ true) (λ e. get_or exports e no_export) order
+    All-map (λ (e : Export). has_section h sections e.fields.value e.fields.section ≡ true) (λ e. get_or exports e no_export) order
     (λ k d under. let e = get_or exports (get_or order k d) no_export in
     let holds = all-at (ExportHolds totals h.import_count) exports (get_or order k d) no_export each (below k d under) in
-    rw (holds.section, value_there h totals sections (value_of e.section e.value) same holds.value) refl)
+    rw (holds.section, value_there h totals sections (value_of e.fields.section e.fields.value) same holds.value) refl)
 
 -- a key has the length of its export's name
 

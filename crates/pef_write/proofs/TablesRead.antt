@@ -91,21 +91,21 @@ word-weak false class at small low = ne_eqb ((class * 2 ^ 24 + at) / 2 ^ 31) 1 (
 word-offset : (byte at : ℕ) → at < 2 ^ 24 → (byte * 2 ^ 24 + at) % 2 ^ 24 ≡ at
 word-offset byte at low = omega arith
 
-import-if : (t : LoaderTables) (bytes : List ℕ) (j at : ℕ) (i : Import) → i.class < 16 → at < 2 ^ 24 → Reads bytes (56 + 24 * length t.libraries + 4 * j) 0 (import_entry at i)
-    → import_at bytes (header_read t) j ≡ Some (record { fields = record { class = i.class; weak = i.weak }; name = at })
+import-if : (t : LoaderTables) (bytes : List ℕ) (j at : ℕ) (i : Import) → i.fields.class < 16 → at < 2 ^ 24 → Reads bytes (56 + 24 * length t.libraries + 4 * j) 0 (import_entry at i)
+    → import_at bytes (header_read t) j ≡ Some (record { fields = i.fields; name = at })
 unfolding import_at
 import-if t bytes j at i class small r =
     let here : 56 + 24 * length t.libraries + 4 * j + 0 ≡ 56 + 24 * length t.libraries + 4 * j = omega arith in
     let first = rw here at r.0 in
-    rw (first, word-class i.weak i.class at class small, word-weak i.weak i.class at class small, word-offset (class_byte i.weak i.class) at small) refl
+    rw (first, word-class i.fields.weak i.fields.class at class small, word-weak i.fields.weak i.fields.class at class small, word-offset (class_byte i.fields.weak i.fields.class) at small) refl
 
-export-if : (bytes : List ℕ) (from at : ℕ) (e : Export) → e.class < 16 → at < 2 ^ 24 → cast_signed w16 (cast_unsigned w16 e.section) ≡ e.section → Reads bytes from 0 (export_entry at e)
-    → entry_at bytes from ≡ Some (record { fields = record { class = e.class; section = e.section; value = e.value }; name = at })
+export-if : (bytes : List ℕ) (from at : ℕ) (e : Export) → e.fields.class < 16 → at < 2 ^ 24 → cast_signed w16 (cast_unsigned w16 e.fields.section) ≡ e.fields.section → Reads bytes from 0 (export_entry at e)
+    → entry_at bytes from ≡ Some (record { fields = e.fields; name = at })
 unfolding entry_at
 export-if bytes from at e class small section r0 =
     let here : from + 0 ≡ from = omega arith in
     let first = rw here at r0.0 in
-    rw (first, r0.1.0, r0.1.1.0, word-class false e.class at class small, word-offset e.class at small, section) refl
+    rw (first, r0.1.0, r0.1.1.0, word-class false e.fields.class at class small, word-offset e.fields.class at small, section) refl
 
 reloc-if : (t : LoaderTables) (bytes : List ℕ) (i at : ℕ) (p : ProgramEntry) → Reads bytes (56 + 24 * length t.libraries + 4 * length t.imports + 12 * i) 0 (relocation_entry at p)
     → reloc_at bytes (header_read t) i ≡ Some (record { section = p.section; count = length p.bytes / 2; first = at })
@@ -136,11 +136,11 @@ module _ (sections : ℕ) (t : LoaderTables) (a : AreTables sections t) where
       rw (library_there i l there, library_named i l there, le-ltb (length t.imports) (l.fields.first + l.fields.count) range) refl
 
   -- import j is read, and so are its name and its first library
-  import_there : (j : ℕ) (i : Import) → slice_get t.imports j ≡ Some i → import_at (written_loader t) (header_read t) j ≡ Some (record { fields = record { class = i.class; weak = i.weak }; name = import_name_at t j })
+  import_there : (j : ℕ) (i : Import) → slice_get t.imports j ≡ Some i → import_at (written_loader t) (header_read t) j ≡ Some (record { fields = i.fields; name = import_name_at t j })
   import_there j i there =
       let strings = a.fit.strings in
       let inside = stands-inside (strings_of t) (import_name i) (import_name_at t j) (import-name-stands t j i there) in
-      let class = all-at (λ (i : Import). i.class < 16) t.imports j i a.fit.imports there in
+      let class = all-at (λ (i : Import). i.fields.class < 16) t.imports j i a.fit.imports there in
       import-if t (written_loader t) j (import_name_at t j) i class (omega arith) (import_reads t a.fit j i there)
 
   import_named : (j : ℕ) (i : Import) → slice_get t.imports j ≡ Some i → name_at (written_loader t) (strings_from t + import_name_at t j) ≡ Some i.name
@@ -196,15 +196,15 @@ module _ (sections : ℕ) (t : LoaderTables) (a : AreTables sections t) where
       rw (lt-ltb k (length t.exports) (slice_get_within t.exports k e there), table-after t, number) refl
 
   export_there : (k : ℕ) (e : Export) → slice_get t.exports k ≡ Some e
-      → entry_of (export_table (written_loader t) (header_read t)) k ≡ Some (record { fields = record { class = e.class; section = e.section; value = e.value }; name = export_name_at t k })
+      → entry_of (export_table (written_loader t) (header_read t)) k ≡ Some (record { fields = e.fields; name = export_name_at t k })
   unfolding entry_of
   export_there k e there =
       let slots = a.slots in
       let keys = zip-length (λ key e. key / 2 ^ 16 ≡ length e.name) t.keys t.exports a.keys in
       let strings = a.fit.strings in
       let inside = stands-inside (strings_of t) e.name (export_name_at t k) (export-name-stands t k e there) in
-      let class = all-at (λ (e : Export). e.class < 16) t.exports k e (λ k d under. (a.fit.exports k d under).class) there in
-      let section = to_z-of_z w16 e.section (all-at (λ (e : Export). FitsSigned w16 e.section) t.exports k e (λ k d under. (a.fit.exports k d under).section) there) in
+      let class = all-at (λ (e : Export). e.fields.class < 16) t.exports k e (λ k d under. (a.fit.exports k d under).class) there in
+      let section = to_z-of_z w16 e.fields.section (all-at (λ (e : Export). FitsSigned w16 e.fields.section) t.exports k e (λ k d under. (a.fit.exports k d under).section) there) in
       let r = reads-at (spelled (table_fields t)) (4 * length t.slots + 4 * length t.keys + 10 * k) 0 (4 * 2 ^ t.power + 4 * length t.exports + 10 * k) 0 (export_entry (export_name_at t k) e) (omega arith) (export_reads t a.fit k e there) in
       let entry = export-if (spelled (table_fields t)) (4 * 2 ^ t.power + 4 * length t.exports + 10 * k) (export_name_at t k) e class (omega arith) section r in
       rw (lt-ltb k (length t.exports) (slice_get_within t.exports k e there), table-after t, entry) refl
@@ -222,7 +222,7 @@ module _ (sections : ℕ) (t : LoaderTables) (a : AreTables sections t) where
   export_accepted : (k : ℕ) (e : Export) → slice_get t.exports k ≡ Some e → export_refusal (written_loader t) (header_read t) sections k ≡ None
   unfolding export_tests
   export_accepted k e there =
-      let section = all-at (λ (e : Export). has_section (header_read t) sections e.value e.section ≡ true) t.exports k e a.exports there in
+      let section = all-at (λ (e : Export). has_section (header_read t) sections e.fields.value e.fields.section ≡ true) t.exports k e a.exports there in
       let inside = stands-inside (written_loader t) (strings_of t) (strings_from t) (strings-stand t) in
       rw (export_there k e there, le-ltb (length (written_loader t)) (strings_from t) (omega arith), export_named k e there, section) refl
 

@@ -35,11 +35,11 @@ class_small : (weak : Bool) (class : ℕ) → class < 16 → class_byte weak cla
 class_small true class few = omega arith
 class_small false class few = omega arith
 
-fit-imports : (at limit : ℕ) (imports : List Import) → All (λ i. i.class < 16) imports → at + length (zero_ended (map (λ i. i.name) imports)) ≤ limit → limit < 2 ^ 24 → AllFit (import_fields at imports)
+fit-imports : (at limit : ℕ) (imports : List Import) → All (λ i. i.fields.class < 16) imports → at + length (zero_ended (map (λ i. i.name) imports)) ≤ limit → limit < 2 ^ 24 → AllFit (import_fields at imports)
 unfolding import_fields
 fit-imports at limit [] each inside small = tt
 fit-imports at limit (i ∷ imports) each inside small =
-    let class = class_small i.weak i.class (each 0 i (omega arith)) in
+    let class = class_small i.fields.weak i.fields.class (each 0 i (omega arith)) in
     let named = length-append i.name (0 ∷ []) in
     let joined = length-append (i.name ++ 0 ∷ []) (zero_ended (map (λ i. i.name) imports)) in
     let later = fit-imports (at + (length i.name + 1)) limit imports (λ k d under. each (suc k) d (omega arith)) (omega arith) small in
@@ -72,7 +72,7 @@ fit-exports at limit (e ∷ exports) each inside small =
     let own = each 0 e (omega arith) in
     let class = own.class in
     let value = own.value in
-    let section = half_small e.section own.section in
+    let section = half_small e.fields.section own.section in
     let joined = length-append e.name (flat_map (λ e. e.name) exports) in
     let later = fit-exports (at + length e.name) limit exports (λ k d under. each (suc k) d (omega arith)) (omega arith) small in
     (omega arith, (omega arith, (omega arith, later)))

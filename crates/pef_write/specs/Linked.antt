@@ -6,6 +6,7 @@ use Rattle.std.specs.List.{count_by}
 use Rattle.pef_cert.specs.Certified.{Certified}
 use Rattle.pef_cert.specs.Valid.{Valid, labels_of}
 use Rattle.pef_hash.specs.Build.{built}
+use Rattle.pef_format.specs.declared.symbol.SymbolClass.TheVariants.{Code}
 use Rattle.pef_format.specs.Exports.{Export}
 use Rattle.pef_format.specs.Symbols.{Import, options_code}
 use Rattle.pef_loader.specs.Library.{Library}
@@ -15,7 +16,7 @@ use Rattle.pef_reloc.specs.declared.fixup.Fixup.{Fixup}
 use Rattle.pef_reloc.specs.declared.instr.Instr.{Instr}
 use Rattle.pef_reloc.specs.Instrs.{program_length, spelled}
 use Rattle.pef_reloc.specs.Steps.{Makes, is_flat, names_below}
-use Rattle.pef_script.specs.Script.{DescribedLibrary, DescribedScript, DescribedSection, export_names}
+use Rattle.pef_script.specs.Script.{DescribedLibrary, DescribedScript, DescribedSection, described_export, export_names}
 use Rattle.pef_script.specs.WellFormed.{ScriptHolds}
 use Rattle.pef_write.specs.Containers.{written_container}
 use Rattle.pef_write.specs.Loaders.{LoaderTables, ProgramEntry, written_loader}
@@ -55,18 +56,16 @@ ArePlanned [] (c ∷ certificates) = ⊥
 ArePlanned (s ∷ sections) [] = ⊥
 ArePlanned (s ∷ sections) (c ∷ certificates) = Planned s.fixups c.program × ArePlanned sections certificates
 
--- library k with its imports: how many it has, and how many the libraries before it have
-abbrev pub linked_library : List Import → ℕ → DescribedLibrary → Library
-linked_library imports k l = record {
-  fields = record {
-    current = l.current;
-    old_imp = l.old_imp;
-    count = count_by (λ i. i.library == k) imports;
-    first = count_by (λ i. nat_lt i.library k) imports;
-    options = options_code l.options;
-  };
+-- a library with this many imports, from a number on
+abbrev pub library_with : ℕ → ℕ → DescribedLibrary → Library
+library_with count first l = record {
+  fields = record { current = l.current; old_imp = l.old_imp; count = count; first = first; options = options_code l.options };
   name = l.name;
 }
+
+-- library k with its imports: how many it has, and how many the libraries before it have
+abbrev pub linked_library : List Import → ℕ → DescribedLibrary → Library
+linked_library imports k l = library_with (count_by (λ i. i.library == k) imports) (count_by (λ i. nat_lt i.library k) imports) l
 
 -- libraries, numbered from a number on
 abbrev pub libraries_from : List Import → ℕ → List DescribedLibrary → List Library
@@ -85,7 +84,7 @@ programs_from k sections programs = []
 
 -- the value for an export past the last one
 abbrev pub no_export : Export
-no_export = record { name = []; class = 0; section = pos 0; value = 0 }
+no_export = described_export [] Code (pos 0) 0
 
 -- the exports at some places, in the order of the places
 abbrev pub exports_at : List Export → List ℕ → List Export

@@ -114,7 +114,7 @@ class_byte false class = class
 
 -- the fields of an imported symbol whose name is at an offset (PEFImportedSymbol)
 abbrev pub import_entry : ℕ → Import → List Field
-import_entry at i = Word (class_byte i.weak i.class * 2 ^ 24 + at) ∷ []
+import_entry at i = Word (class_byte i.fields.weak i.fields.class * 2 ^ 24 + at) ∷ []
 
 -- .. and of imports
 unfoldable pub import_fields : ℕ → List Import → List Field
@@ -132,7 +132,7 @@ program_fields at (p ∷ programs) = relocation_entry at p ++ program_fields (at
 
 -- the fields of an exported symbol whose name is at an offset (PEFExportedSymbol)
 abbrev pub export_entry : ℕ → Export → List Field
-export_entry at e = Word (e.class * 2 ^ 24 + at) ∷ Word e.value ∷ Half (cast_unsigned w16 e.section) ∷ []
+export_entry at e = Word (e.fields.class * 2 ^ 24 + at) ∷ Word e.fields.value ∷ Half (cast_unsigned w16 e.fields.section) ∷ []
 
 -- .. and of exports
 unfoldable pub export_fields : ℕ → List Export → List Field

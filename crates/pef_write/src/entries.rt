@@ -2,11 +2,12 @@ ghost use Rattle.std.specs.Prelude.{◌≡◌, ◌+◌, ◌++◌, ◌<◌, ◌�
 ghost use Rattle.std.specs.Int.{w16};
 ghost use Rattle.std.specs.List.{All, count_by, flat_map};
 ghost use Rattle.pef_format.specs.Exports.{export_seen};
-ghost use Rattle.pef_format.specs.Symbols.{import_seen, options_code};
+ghost use Rattle.pef_format.specs.Symbols.{import_seen};
 ghost use Rattle.pef_script.specs.Script.{import_names, library_names};
+ghost use Rattle.pef_script.specs.Views.{library_in};
 ghost use Rattle.pef_script.specs.WellFormed.{ScriptHolds};
 ghost use Rattle.pef_write.specs.Fields.{spelled};
-ghost use Rattle.pef_write.specs.Linked.{exports_at, libraries_from};
+ghost use Rattle.pef_write.specs.Linked.{exports_at, libraries_from, library_with};
 ghost use Rattle.pef_write.specs.Loaders.{class_byte, export_entry, export_fields, import_entry, import_fields, library_entry, library_fields, zero_ended};
 
 use crate::fault::LinkFault;
@@ -125,7 +126,7 @@ pub(crate) fn put_exports(
 /// Returns the fields of a library whose name is at `at`, with `count` imports from number `first` on
 /// (PEFImportedLibrary).
 fn library_entry(library: LibraryView<'_>, at: u32, first: u32, count: u32) -> [Field; 8]
-    ensures { result ≡ library_entry at (record { fields = record { current = library.entry.current; old_imp = library.entry.old_imp; count = count; first = first; options = options_code library.entry.options }; name = library.entry.name.now }) }
+    ensures { result ≡ library_entry at (library_with count first (library_in library.entry)) }
 {
     [
         Field::Word(at),

@@ -116,7 +116,7 @@ export-more totals more n j e holds = record {
   name = holds.name;
   class = holds.class;
   section = holds.section;
-  value = value-more totals more n j (value_of e.section e.value) holds.value;
+  value = value-more totals more n j (value_of e.fields.section e.fields.value) holds.value;
 }
 
 pub exports-more : (totals more : List ℕ) (n j : ℕ) (exports : List Export) → ExportsHold totals n exports → ExportsHold (totals ++ more) (n + j) exports

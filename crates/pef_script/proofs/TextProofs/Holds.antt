@@ -302,9 +302,9 @@ module _ (s : ScriptSoFar) (holds : StateHolds s) (line : List ℕ) where
   -- an export that a line declares, if other tests of it don't hold
   record IsExport (tests : List (Bool × LineFault)) (e : Export) : Type 0 where
     name : IsName e.name
-    class : is_class e.class ≡ true
-    section : is_export_section e.section ≡ true
-    value : first_met tests ≡ None → ValueHolds (totals_of s.script.sections) (length s.script.imports) (value_of e.section e.value)
+    class : is_class e.fields.class ≡ true
+    section : is_export_section e.fields.section ≡ true
+    value : first_met tests ≡ None → ValueHolds (totals_of s.script.sections) (length s.script.imports) (value_of e.fields.section e.fields.value)
 
   with_export-holds : (tests : List (Bool × LineFault)) (symbol : Export) → IsExport tests symbol → Leads StateHolds (with_export s tests symbol)
   with_export-holds tests symbol fits =
@@ -336,7 +336,7 @@ module _ (s : ScriptSoFar) (holds : StateHolds s) (line : List ℕ) where
 
   -- an export of section e.0, whose place in it is still to be tested
   abbrev IsPlaced : ℕ × Export → Type 0
-  IsPlaced e = IsExport (place_tests s e.0 4 e.1.value) e.1
+  IsPlaced e = IsExport (place_tests s e.0 4 e.1.fields.value) e.1
 
   export_in-holds : Leads IsPlaced (export_in s line)
   unfolding export_in
@@ -355,7 +355,7 @@ module _ (s : ScriptSoFar) (holds : StateHolds s) (line : List ℕ) where
       }))))))
 
   export_line-holds : Leads StateHolds (export_line s line)
-  export_line-holds = leads_on IsPlaced StateHolds (export_in s line) _ export_in-holds (λ e fits. with_export-holds (place_tests s e.0 4 e.1.value) e.1 fits)
+  export_line-holds = leads_on IsPlaced StateHolds (export_in s line) _ export_in-holds (λ e fits. with_export-holds (place_tests s e.0 4 e.1.fields.value) e.1 fits)
 
   reexport_in-holds : Leads (IsExport []) (reexport_in s line)
   unfolding reexport_in

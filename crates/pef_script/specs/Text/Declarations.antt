@@ -10,13 +10,13 @@ use Rattle.pef_format.specs.declared.section.Share.TheVariants as share
 use Rattle.pef_format.specs.declared.symbol.LibraryOptions.{LibraryOptions}
 use Rattle.pef_format.specs.declared.symbol.SymbolClass.{SymbolClass}
 use Rattle.pef_format.specs.declared.symbol.SymbolClass.TheVariants as class
-use Rattle.pef_format.specs.Symbols.{Import, class_code}
+use Rattle.pef_format.specs.Symbols.{Import}
 use Rattle.pef_reloc.specs.Limits.{most_imports, most_sections}
 use Rattle.pef_script.specs.declared.text.fault.LineFault.{LineFault}
 use Rattle.pef_script.specs.declared.text.fault.LineFault.TheVariants.{OutOfOrder}
 use Rattle.pef_script.specs.declared.parts.Versions.{Versions}
 use Rattle.pef_script.specs.Limits.{greatest_align, greatest_number, greatest_total, most_libraries}
-use Rattle.pef_script.specs.Script.{DescribedHeader, DescribedLibrary, import_names, library_names, section_names}
+use Rattle.pef_script.specs.Script.{DescribedHeader, DescribedLibrary, described_import, import_names, library_names, section_names}
 use Rattle.pef_script.specs.Text.SoFar.{ScriptSoFar, counted_name_tests, entered, entered_once, library_group, name_tests, section_group, versions_group, with_script, word_of}
 use Rattle.pef_script.specs.Text.Words.{last_two_words, last_word, next_name_and_word, next_word, number_up_to}
 
@@ -102,7 +102,7 @@ import_in s line = do
   library ← entered_import s
   class ← symbol_class_of 2 symbol.1
   weak ← is_weak_word 3 strength
-  Ok (record { name = symbol.0; class = class_code class; weak = weak; library = library })
+  Ok (described_import symbol.0 class weak library)
 
 abbrev pub import_line : ScriptSoFar → List ℕ → Result ScriptSoFar LineFault
 import_line s line = import_in s line >>= with_import s

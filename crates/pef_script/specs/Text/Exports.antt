@@ -4,11 +4,10 @@ use Rattle.std.specs.Prelude.{ℕ, pos, Bool, List, [], ◌∷◌, ◌++◌, Som
 use Rattle.pef_words.specs.Refusals.{first_met, unless}
 use Rattle.pef_words.specs.Results.{◌>>=◌}
 use Rattle.pef_format.specs.Exports.{Export, absolute_export, reexported_import}
-use Rattle.pef_format.specs.Symbols.{class_code}
 use Rattle.pef_script.specs.declared.text.fault.LineFault.{LineFault}
 use Rattle.pef_script.specs.declared.text.fault.LineFault.TheVariants.{OutsideSection}
 use Rattle.pef_script.specs.Limits.{greatest_number, most_exports}
-use Rattle.pef_script.specs.Script.{export_names}
+use Rattle.pef_script.specs.Script.{described_export, export_names}
 use Rattle.pef_script.specs.Text.Contents.{import_named}
 use Rattle.pef_script.specs.Text.Declarations.{symbol_class_of}
 use Rattle.pef_script.specs.Text.SoFar.{ScriptSoFar, counted_name_tests, entered, entered_once, export_group, init_group, main_group, section_named, section_so_far, term_group, with_script}
@@ -37,10 +36,10 @@ export_in s line = do
   class ← symbol_class_of 2 symbol.1
   offset ← number_up_to greatest_number 4 place.1
   k ← section_named s 3 place.0
-  Ok (k, record { name = symbol.0; class = class_code class; section = pos k; value = offset })
+  Ok (k, described_export symbol.0 class (pos k) offset)
 
 abbrev pub export_line : ScriptSoFar → List ℕ → Result ScriptSoFar LineFault
-export_line s line = export_in s line >>= λ e. with_export s (place_tests s e.0 4 e.1.value) e.1
+export_line s line = export_in s line >>= λ e. with_export s (place_tests s e.0 4 e.1.fields.value) e.1
 
 -- `reexport NAME CLASS IMPORT`: an import that is passed on under a name of its own
 
@@ -51,7 +50,7 @@ reexport_in s line = do
   group ← entered s export_group
   class ← symbol_class_of 2 symbol.1
   j ← import_named s 3 import_name
-  Ok (record { name = symbol.0; class = class_code class; section = reexported_import; value = j })
+  Ok (described_export symbol.0 class reexported_import j)
 
 abbrev pub reexport_line : ScriptSoFar → List ℕ → Result ScriptSoFar LineFault
 reexport_line s line = reexport_in s line >>= with_export s []
@@ -65,7 +64,7 @@ absolute_in s line = do
   group ← entered s export_group
   class ← symbol_class_of 2 symbol.1
   value ← number_up_to greatest_number 3 number
-  Ok (record { name = symbol.0; class = class_code class; section = absolute_export; value = value })
+  Ok (described_export symbol.0 class absolute_export value)
 
 abbrev pub absolute_line : ScriptSoFar → List ℕ → Result ScriptSoFar LineFault
 absolute_line s line = absolute_in s line >>= with_export s []

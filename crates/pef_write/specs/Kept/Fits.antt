@@ -59,9 +59,9 @@ pub record ProgramFits (p : ProgramEntry) : Type 0 where
 
 -- an export, whose class has four bits, and whose section has 16
 pub record ExportFits (e : Export) : Type 0 where
-  pub class : e.class < 16
-  pub value : e.value < 2 ^ 32
-  pub section : FitsSigned w16 e.section
+  pub class : e.fields.class < 16
+  pub value : e.fields.value < 2 ^ 32
+  pub section : FitsSigned w16 e.fields.section
 
 -- tables whose numbers fit their fields; a class has four bits, and offsets of imports' and exports' names
 -- have 24
@@ -70,7 +70,7 @@ pub record TablesFit (t : LoaderTables) : Type 0 where
   pub init : EntryFits t.init
   pub term : EntryFits t.term
   pub libraries : All LibraryFits t.libraries
-  pub imports : All (λ i. i.class < 16) t.imports
+  pub imports : All (λ i. i.fields.class < 16) t.imports
   pub programs : All ProgramFits t.programs
   pub power : t.power < 2 ^ 32
   pub slots : All (λ w. w < 2 ^ 32) t.slots

@@ -92,7 +92,7 @@ pub record AreTables (sections : ℕ) (t : LoaderTables) : Type 0 where
   pub power : t.power ≤ 30
   pub slots : length t.slots ≡ 2 ^ t.power
   pub keys : AllZip (λ key e. key / 2 ^ 16 ≡ length e.name) t.keys t.exports
-  pub exports : All (λ e. has_section (header_read t) sections e.value e.section ≡ true) t.exports
+  pub exports : All (λ e. has_section (header_read t) sections e.fields.value e.fields.section ≡ true) t.exports
 
 -- the loader section that is read, in a container with this many instantiated sections
 abbrev pub loaded_tables : ℕ → LoaderTables → Loaded

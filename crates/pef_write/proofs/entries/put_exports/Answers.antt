@@ -26,7 +26,7 @@ export_entry-requires-clause-at c =
 pub export_entry-requires-clause-class : goal.export_entry-requires-clause-class
 export_entry-requires-clause-class c =
     let s = c.args.script.now in
-    class-small (export_seen c.in-Some.export).class (all-get (ExportHolds (totals_of s.sections) (length s.imports)) s.exports (get_or c.args.order.now c.loop-place.place-index 0) (export_seen c.in-Some.export) c.requires.holds.exports.each (sym c.in-Some.ensures)).class
+    class-small (export_seen c.in-Some.export).fields.class (all-get (ExportHolds (totals_of s.sections) (length s.imports)) s.exports (get_or c.args.order.now c.loop-place.place-index 0) (export_seen c.in-Some.export) c.requires.holds.exports.each (sym c.in-Some.ensures)).class
 
 pub export_entry-requires-clause-section : goal.export_entry-requires-clause-section
 export_entry-requires-clause-section c =

@@ -26,7 +26,7 @@ overflow_cast-len c =
 
 pub import_entry-entry-requires-clause-class : goal.import_entry-entry-requires-clause-class
 import_entry-entry-requires-clause-class c =
-    class-small (import_seen c.in-Some.import).class (all-get (ImportHolds (length c.args.script.now.libraries)) c.args.script.now.imports c.imports.j (import_seen c.in-Some.import) c.requires.holds.imports.each (sym c.in-Some.ensures)).class
+    class-small (import_seen c.in-Some.import).fields.class (all-get (ImportHolds (length c.args.script.now.libraries)) c.args.script.now.imports c.imports.j (import_seen c.in-Some.import) c.requires.holds.imports.each (sym c.in-Some.ensures)).class
 
 pub overflow_add-j : goal.overflow_add-j
 overflow_add-j c =

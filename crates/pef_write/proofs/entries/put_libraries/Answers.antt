@@ -1,13 +1,12 @@
 -- One more entry and one more name are written, and the imports of the library end where those of the
 -- next begin.
-use Rattle.std.proofs.Common.{◌≡◌, ◌∙◌, ℕ, ◌-◌, ◌^◌, ◌++◌, length, refl, ap, ap₂, sym, arith}
+use Rattle.std.proofs.Common.{◌≡◌, ◌∙◌, ◌-◌, ◌^◌, ◌++◌, length, refl, ap, ap₂, sym, arith}
 use Rattle.std.proofs.lemmas.Option.{slice_get_within}
-use Rattle.pef_format.specs.Symbols.{options_code}
-use Rattle.pef_loader.specs.Library.{Library}
 use Rattle.pef_script.specs.Script.{DescribedLibrary}
 use Rattle.pef_script.specs.Views.{library_in}
 use Rattle.pef_script.specs.Script.{library_names}
 use Rattle.pef_write.specs.Fields.{spelled}
+use Rattle.pef_write.specs.Linked.{library_with}
 use Rattle.pef_write.specs.Loaders.{library_entry, zero_ended}
 use Rattle.pef_write.proofs.Counts.{before-next, count_before, count_of, from_within, none_before}
 use Rattle.pef_write.proofs.EntrySteps.{libraries-end, library-here, longer, names-end, names-here, within}
@@ -48,9 +47,8 @@ libraries-preserved c =
     let first : c.libraries.first ≡ count_before k imports = c.libraries.invariant.first in
     let count : c.imports_end-end.result - c.libraries.first ≡ count_of k imports = omega (arith, c.imports_end-end.ensures, first, before-next k imports) in
     let size = longer c.libraries.strings.items l.name c.put_entry.new.strings.items c.in_ok-put_entry.ensures.name in
-    let read : ℕ → ℕ → Library = λ count first. record { fields = record { current = l.current; old_imp = l.old_imp; count = count; first = first; options = options_code l.options }; name = l.name } in
     let at : c.len-at.result ≡ length c.libraries.strings.items = omega arith in
-    let fields = c.library_entry-entry.ensures ∙ ap (λ n. library_entry n (read (c.imports_end-end.result - c.libraries.first) c.libraries.first)) at ∙ ap₂ (λ n m. library_entry (length c.libraries.strings.items) (read n m)) count first in
+    let fields = c.library_entry-entry.ensures ∙ ap (λ n. library_entry n (library_with (c.imports_end-end.result - c.libraries.first) c.libraries.first l)) at ∙ ap₂ (λ n m. library_entry (length c.libraries.strings.items) (library_with n m l)) count first in
     let entry = c.in_ok-put_entry.ensures.entry ∙ ap (λ f. c.libraries.out.items ++ spelled f) fields in
     record {
       first = c.imports_end-end.ensures;

@@ -56,6 +56,7 @@ pub invariant_of-result : goal.invariant_of-result
 invariant_of-result c = record {
   ordered = c.are_in_order-in_order.ensures.0;
   tabled = c.exports-exports.ensures;
+  named = c.ending.ensures;
   accepted = accepts (record { sections = c.args.sections; bytes = c.args.cut.bytes.now; header = c.in_ok-header.header }) (record {
     header = sym (sym c.in_ok-header.ensures.ok_part ∙ c.read_header.ensures);
     tables = rw (le-ltb (length c.args.cut.bytes.now) (tables_end c.in_ok-header.header) (omega arith)) refl;

@@ -1,10 +1,18 @@
 -- Each instruction is printed after the findings about what comes before it.
-use Rattle.std.proofs.Common.{◌∙◌, ap, map, sym}
+use Rattle.std.proofs.Common.{◌∙◌, ap, map, refl, sym}
 use Rattle.pef_reloc.specs.Views.{placed}
 use Rattle.pef_report.specs.Inspection.{instr_row, merged_left, merged_text}
 use Rattle.pef_report.specs.Order.{after}
-use Rattle.pef_ports.proofs.Laws.Sending.{Sends-short, sent-all, sent-piece, sent-short}
+use Rattle.pef_ports.proofs.Laws.Sending.{Sends-short, sent-all, sent-nothing, sent-piece, sent-short}
 use Rattle.pef_report.proofs.walk.Walk.print_instrs.Goals as goal
+
+pub loop-step-init : goal.loop-step-init
+loop-step-init g c = record {
+  sent = rw c.new-instrs.ensures (sent-nothing _ _ _);
+  base = refl;
+  reading = refl;
+  left = ap (λ steps. merged_left (map (instr_row c.args.k c.args.program.at) steps) c.args.self.now.left.now) c.new-instrs.ensures;
+}
 
 pub loop-step-preserved : goal.loop-step-preserved
 loop-step-preserved g c =

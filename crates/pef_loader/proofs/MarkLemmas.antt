@@ -1,0 +1,92 @@
+-- A name ends at the first zero byte from its place on, which a mark of a later place can tell.
+use Rattle.std.proofs.Common.{◌≡◌, ◌≢◌, ℕ, ◌+◌, ◌-◌, ◌*◌, ◌/◌, ◌%◌, ◌^◌, ◌<◌, ◌≤◌, inl, inr, List, [], None, Some, true, length, replicate, take, drop, min, refl, sym, subst, ◌∙◌, ap, eq-eqb, length-drop, length-take, arith}
+use Rattle.std.specs.Prelude.{nat_le, slice_index, slice_set}
+use Rattle.std.proofs.lemmas.Bool.{eqb-true}
+use Rattle.std.proofs.lemmas.Bool.Decides.{eqb_tells, leb_tells}
+use Rattle.std.proofs.lemmas.List.{get_or-drop, get_or-replicate, get_or-set_other, get_or-set_same, get_or-take, length-set, length-replicate, nil_from_length}
+use Rattle.std.specs.Option.{is_none}
+use Rattle.memchr.specs.Find.{IsFirstByte, is_byte}
+use Rattle.pef_words.specs.Bytes.{before_zero, name_at}
+use Rattle.pef_words.proofs.Laws.Names.{before_zero-none, before_zero-some}
+use Rattle.pef_loader.specs.Kept.Marks.{AreMarks, AreNonzero, FindsZero, IsFirstZero, TellsEnd}
+use Rattle.pef_loader.specs.Kept.Names.{NamesEndAt}
+
+-- a byte of a part
+pub in-part : (bytes : List ℕ) (from n k : ℕ) → k < n → slice_index (take n (drop from bytes)) k ≡ slice_index bytes (from + k)
+in-part bytes from n k under = get_or-take n (drop from bytes) k 0 under ∙ get_or-drop from bytes k 0
+
+-- a search in a part finds its first zero byte
+pub zero-some : (bytes : List ℕ) (from to at : ℕ) → from ≤ to → to ≤ length bytes → IsFirstByte (is_byte 0) (take (to - from) (drop from bytes)) (Some at) → FindsZero bytes from to (Some (from + at))
+zero-some bytes from to at low high found =
+    let len = length-drop from bytes in
+    let size = length-take (to - from) (drop from bytes) in
+    let inside : at < length (take (to - from) (drop from bytes)) = found.0.high in
+    let is : IsFirstZero bytes from (from + at) = record {
+      ahead = omega arith;
+      within = omega arith;
+      zero = sym (in-part bytes from (to - from) at (omega arith)) ∙ eqb-true _ 0 found.1;
+      before = λ k above under _ zero. (
+          let e : from + (k - from) ≡ k = omega arith in
+          let here = in-part bytes from (to - from) (k - from) (omega arith) ∙ ap (slice_index bytes) e ∙ zero in
+          found.0.before (k - from) (omega arith) (omega arith) (eq-eqb _ 0 here));
+    } in
+    (is, omega arith)
+
+-- or that it has none
+pub zero-none : (bytes : List ℕ) (from to : ℕ) → from ≤ to → IsFirstByte (is_byte 0) (take (to - from) (drop from bytes)) None → FindsZero bytes from to None
+zero-none bytes from to low found = λ k above under inside zero.
+    let len = length-drop from bytes in
+    let size = length-take (to - from) (drop from bytes) in
+    let e : from + (k - from) ≡ k = omega arith in
+    let here = in-part bytes from (to - from) (k - from) (omega arith) ∙ ap (slice_index bytes) e ∙ zero in
+    found (k - from) (omega arith) (omega arith) (eq-eqb _ 0 here)
+
+-- a name ends at the first zero byte
+pub name-to : (bytes : List ℕ) (from end : ℕ) → IsFirstZero bytes from end → name_at bytes from ≡ Some (take (end - from) (drop from bytes))
+unfolding name_at
+name-to bytes from end is =
+    let low = is.ahead in
+    let high = is.within in
+    let len = length-drop from bytes in
+    let e : from + (end - from) ≡ end = omega arith in
+    before_zero-some (drop from bytes) (end - from) (omega arith)
+    (λ k under zero. is.before (from + k) (omega arith) (omega arith) (omega arith) (sym (get_or-drop from bytes k 0) ∙ zero))
+    (get_or-drop from bytes (end - from) 0 ∙ ap (λ x. slice_index bytes x) e ∙ is.zero)
+
+-- without a zero byte there is no name
+pub no-name : (bytes : List ℕ) (from : ℕ) → AreNonzero bytes from (length bytes) → name_at bytes from ≡ None
+unfolding name_at
+no-name bytes from nowhere =
+    let len = length-drop from bytes in
+    before_zero-none (drop from bytes) (λ k under zero. nowhere (from + k) (omega arith) (omega arith) (omega arith) (sym (get_or-drop from bytes k 0) ∙ zero))
+
+-- no name begins at the end of the bytes
+pub ends-inside : (bytes : List ℕ) (end : ℕ) → NamesEndAt bytes end → end ≤ length bytes
+unfolding name_at
+ends-inside bytes end ended =
+    let none : drop (length bytes) bytes ≡ [] = nil_from_length (drop (length bytes) bytes) (let len = length-drop (length bytes) bytes in omega arith) in
+    let gone : is_none (before_zero (drop (length bytes) bytes)) ≡ true = rw none refl in
+    let is : true ≡ nat_le end (length bytes) = sym gone ∙ ended (length bytes) in
+    elim (leb_tells end (length bytes)) [
+      | inl inside ↦ inside.1
+      | inr outside ↦ absurd (cc (is, outside.0))
+    ]
+
+-- no place is marked
+pub none-marked : (bytes : List ℕ) (step n : ℕ) → AreMarks bytes step (replicate n (2 ^ 32 - 1))
+none-marked bytes step n k under known =
+    let len = length-replicate n (2 ^ 32 - 1) in
+    absurd (known (get_or-replicate n k (2 ^ 32 - 1) 0 (omega arith)))
+
+-- one more place is marked
+pub mark-more : (bytes marks : List ℕ) (step k mark : ℕ) → (mark ≢ 2 ^ 32 - 1 → IsFirstZero bytes (k * step) mark) → AreMarks bytes step marks → AreMarks bytes step (slice_set marks k mark)
+mark-more bytes marks step k mark is marked m under known =
+    let len = length-set marks k mark in
+    elim (eqb_tells m k) [
+      | inl same ↦ (
+          let here : slice_index (slice_set marks k mark) m ≡ mark = ap (slice_index (slice_set marks k mark)) same.1 ∙ get_or-set_same marks k mark 0 (let e = same.1 in omega arith) in
+          rw (here, same.1) (is (λ no. known (here ∙ no))))
+      | inr other ↦ (
+          let here = get_or-set_other marks k m mark 0 other.1 in
+          rw here (marked m (omega arith) (λ no. known (here ∙ no))))
+    ]
