@@ -1,27 +1,27 @@
 -- What is kept of a store stays right.
 use Rattle.std.proofs.Common.{◌≡◌, ℕ, ◌+◌, ◌<◌, ◌≤◌, ◌-◌, List, [], ◌++◌, length, replicate, Option, None, Some, refl, sym, ap, subst, ◌∙◌, get_or, set, inl, inr, arith, Contains}
-use Rattle.std.specs.Prelude.{option_map, ◌⊎◌, IsSome, is_some, Result, Ok, Err, OnOk, OnErr}
+use Rattle.std.specs.Prelude.{option_map, ◌⊎◌, IfSome, IsSome, is_some, Result, Ok, Err, OnOk, OnErr}
 use Rattle.std.specs.Option.{option_and_then, option_map_or}
 use Rattle.std.specs.Result.{result_ok}
 use Rattle.std.proofs.lemmas.Bool.{cases_lt}
 use Rattle.std.proofs.lemmas.Bool.Decides.{eqb_tells}
-use Rattle.std.proofs.lemmas.List.{get_or-append_right, get_or-set_other, get_or-set_same, get_or_append_left, get_or_past, length-append, length-replicate, length-set, length_push}
+use Rattle.std.proofs.lemmas.List.{get_or-append_right, get_or-set_other, get_or-set_same, get_or_append_left, get_or_past, length-append, length-replicate, length-set}
 use Rattle.std.proofs.lemmas.List.Elements.{Contains-get_or}
 use Rattle.pef_loader.specs.Loader.{Loaded, library_of}
-use Rattle.cfm_closure.specs.Additions.{MayBeAdded, NamesLibrary, with_put, with_pair}
+use Rattle.cfm_closure.specs.Additions.{MayBeAdded, NamesLibrary, placed_at}
 use Rattle.cfm_closure.specs.Stores.{Pair, pair_of, place_of}
 use Rattle.cfm_closure.specs.declared.fragment.FragmentView.{FragmentView}
 use Rattle.cfm_closure.specs.Fragments.{Fragment, fragment_of}
-use Rattle.cfm_closure.specs.Kept.Caches.{AreCached, AreKeptRows, AreOfKept, IsKeptRow, IsOfKept, KeepsFirst, NoneNames}
+use Rattle.cfm_closure.specs.Kept.Caches.{AreCached, AreKeptRows, AreOfKept, IsKeptRow, IsOfKept, KeepsFirst, MayTake, NoneNames}
 use Rattle.cfm_closure.specs.Kept.Targets.{AreAllKnown, Row}
 use Rattle.cfm_closure.specs.Kept.Views.{AreRead, fragment_at}
 use Rattle.cfm_closure.specs.Orders.{IsComplete}
 use Rattle.cfm_closure.specs.Views.{fragment_seen}
-use Rattle.cfm_closure.proofs.AdditionLemmas.{are_same, longer, pair_of-with}
 use Rattle.cfm_closure.proofs.ClosedLemmas.{closed-complete}
 use Rattle.cfm_closure.proofs.SameClosedLemmas.{closed-same, target-same}
 use Rattle.cfm_closure.proofs.SameLemmas.{AreSame, fragment_of-same}
-use Rattle.cfm_closure.proofs.StoreLemmas.{new-longer, new-read, new-same, read-inside}
+use Rattle.cfm_closure.proofs.PlaceLemmas.{IsFreeFor}
+use Rattle.cfm_closure.proofs.StoreLemmas.{may_take, placed-longer, placed-read, placed-same}
 use Rattle.cfm_closure.proofs.LeadLemmas.{led-target, target-led}
 use Rattle.cfm_closure.proofs.RowLemmas.{none-at}
 
@@ -113,15 +113,12 @@ module _ (pairs : List Pair) (views : List (Option FragmentView)) (rows : List (
       }
 
   -- so it stays with a pair more
-  module _ (n : Pair) where
-    at-end : (q : ℕ) (f : Fragment) → fragment_of pairs q ≡ Ok f → pair_of (with_pair pairs n) q ≡ pair_of pairs q
-    at-end q f read = pair_of-with pairs n q (read-inside pairs q f read)
+  module _ (n : Pair) (o : Option ℕ) (take : MayTake pairs n.name o) where
+    free : IfSome o (IsFreeFor pairs n.name)
+    free = may_take pairs n o take
 
-    pub cache_with : (rows' : List (Option Row)) → rows' ≡ [] → AreCached (with_pair pairs n) views rows'
-    cache_with = cache_without (with_pair pairs n) (longer pairs n) at-end
-
-    pub cache_with_put : (rows' : List (Option Row)) → rows' ≡ [] → AreCached (with_put pairs n) views rows'
-    cache_with_put = cache_without (with_put pairs n) (new-longer pairs n) (new-read pairs n)
+    pub cache_with : (rows' : List (Option Row)) → rows' ≡ [] → AreCached (placed_at pairs n o) views rows'
+    cache_with = cache_without (placed_at pairs n o) (placed-longer pairs n o) (placed-read pairs n o free)
 
     -- the targets do too, if the store has the name, or no fragment that is kept has a library entry with it
     module _ (may : IsSome (place_of pairs n.name) ⊎ NoneNames pairs rows n.name) where
@@ -131,27 +128,14 @@ module _ (pairs : List Pair) (views : List (Option FragmentView)) (rows : List (
         | inr none ↦ inr (λ (names : NamesLibrary pairs o.closure.order n.name). none names.fragment (o.all names.fragment names.member) names.index names.library (ap (option_and_then (λ x. library_of x names.index)) names.read ∙ names.entry) names.named)
       ]
 
-      pub cache_stays : AreCached (with_pair pairs n) views rows
-      cache_stays = cache_now (with_pair pairs n) (longer pairs n) at-end (λ p o. are_same pairs n o.closure.order (may-be p o) (closed-complete pairs o.root o.closure o.is))
-
-      pub cache_stays_new : AreCached (with_put pairs n) views rows
-      cache_stays_new = cache_now (with_put pairs n) (new-longer pairs n) (new-read pairs n) (λ p o. new-same pairs n o.closure.order (closed-complete pairs o.root o.closure o.is) (may-be p o))
+      pub cache_stays : AreCached (placed_at pairs n o) views rows
+      cache_stays = cache_now (placed_at pairs n o) (placed-longer pairs n o) (placed-read pairs n o free) (λ p kept. placed-same pairs n o free kept.closure.order (closed-complete pairs kept.root kept.closure kept.is) (may-be p kept))
 
 -- with the pair, and if it wasn't added
 pub cache_added : {E : Type 0} (pairs pairs' : List Pair) (views : List (Option FragmentView)) (rows : List (Option Row)) (r : Result (Unit {0}) E) (new : List Pair) → OnOk r (new ≡ pairs') → OnErr r (new ≡ pairs) → AreCached pairs' views rows → AreCached pairs views rows
     → AreCached new views rows
 cache_added pairs pairs' views rows (Ok done) new ok err with without = subst (λ (pairs : List Pair). AreCached pairs views rows) (sym ok) with
 cache_added pairs pairs' views rows (Err e) new ok err with without = subst (λ (pairs : List Pair). AreCached pairs views rows) (sym err) without
-
--- a store of which nothing is kept
-pub cache_none : (pairs : List Pair) (views : List (Option FragmentView)) (rows : List (Option Row)) → views ≡ [] → rows ≡ [] → AreCached pairs views rows
-cache_none pairs views rows none empty = record {
-  few = let e = ap length none in omega arith;
-  read = λ p f here. absurd (let under = fragment_at-below views p f here in let e = ap length none in omega (arith, under, e));
-  few_rows = let e = ap length empty in omega arith;
-  right = rows-none pairs rows empty;
-  closures = kept-none pairs rows empty;
-}
 
 -- a table that grew has as many places as the store
 rows_size : (rows : List (Option Row)) (n places : ℕ) → length rows ≤ n → places ≡ n → length (rows ++ replicate (places - length rows) None) ≡ n

@@ -20,7 +20,7 @@ import_of_value (Reexport import) = import
 import_of_value value = 0
 
 abbrev import_of_export : Export → ℕ
-import_of_export e = import_of_value (value_of e.section e.value)
+import_of_export e = import_of_value (value_of e.fields.section e.fields.value)
 
 -- the import that an export passes on
 pub passed_on : List Pair → ℕ × ℕ → ℕ

@@ -25,7 +25,7 @@ pub record GoesOn (pairs : List Pair) (p j q e k : ℕ) : Type 0 where
   pub named : named_of loader symbol.name ≡ Some e
   pub export : Export
   pub there : export_of loader e ≡ Some export
-  pub value : value_of export.section export.value ≡ Reexport k
+  pub value : value_of export.fields.section export.fields.value ≡ Reexport k
 
 -- by the value of the export
 through_by : (q' e' : ℕ) (v : ExportValue) (q e k : ℕ) → hop_by q' e' v ≡ through q e k → (q' ≡ q) × (e' ≡ e) × (v ≡ Reexport k)
@@ -38,10 +38,10 @@ through_weak true r q e k is = cc
 through_weak false r q e k is = cc
 
 -- by the export, if there is one
-through_to : (f l : List ℕ) (place : Place) (i : Import) (q' : ℕ) (o : Option (ℕ × Export)) (q e k : ℕ) → hop_to f l place i q' o ≡ Ok (through q e k) → (x : ℕ × Export) × (o ≡ Some x) × (q' ≡ q) × (x.0 ≡ e) × (value_of x.1.section x.1.value ≡ Reexport k)
-through_to f l place i q' None q e k is = absurd (through_weak i.weak (symbol_missing f l i.name place) q e k is)
+through_to : (f l : List ℕ) (place : Place) (i : Import) (q' : ℕ) (o : Option (ℕ × Export)) (q e k : ℕ) → hop_to f l place i q' o ≡ Ok (through q e k) → (x : ℕ × Export) × (o ≡ Some x) × (q' ≡ q) × (x.0 ≡ e) × (value_of x.1.fields.section x.1.fields.value ≡ Reexport k)
+through_to f l place i q' None q e k is = absurd (through_weak i.fields.weak (symbol_missing f l i.name place) q e k is)
 through_to f l place i q' (Some x) q e k is =
-    let by = through_by q' x.0 (value_of x.1.section x.1.value) q e k (cc) in
+    let by = through_by q' x.0 (value_of x.1.fields.section x.1.fields.value) q e k (cc) in
     (x, refl, by.0, by.1, by.2)
 
 -- an export that is found is the first with its name

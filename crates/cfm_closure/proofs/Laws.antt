@@ -21,9 +21,8 @@ pub use Rattle.cfm_closure.proofs.ClosedLemmas.{closed-order}
 -- a closure is refused as a loop of re-exports exactly if an import of its order visits an export again, before which
 -- no import is refused
 pub use Rattle.cfm_closure.proofs.EndlessLemmas.{closed-endless}
--- a pair that is added leaves the fragments, and the closures that may stay and their targets, as they are
-pub use Rattle.cfm_closure.proofs.AdditionLemmas.{closed-with, fragment_of-with, place_of-kept, target-with}
--- so does one that is put into the place for it, or removed, since the fragments and bindings of the closures stay the same
+-- a pair that is put into the place for it, or removed, leaves the closures that may stay and their targets as they are, since
+-- their fragments and bindings stay the same
 pub use Rattle.cfm_closure.proofs.SameLemmas.{AreSame, SameAt, fragment_of-same}
 pub use Rattle.cfm_closure.proofs.SameClosedLemmas.{closed-same, target-same}
 pub use Rattle.cfm_closure.proofs.StoreLemmas.{new-longer, new-same, removed-longer, removed-same}

@@ -1,4 +1,4 @@
-mod AdditionLemmas
+mod AbsentLemmas
 mod BoundLemmas
 mod BoundSameLemmas
 mod CacheLemmas
@@ -45,4 +45,3 @@ mod TableLemmas
 mod TargetLemmas
 mod WalkFacts
 mod WalkRules
-mod WithoutLemmas

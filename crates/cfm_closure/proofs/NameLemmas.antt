@@ -66,7 +66,7 @@ shows-first l name i None ok named is = absurd (let there = (named_there l name 
 shows-first l name i (Some x) ok named is =
     let known = named_there l name i ok named in
     let same : known.0 ≡ export_seen x = same_Some known.0 (export_seen x) (sym known.1 ∙ sym is) in
-    let P : Export → Type 0 = λ y. IsTrue (has_section l.header l.sections y.value y.section) in
+    let P : Export → Type 0 = λ y. IsTrue (has_section l.header l.sections y.fields.value y.fields.section) in
     record {
       called = sym (ap (λ (y : Export). y.name) same) ∙ known.2;
       means = record {

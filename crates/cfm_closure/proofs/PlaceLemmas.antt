@@ -1,13 +1,12 @@
 -- The place of the first pair with a name, before and after a pair is added.
-use Rattle.std.proofs.Common.{◌≡◌, ℕ, zero, suc, ◌+◌, ◌-◌, ◌<◌, ◌≤◌, Bool, true, false, cond, List, [], ◌∷◌, ◌++◌, map, length, Option, None, Some, refl, sym, ap, ap₂, ◌∙◌, subst, Bor, arith, get_or, set}
-use Rattle.std.specs.Map.{lookup}
+use Rattle.std.proofs.Common.{◌≡◌, ℕ, zero, suc, ◌+◌, ◌-◌, ◌<◌, ◌≤◌, Bool, true, false, cond, List, [], ◌∷◌, ◌++◌, map, length, Option, None, Some, refl, sym, ap, ap₂, ◌∙◌, subst, Bor, arith, get_or, set, true≢false}
 use Rattle.std.specs.Option.{option_or}
 use Rattle.std.specs.Str.{bytes_eq}
-use Rattle.std.specs.Prelude.{IfSome, is_some}
+use Rattle.std.specs.Prelude.{IfSome, IsSome, is_some}
 use Rattle.std.proofs.lemmas.Slice.Eq.{bytes_eq-Decides}
 use Rattle.cfm_closure.specs.Stores.{Pair, free_place, is_named, no_pair, pair_of, place_from, place_of, shown}
-use Rattle.cfm_closure.specs.Additions.{free_for, free_from}
-use Rattle.cfm_closure.specs.Kept.Places.{ArePlaces, NotesPlace}
+use Rattle.cfm_closure.specs.Additions.{free_for, free_from, without_pair}
+use Rattle.cfm_closure.specs.Kept.Places.{ArePlaces, NotesPlace, SetsPlace, place_in}
 
 -- a value, if a test holds
 abbrev pub if_met : Bool → ℕ → Option ℕ
@@ -103,17 +102,22 @@ place_from-push at (y ∷ pairs) x name = by (is_named y name) (place_from-push 
         let same : at + 1 + length pairs ≡ at + length (y ∷ pairs) = omega arith in
         later ∙ ap (λ n. option_or (place_from (at + 1) pairs name) (if_met (is_named x name) n)) same
 
-lookup-push : (test : Bor (List ℕ) → Bool) (entries : List (Bor (List ℕ) × ℕ)) (k : Bor (List ℕ)) (v : ℕ) → lookup test (entries ++ (k, v) ∷ []) ≡ option_or (lookup test entries) (if_met (test k) v)
-lookup-push test [] k v = by (test k)
+-- .. so it has the place that it had, unless it is that of the new pair and had none
+pub place_of-with : (pairs : List Pair) (x : Pair) (name : List ℕ) → (name ≡ x.name → IsSome (place_of pairs name)) → place_of (pairs ++ x ∷ []) name ≡ place_of pairs name
+unfolding place_of
+place_of-with pairs x name known = place_from-push 0 pairs x name ∙ by (is_named x name) refl
   where
-    by : (here : Bool) → cond here (Some v) None ≡ if_met here v
-    by true = refl
-    by false = refl
-lookup-push test (e ∷ entries) k v = by (test e.0) (lookup-push test entries k v)
-  where
-    by : (here : Bool) → lookup test (entries ++ (k, v) ∷ []) ≡ option_or (lookup test entries) (if_met (test k) v) → cond here (Some e.1) (lookup test (entries ++ (k, v) ∷ [])) ≡ option_or (cond here (Some e.1) (lookup test entries)) (if_met (test k) v)
-    by true later = refl
-    by false later = later
+    found : (o : Option ℕ) → is_some o ≡ true → option_or o (Some (0 + length pairs)) ≡ o
+    found None some = absurd (cc)
+    found (Some p) some = refl
+
+    none : (o : Option ℕ) → option_or o None ≡ o
+    none None = refl
+    none (Some p) = refl
+
+    by : (here : Bool) → is_named x name ≡ here → option_or (place_of pairs name) (if_met here (0 + length pairs)) ≡ place_of pairs name
+    by true met = found (place_of pairs name) (known (named-name x name met))
+    by false met = none (place_of pairs name)
 
 -- an option that isn't some is none
 pub none_if : {A : Type 0} (o : Option A) → is_some o ≡ false → o ≡ None
@@ -129,41 +133,44 @@ pub ArePlaces-nil : (pairs : List Pair) (entries : List (Bor (List ℕ) × ℕ))
 unfolding place_of
 ArePlaces-nil pairs entries none empty name = rw (none, empty) refl
 
+-- a pair that isn't free has its own name
+named-own : (x : Pair) → x.free ≡ false → is_named x x.name ≡ true
+named-own x taken = taken-named x x.name taken ∙ (bytes_eq-Decides x.name x.name).1 refl
+
+-- .. and no other
+pub other-unnamed : (x : Pair) (name : List ℕ) → (name ≡ x.name → ⊥) → is_named x name ≡ false
+other-unnamed x name other = by (is_named x name) refl
+  where
+    by : (b : Bool) → is_named x name ≡ b → b ≡ false
+    by true met = absurd (other (named-name x name met))
+    by false met = refl
+
+-- where one name gets its new place, and the others keep theirs, the table has the places of the new pairs
+ArePlaces-sets : (old new : List Pair) (m n : List (Bor (List ℕ) × ℕ)) (name : List ℕ) (place : Option ℕ) → ArePlaces old m → SetsPlace m name place n → place ≡ place_of new name
+    → ((other : List ℕ) → (other ≡ name → ⊥) → place_of new other ≡ place_of old other) → ArePlaces new n
+ArePlaces-sets old new m n name place are sets own others other = by (bytes_eq name other) refl
+  where
+    by : (b : Bool) → bytes_eq name other ≡ b → place_in n other ≡ place_of new other
+    by true met = let P : List ℕ → Type 0 = λ other. place_in n other ≡ place_of new other in subst P ((bytes_eq-Decides name other).0 met) (sets.own ∙ own)
+    by false apart = sets.others other apart ∙ are other ∙ sym (others other (λ same. true≢false (sym ((bytes_eq-Decides name other).1 (sym same)) ∙ apart)))
+
 module _ (entries : List (Bor (List ℕ) × ℕ)) (name : List ℕ) (place : ℕ) where
-  -- a new name goes last
-  pub NotesPlace-new : (k : Bor (List ℕ)) (new : List (Bor (List ℕ) × ℕ)) → k.now ≡ name → new ≡ entries ++ (k, place) ∷ [] → NotesPlace entries name place new
+  -- a new name gets the place of the last pair
+  pub NotesPlace-new : (new : List (Bor (List ℕ) × ℕ)) → place_in entries name ≡ None → SetsPlace entries name (Some place) new → NotesPlace entries name place new
   unfolding place_of
-  NotesPlace-new k new key is pairs x are same taken last sought =
-      ap (lookup (λ (k : Bor (List ℕ)). bytes_eq sought k.now)) is
-      ∙ lookup-push (λ (k : Bor (List ℕ)). bytes_eq sought k.now) entries k place
-      ∙ ap₂ (λ o n. option_or o (if_met (bytes_eq sought n) place)) (are sought) (key ∙ sym same)
-      ∙ ap₂ (λ here n. option_or (place_from 0 pairs sought) (if_met here n)) (sym (taken-named x sought taken)) last
-      ∙ ap (λ n. option_or (place_from 0 pairs sought) (if_met (is_named x sought) n)) (omega arith)
-      ∙ sym (place_from-push 0 pairs x sought)
+  NotesPlace-new new absent sets pairs x are same taken last =
+      ArePlaces-sets pairs (pairs ++ x ∷ []) entries new name (Some place) are sets
+      (sym (place_from-push 0 pairs x name
+      ∙ ap₂ (λ o b. option_or o (if_met b (0 + length pairs))) (sym (are name) ∙ absent) (ap (is_named x) (sym same) ∙ named-own x taken)
+      ∙ ap Some (omega (arith, last))))
+      (λ other apart. place_of-with pairs x other (λ is. absurd (apart (is ∙ same))))
 
   -- .. and one that already exists keeps its place
-  keeps_place : (pairs : List Pair) (x : Pair) (sought : List ℕ) (here : Bool) → is_named x sought ≡ here → is_some (place_of pairs x.name) ≡ true → place_of pairs sought ≡ option_or (place_of pairs sought) (if_met here (0 + length pairs))
-  keeps_place pairs x sought true met there =
-      let same = named-name x sought met in
-      found (place_of pairs sought) (ap (λ n. is_some (place_of pairs n)) same ∙ there)
-    where
-      found : (o : Option ℕ) → is_some o ≡ true → o ≡ option_or o (Some (0 + length pairs))
-      found None some = absurd (cc)
-      found (Some p) some = refl
-  keeps_place pairs x sought false met there = none (place_of pairs sought)
-    where
-      none : (o : Option ℕ) → o ≡ option_or o None
-      none None = refl
-      none (Some p) = refl
-
-  pub NotesPlace-known : (new : List (Bor (List ℕ) × ℕ)) → is_some (lookup (λ (k : Bor (List ℕ)). bytes_eq name k.now) entries) ≡ true → new ≡ entries → NotesPlace entries name place new
-  unfolding place_of
+  pub NotesPlace-known : (new : List (Bor (List ℕ) × ℕ)) → is_some (place_in entries name) ≡ true → new ≡ entries → NotesPlace entries name place new
   NotesPlace-known new there is pairs x are same taken last sought =
-      let has : is_some (place_of pairs x.name) ≡ true = ap (λ n. is_some (place_of pairs n)) same ∙ ap is_some (sym (are name)) ∙ there in
-      ap (lookup (λ (k : Bor (List ℕ)). bytes_eq sought k.now)) is
+      ap (λ (es : List (Bor (List ℕ) × ℕ)). place_in es sought) is
       ∙ are sought
-      ∙ keeps_place pairs x sought (is_named x sought) refl has
-      ∙ sym (place_from-push 0 pairs x sought)
+      ∙ sym (place_of-with pairs x sought (λ e. ap (λ n. is_some (place_of pairs n)) (e ∙ same) ∙ ap is_some (sym (are name)) ∙ there))
 
 -- one more pair, as a value
 pub seen-push : {A B : Type 0} (f : A → B) (xs : List A) (x : A) → map f (xs ++ x ∷ []) ≡ map f xs ++ f x ∷ []
@@ -244,19 +251,19 @@ free_for-is pairs name p is = by (place_of pairs name) refl is
         let P : ℕ → Type 0 = λ n. (get_or pairs n no_pair).free ≡ true in
         record { inside = omega arith; free = subst P from r.free; none = has }
 
--- the table with the new name has its place, and the places of the others
-pub ArePlaces-set : (pairs : List Pair) (p : ℕ) (n : Pair) (entries : List (Bor (List ℕ) × ℕ)) (k : Bor (List ℕ)) → ArePlaces pairs entries → IsFreeFor pairs n.name p → n.free ≡ false → k.now ≡ n.name → ArePlaces (set pairs p n) (entries ++ (k, p) ∷ [])
-ArePlaces-set pairs p n entries k are free taken key sought =
-    lookup-push (λ (k : Bor (List ℕ)). bytes_eq sought k.now) entries k p
-    ∙ ap₂ (λ o b. option_or o (if_met b p)) (are sought) (ap (bytes_eq sought) key ∙ sym (taken-named n sought taken))
-    ∙ by (is_named n sought) refl
-  where
-    none : (o : Option ℕ) → option_or o None ≡ o
-    none None = refl
-    none (Some q) = refl
+-- the table has the places after a pair is put into a free place
+pub ArePlaces-filled : (pairs : List Pair) (p : ℕ) (x : Pair) (m n : List (Bor (List ℕ) × ℕ)) → ArePlaces pairs m → IsFreeFor pairs x.name p → x.free ≡ false → SetsPlace m x.name (Some p) n → ArePlaces (set pairs p x) n
+ArePlaces-filled pairs p x m n are free taken sets =
+    ArePlaces-sets pairs (set pairs p x) m n x.name (Some p) are sets
+    (sym (place_of-there pairs p x x.name free.none free.inside (named-own x taken)))
+    (λ other apart. place_of-set pairs p x other (free-unnamed (get_or pairs p no_pair) other free.free) (other-unnamed x other apart))
 
-    by : (b : Bool) → is_named n sought ≡ b → option_or (place_of pairs sought) (if_met b p) ≡ place_of (set pairs p n) sought
-    by true met =
-        let absent = ap (place_of pairs) (named-name n sought met) ∙ free.none in
-        ap (λ o. option_or o (Some p)) absent ∙ sym (place_of-there pairs p n sought absent free.inside met)
-    by false unmet = none (place_of pairs sought) ∙ sym (place_of-set pairs p n sought (free-unnamed (get_or pairs p no_pair) sought free.free) unmet)
+-- a name that the pair in a place doesn't have keeps its place without it
+pub place_of-removed : (pairs : List Pair) (p : ℕ) (name : List ℕ) → (name ≡ (get_or pairs p no_pair).name → ⊥) → place_of (without_pair pairs p) name ≡ place_of pairs name
+place_of-removed pairs p name apart = place_of-set pairs p free_place name (other-unnamed (get_or pairs p no_pair) name apart) refl
+
+-- .. and after the pair in a place is removed
+pub ArePlaces-removed : (pairs : List Pair) (p : ℕ) (name : List ℕ) (m n : List (Bor (List ℕ) × ℕ)) → ArePlaces pairs m → (get_or pairs p no_pair).name ≡ name → SetsPlace m name (place_of (without_pair pairs p) name) n → ArePlaces (without_pair pairs p) n
+ArePlaces-removed pairs p name m n are is sets =
+    ArePlaces-sets pairs (without_pair pairs p) m n name (place_of (without_pair pairs p) name) are sets refl
+    (λ other apart. place_of-removed pairs p other (λ same. apart (same ∙ is)))

@@ -178,7 +178,7 @@ module _ (pairs : List Pair) (root : ℕ) where
 
         to : (q : ℕ) (i : Import) (o : Option (ℕ × Export)) → Binds (hop_to (pair_of pairs p).name (pair_of pairs q).name (import_place pairs p j) i q o)
         to q i None =
-            weak i.weak (symbol_missing (pair_of pairs p).name (pair_of pairs q).name i.name (import_place pairs p j)) (covers.symbol (pair_of pairs p).name (pair_of pairs q).name i.name (import_place pairs p j))
+            weak i.fields.weak (symbol_missing (pair_of pairs p).name (pair_of pairs q).name i.name (import_place pairs p j)) (covers.symbol (pair_of pairs p).name (pair_of pairs q).name i.name (import_place pairs p j))
         to q i (Some x) = tt
 
         from : (i : Import) (o : Option ℕ) → Binds (hop_from pairs p j i o)

@@ -4,7 +4,7 @@ use Rattle.std.proofs.Math.ListN.{get_or-map}
 use Rattle.std.proofs.lemmas.Bool.{cases_lt}
 use Rattle.std.proofs.lemmas.List.{get_or-replicate, get_or_past, length-map, length-replicate, map-set}
 use Rattle.cfm_closure.specs.declared.fragment.ClosedFragment.{ClosedFragment}
-use Rattle.cfm_closure.specs.Kept.Found.{all_meant}
+use Rattle.cfm_closure.specs.Kept.Resolutions.{all_meant}
 use Rattle.cfm_closure.specs.Kept.Rows.{row_of, rows_of}
 
 pub row-at : (table : List (Option ClosedFragment)) (p : ℕ) → get_or (rows_of table) p [] ≡ row_of (get_or table p None)

@@ -48,11 +48,11 @@ fragment-sound pairs p f is = container-sound (pair_of pairs p).name (container_
 
 module _ (pairs : List Pair) (order : List ℕ) (complete : IsComplete pairs order) where
   -- an export in a section of a fragment of the order
-  in_section : (q : ℕ) (f : Fragment) (e : ℕ) (x : Export) (t : Option Target) → Contains order q → fragment_of pairs q ≡ Ok f → IsTrue (has_section f.loader.header f.loader.sections x.value x.section)
-      → hop_by q e (value_of x.section x.value) ≡ ends t → LiesInside pairs order t
+  in_section : (q : ℕ) (f : Fragment) (e : ℕ) (x : Export) (t : Option Target) → Contains order q → fragment_of pairs q ≡ Ok f → IsTrue (has_section f.loader.header f.loader.sections x.fields.value x.fields.section)
+      → hop_by q e (value_of x.fields.section x.fields.value) ≡ ends t → LiesInside pairs order t
   in_section q f e x t there read has is =
-      let parts = and_parts (is_export_section x.section) (is_there f.loader.header f.loader.sections (value_of x.section x.value)) has in
-      by (value_of x.section x.value) parts.1 is
+      let parts = and_parts (is_export_section x.fields.section) (is_there f.loader.header f.loader.sections (value_of x.fields.section x.fields.value)) has in
+      by (value_of x.fields.section x.fields.value) parts.1 is
     where
       by : (v : ExportValue) → IsTrue (is_there f.loader.header f.loader.sections v) → hop_by q e v ≡ ends t → LiesInside pairs order t
       by (InSection s offset) has is =
@@ -81,11 +81,11 @@ module _ (pairs : List Pair) (order : List ℕ) (complete : IsComplete pairs ord
 
       found : (n : Option ℕ) → named_of f.loader i.name ≡ n
           → hop_to (pair_of pairs p).name (pair_of pairs q).name place i q (option_and_then (λ e. option_map (λ x. (e, x)) (export_of f.loader e)) n) ≡ Ok (ends t) → LiesInside pairs order t
-      found None was is = weak i.weak is
+      found None was is = weak i.fields.weak is
       found (Some e) was is =
           let named = named_there f.loader i.name e (fragment-sound pairs q f read).loader was in
           let hops : Option Export → Result Hop BindRefusal = λ o. hop_to (pair_of pairs p).name (pair_of pairs q).name place i q (option_map (λ x. (e, x)) o) in
-          let at : ◌≡◌ {A = Result Hop BindRefusal} (Ok (hop_by q e (value_of named.0.section named.0.value))) (Ok (ends t)) = ap hops (sym named.1) ∙ is in
+          let at : ◌≡◌ {A = Result Hop BindRefusal} (Ok (hop_by q e (value_of named.0.fields.section named.0.fields.value))) (Ok (ends t)) = ap hops (sym named.1) ∙ is in
           in_section q f e named.0 t there read named.3 (cc)
 
   hop-inside : (p j : ℕ) (t : Option Target) → Contains order p → hop pairs p j ≡ Ok (ends t) → LiesInside pairs order t

@@ -3,7 +3,6 @@ pub mod Bindings
 pub mod Caches
 pub mod Entries
 pub mod Exported
-pub mod Found
 pub mod FoundNames
 pub mod Hops
 pub mod Imports
@@ -13,6 +12,7 @@ pub mod Notes
 pub mod Numbers
 pub mod Paths
 pub mod Places
+pub mod Resolutions
 pub mod Resolvers
 pub mod Rows
 pub mod Searches

@@ -33,8 +33,8 @@ exported name l = option_and_then (λ e. option_map (λ x. (e, x)) (export_of l 
 
 -- a name that isn't exported gives no target for a weak import, and a refusal for any other
 abbrev pub hop_to : List ℕ → List ℕ → Place → Import → ℕ → Option (ℕ × Export) → Result Hop BindRefusal
-hop_to fragment library place i q None = if i.weak then Ok (ends None) else Err (symbol_missing fragment library i.name place)
-hop_to fragment library place i q (Some x) = Ok (hop_by q x.0 (value_of x.1.section x.1.value))
+hop_to fragment library place i q None = if i.fields.weak then Ok (ends None) else Err (symbol_missing fragment library i.name place)
+hop_to fragment library place i q (Some x) = Ok (hop_by q x.0 (value_of x.1.fields.section x.1.fields.value))
 
 -- an import of an absent library has no target
 abbrev pub hop_from : List Pair → ℕ → ℕ → Import → Option ℕ → Result Hop BindRefusal

@@ -5,7 +5,7 @@ ghost use Rattle.cfm_closure.specs.Fragments.{fragment_of, import_count, library
 ghost use Rattle.cfm_closure.specs.Libraries.{bound_to};
 ghost use Rattle.cfm_closure.specs.Closures.{imports_refusal};
 ghost use Rattle.cfm_closure.specs.Kept.Caches.{IsCache, IsKeptRow};
-ghost use Rattle.cfm_closure.specs.Kept.Found.{meant};
+ghost use Rattle.cfm_closure.specs.Kept.Resolutions.{meant};
 ghost use Rattle.cfm_closure.specs.Kept.Paths.{IsClosed};
 ghost use Rattle.cfm_closure.specs.Kept.Targets.{IsKnown, IsResolved, Keeps, known_at, led_to};
 ghost use Rattle.cfm_closure.specs.Orders.{IsComplete};
@@ -17,7 +17,7 @@ use crate::fault::BindFault;
 use crate::fragment::{ClosedFragment, FragmentView};
 use crate::place_table::PlaceTable;
 use crate::store::Store;
-use crate::targets::{Found, SharedTargets};
+use crate::targets::{Resolution, SharedTargets};
 use crate::walk::Walk;
 use std::alloc::{AllocError, Global};
 use std::marker::Model;
@@ -153,10 +153,10 @@ impl<'a> Bindings<'a> {
     }
 
     /// Returns the target of import `j` of a fragment of the order, if it is known.
-    pub fn target(&self, p: usize, j: usize) -> Option<Found>
+    pub fn target(&self, p: usize, j: usize) -> Option<Resolution>
         requires { Contains self.now.order p }
         ensures known { option_map meant result ≡ known_at self.now.rows p j }
-        ensures right { IfSome result (λ found. led_to self.now.pairs (p, j) ≡ Some (Ok (meant found))) }
+        ensures right { IfSome result (λ resolution. led_to self.now.pairs (p, j) ≡ Some (Ok (meant resolution))) }
         ensures complete { IsComplete self.now.pairs self.now.order }
     {
         self.closed(p).targets.get(j)
@@ -183,15 +183,15 @@ impl<'a> Bindings<'a> {
     }
 
     /// Notes the target of import `j` of a fragment of the order. It may be known.
-    pub fn note(&mut self, p: usize, j: usize, found: Found)
+    pub fn note(&mut self, p: usize, j: usize, resolution: Resolution)
         requires place { Contains self.old.order p }
         requires import { j < import_count self.old.pairs p }
-        requires right { led_to self.old.pairs (p, j) ≡ Some (Ok (meant found)) }
+        requires right { led_to self.old.pairs (p, j) ≡ Some (Ok (meant resolution)) }
         ensures keeps { Keeps self.old self.new }
         ensures known { IsKnown self.new.rows p j }
     {
         let fragment = self.fragments.value_mut(p);
-        fragment.targets.note(j, found);
+        fragment.targets.note(j, resolution);
     }
 
     /// Returns the tables of a fragment of the order.

@@ -1,10 +1,10 @@
-ghost use Rattle.std.specs.Prelude.{◌≡◌, ◌≢◌, ◌≤◌, ℕ, List, [], false, length, IfOk, OnOk, Some};
+ghost use Rattle.std.specs.Prelude.{◌≡◌, ◌≢◌, ◌≤◌, ℕ, List, [], false, length, IfOk, OnOk, Option, Some};
 ghost use Rattle.std.specs.Option.{option_and_then};
 ghost use Rattle.pef_loader.specs.Library.{Library};
 ghost use Rattle.pef_loader.specs.Loader.{library_of};
-ghost use Rattle.cfm_closure.specs.Additions.{with_put, with_pair};
+ghost use Rattle.cfm_closure.specs.Additions.{placed_at};
 ghost use Rattle.cfm_closure.specs.Fragments.{loader_at};
-ghost use Rattle.cfm_closure.specs.Kept.Caches.{AreKeptRows, IsCache, IsOrderOfClosure, KeepsFirst, NoneNames};
+ghost use Rattle.cfm_closure.specs.Kept.Caches.{AreKeptRows, IsCache, IsOrderOfClosure, KeepsFirst, MayTake, NoneNames};
 ghost use Rattle.cfm_closure.specs.Kept.Targets.{AreResolved};
 ghost use Rattle.cfm_closure.specs.Kept.Views.{AreRead, AreViews};
 ghost use Rattle.cfm_closure.specs.Stores.{Pair};
@@ -58,6 +58,7 @@ impl<'a> Cache<'a> {
     pub fn put_views(&mut self, views: PlaceTable<FragmentView<'a>>)
         ensures views { self.new.views ≡ views.entry }
         ensures rows { self.new.rows ≡ self.old.rows }
+        ensures cache { (pairs : List Pair) → AreViews pairs views.entry → IsCache pairs self.old → IsCache pairs self.new }
     {
         drop(mem::replace(&mut self.views, views));
     }
@@ -105,8 +106,7 @@ impl<'a> Cache<'a> {
     pub fn forget_changed(&mut self, store: &Store<'a>, name: &[u8])
         requires { IsCache store.now self.old }
         ensures without { IsCache store.now self.new }
-        ensures with { (bytes : List ℕ) → IsCache (with_pair store.now (record { name = name.now; bytes = bytes; free = false })) self.new }
-        ensures with_put { (bytes : List ℕ) → IsCache (with_put store.now (record { name = name.now; bytes = bytes; free = false })) self.new }
+        ensures with { (bytes : List ℕ) (o : Option ℕ) → MayTake store.now name.now o → IsCache (placed_at store.now (record { name = name.now; bytes = bytes; free = false }) o) self.new }
     {
         if store.find(name).is_none() && self.names_library(name) {
             self.forget_targets();

@@ -9,9 +9,9 @@ ghost use Rattle.cfm_closure.specs.Seen.{pair_seen};
 ghost use Rattle.cfm_closure.specs.Stores.{place_of, taken};
 ghost use Rattle.cfm_closure.specs.Views.{missing_seen};
 
+use crate::build::closure_with;
 use crate::cache::Cache;
-use crate::closed::Closure;
-use crate::closing::closure_with;
+use crate::closures::Closure;
 use crate::fault::BindFault;
 use crate::missing::MissingLibrary;
 use crate::search::missing_with;
@@ -113,7 +113,7 @@ impl<'a> CachedStore<'a> {
         ensures err { OnErr result (self.new ≡ self.old) }
     {
         self.cache = Cache::empty(alloc);
-        self.store.remove(alloc, place)
+        self.store.remove(place)
     }
 
     /// Returns whether there is a place for a new pair with a name.

@@ -13,14 +13,14 @@ use crate::export_names::ExportNames;
 use crate::fault::BindFault;
 use crate::fragment::FragmentView;
 use crate::symbols::Symbols;
-use crate::targets::Found;
+use crate::targets::Resolution;
 use pef_format::{ExportValue, ImportView};
 
 /// The next step from an import.
 #[derive(Clone, Copy)]
 pub(crate) enum Hop {
     /// The import has this target, or none.
-    Ends(Found),
+    Ends(Resolution),
 
     /// The import has the target of an import of another fragment, which an export there passes on.
     Through { fragment: usize, import: usize },
@@ -34,9 +34,9 @@ fn export_hop(fragment: usize, value: ExportValue) -> Hop
 {
     match value {
         ExportValue::InSection { section, offset } => {
-            Hop::Ends(Found::at(fragment, section, offset))
+            Hop::Ends(Resolution::at(fragment, section, offset))
         }
-        ExportValue::Absolute(number) => Hop::Ends(Found::absolute(number)),
+        ExportValue::Absolute(number) => Hop::Ends(Resolution::absolute(number)),
         ExportValue::Reexport { import } => Hop::Through {
             fragment,
             import: import as usize,
@@ -64,11 +64,11 @@ pub(crate) fn import_hop<'a>(
 {
     let symbol = match symbols.import(bindings, p, j)? {
         Some(symbol) => symbol,
-        None => return Ok(Hop::Ends(Found::missing())),
+        None => return Ok(Hop::Ends(Resolution::missing())),
     };
     let q = match bindings.library(p, symbol.library) {
         Some(q) => q,
-        None => return Ok(Hop::Ends(Found::missing())),
+        None => return Ok(Hop::Ends(Resolution::missing())),
     };
     let library = bindings.fragment(q);
     let export = names.find(bindings, q, symbol.name)?;
@@ -89,7 +89,7 @@ fn missing<'a>(
     ensures { LeadsTo result (hop_to fragment.now.name.now library.entry.now (part_place (fragment_seen fragment.now) Import j 0) (import_seen symbol.entry) 0 None) }
 {
     if symbol.fields.weak {
-        return Ok(Hop::Ends(Found::missing()));
+        return Ok(Hop::Ends(Resolution::missing()));
     }
     Err(BindFault::SymbolMissing {
         fragment: fragment.name,

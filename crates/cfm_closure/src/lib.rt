@@ -9,10 +9,10 @@
 
 mod binding;
 mod bindings;
+mod build;
 mod cache;
 mod cached_store;
-mod closed;
-mod closing;
+mod closures;
 mod export_names;
 mod fault;
 mod found_names;
@@ -34,9 +34,9 @@ pub mod theorems;
 mod versions;
 mod walk;
 
+pub use build::closure;
 pub use cached_store::CachedStore;
-pub use closed::Closure;
-pub use closing::closure;
+pub use closures::Closure;
 pub use fault::BindFault;
 pub use missing::MissingLibrary;
 pub use store::{MAX_PAIRS, Store};

@@ -6,7 +6,7 @@ ghost use Rattle.cfm_closure.specs.Fragments.{import_count, import_place};
 ghost use Rattle.cfm_closure.specs.Closures.{first_refused, imports_refusal};
 ghost use Rattle.cfm_closure.specs.Targets.{exports_among, symbol_of, target_of};
 ghost use Rattle.cfm_closure.specs.declared.targets.Target.{Target};
-ghost use Rattle.cfm_closure.specs.Kept.Found.{meant};
+ghost use Rattle.cfm_closure.specs.Kept.Resolutions.{meant};
 ghost use Rattle.cfm_closure.specs.Kept.Resolvers.{IsResolver};
 ghost use Rattle.cfm_closure.specs.Kept.Targets.{AreKnown, AreResolved, IsKnown, IsOnWay, IsResolved, Keeps, Passes, led_to};
 
@@ -15,7 +15,7 @@ use crate::export_names::ExportNames;
 use crate::fault::BindFault;
 use crate::hops::{Hop, import_hop};
 use crate::symbols::Symbols;
-use crate::targets::Found;
+use crate::targets::Resolution;
 use std::alloc::{AllocError, Global};
 
 /// The search for the targets of a closure's imports.
@@ -41,13 +41,13 @@ fn exports<'a>(bindings: &Bindings<'a>) -> usize
 }
 
 /// Notes the target of all imports on a way.
-fn note_way<'a>(bindings: &mut Bindings<'a>, way: &[(usize, usize)], found: Found)
-    requires { AllByRecursion (IsOnWay bindings.old.pairs bindings.old.order (Some (Ok (meant found)))) way.now }
+fn note_way<'a>(bindings: &mut Bindings<'a>, way: &[(usize, usize)], resolution: Resolution)
+    requires { AllByRecursion (IsOnWay bindings.old.pairs bindings.old.order (Some (Ok (meant resolution)))) way.now }
     ensures keeps { Keeps bindings.old bindings.new }
     ensures known { AreKnown bindings.new.rows way.now (length way.now) }
 {
     for import in way {
-        bindings.note(import.0, import.1, found);
+        bindings.note(import.0, import.1, resolution);
     }
 }
 
@@ -91,7 +91,7 @@ impl<'a> Resolver<'a> {
         way: &mut Vec<(usize, usize)>,
         p: usize,
         j: usize,
-    ) -> Result<Found, BindFault<'a>>
+    ) -> Result<Resolution, BindFault<'a>>
         requires place { Contains bindings.now.order p }
         requires import { j < import_count bindings.now.pairs p }
         requires resolver { IsResolver bindings.now.pairs bindings.now.order self.old }
@@ -102,11 +102,11 @@ impl<'a> Resolver<'a> {
     {
         let mut at = (p, j);
         for _hop in 0..self.exports + 1 {
-            if let Some(found) = bindings.target(at.0, at.1) {
-                return Ok(found);
+            if let Some(resolution) = bindings.target(at.0, at.1) {
+                return Ok(resolution);
             }
             match import_hop(bindings, &mut self.symbols, &mut self.names, at.0, at.1)? {
-                Hop::Ends(found) => return Ok(found),
+                Hop::Ends(resolution) => return Ok(resolution),
                 Hop::Through { fragment, import } => at = (fragment, import),
             }
             way.push(at)?;
@@ -120,7 +120,7 @@ impl<'a> Resolver<'a> {
         bindings: &mut Bindings<'a>,
         p: usize,
         j: usize,
-    ) -> Result<Found, BindFault<'a>>
+    ) -> Result<Resolution, BindFault<'a>>
         requires place { Contains bindings.old.order p }
         requires import { j < import_count bindings.old.pairs p }
         requires resolver { IsResolver bindings.old.pairs bindings.old.order self.old }
@@ -130,10 +130,10 @@ impl<'a> Resolver<'a> {
         ensures known { OnOk result (IsKnown bindings.new.rows p j) }
     {
         let mut way = Vec::new(self.alloc);
-        let found = self.follow(bindings, &mut way, p, j)?;
-        note_way(bindings, &way, found);
-        bindings.note(p, j, found);
-        Ok(found)
+        let resolution = self.follow(bindings, &mut way, p, j)?;
+        note_way(bindings, &way, resolution);
+        bindings.note(p, j, resolution);
+        Ok(resolution)
     }
 
     /// Resolves the imports of a fragment, import by import. Those whose targets are shared are resolved already.

@@ -1,9 +1,10 @@
-ghost use Rattle.std.specs.Prelude.{◌≡◌, ◌==◌, ◌<◌, ◌≤◌, ◌++◌, ℕ, List, None, Some, true, false, [], ◌∷◌, length, map, slice_get, slice_index_or, slice_set, option_map, nat_le, IfOk, IfSome, OnOk, OnErr};
+ghost use Rattle.std.specs.Prelude.{◌≡◌, ◌==◌, ◌<◌, ◌≤◌, ◌++◌, List, None, Some, true, false, [], ◌∷◌, length, map, slice_get, slice_index_or, slice_set, option_map, nat_le, IfSome, OnOk, OnErr};
 ghost use Rattle.std.specs.Option.{option_and_then};
+ghost use Rattle.indexmap.specs.IndexMap.{spare};
 ghost use Rattle.cfm_closure.specs.Additions.{free_for, free_from, has_room, with_put, without_pair};
-ghost use Rattle.cfm_closure.specs.Kept.Places.{NotesPlace};
+ghost use Rattle.cfm_closure.specs.Kept.Places.{NotesPlace, SetsPlace};
 ghost use Rattle.cfm_closure.specs.Seen.{pair_seen, place_seen};
-ghost use Rattle.cfm_closure.specs.Stores.{free_place, no_pair, pair_of, place_of, taken};
+ghost use Rattle.cfm_closure.specs.Stores.{no_pair, pair_of, place_of, taken};
 ghost use Rattle.cfm_closure.specs.Limits.{most_pairs};
 
 use crate::store_fault::StoreFault;
@@ -114,23 +115,15 @@ impl<'a> Store<'a> {
     /// # Errors
     ///
     /// `OutOfMemory` if an allocation fails. The store is then unchanged.
-    pub fn remove(&mut self, alloc: Global, place: usize) -> Result<(), StoreFault>
+    pub fn remove(&mut self, place: usize) -> Result<(), StoreFault>
         requires { place < length self.old }
         ensures ok { OnOk result (self.new ≡ without_pair self.old place) }
         ensures err { OnErr result (self.new ≡ self.old) }
     {
-        let without = store_without(alloc, &self.pairs, place)?;
-        *self = without;
-        Ok(())
-    }
-
-    /// Appends a free place, if the store isn't full.
-    fn add_free(&mut self) -> Result<(), StoreFault>
-        requires { length self.old < most_pairs }
-        ensures ok { OnOk result (self.new ≡ self.old ++ free_place ∷ []) }
-        ensures err { OnErr result (self.new ≡ self.old) }
-    {
-        self.pairs.push(None)?;
+        self.places.reserve(1)?;
+        if let Some((name, _)) = self.pairs[place].take() {
+            note_removed(&mut self.places, &self.pairs, name);
+        }
         Ok(())
     }
 
@@ -149,7 +142,7 @@ impl<'a> Store<'a> {
     pub fn has_room(&self, name: &[u8]) -> bool
         ensures { result ≡ has_room self.now name.now }
     {
-        self.free_place(name).is_some() || !self.is_full()
+        !self.is_full() || self.free_place(name).is_some()
     }
 
     /// Returns how many places there are, free ones among them: at most [`MAX_PAIRS`].
@@ -210,26 +203,6 @@ impl<'a> Store<'a> {
     }
 }
 
-/// Returns the store of some places without the pair in one of them.
-fn store_without<'a>(
-    alloc: Global,
-    pairs: &[Option<(&'a [u8], &'a [u8])>],
-    place: usize,
-) -> Result<Store<'a>, StoreFault>
-    requires { length pairs.now ≤ most_pairs }
-    ensures { IfOk result (λ store. store ≡ without_pair (map place_seen pairs.now) place) }
-{
-    let mut store = Store::new(alloc);
-    for q in 0..pairs.len() {
-        let pair = if q == place { None } else { pairs[q] };
-        match pair {
-            Some((name, bytes)) => store.add(name, bytes)?,
-            None => store.add_free()?,
-        }
-    }
-    Ok(store)
-}
-
 /// Returns the first free place.
 fn first_free(pairs: &[Option<(&[u8], &[u8])>]) -> Option<usize>
     ensures { result ≡ free_from 0 (map place_seen pairs.now) }
@@ -256,4 +229,38 @@ pub(crate) fn note_place<'a>(
     }
     places.insert(name, place)?;
     Ok(())
+}
+
+/// Notes the place that a name has after a pair with it was removed. The removed pair's slice of the name isn't kept.
+fn note_removed<'a>(
+    places: &mut IndexMap<&'a [u8], usize>,
+    pairs: &[Option<(&'a [u8], &'a [u8])>],
+    name: &[u8],
+)
+    requires { 0 < spare places.old }
+    ensures { SetsPlace places.old.entries name.now (place_of (map place_seen pairs.now) name.now) places.new.entries }
+{
+    places.swap_remove(name);
+    let Some((name, place)) = first_named(pairs, name) else {
+        return;
+    };
+    match places.insert(name, place) {
+        Ok(_) => {}
+        Err(_) => unreachable!(),
+    }
+}
+
+/// Returns the first pair with a name: its slice of the name, and its place.
+#[tactic(auto, unfolding(crate::specs::Stores::place_of))]
+fn first_named<'a>(pairs: &[Option<(&'a [u8], &'a [u8])>], name: &[u8]) -> Option<(&'a [u8], usize)>
+    ensures place { option_map (λ r. r.1) result ≡ place_of (map place_seen pairs.now) name.now }
+    ensures name { IfSome result (λ r. r.0.now ≡ name.now) }
+{
+    for place in 0..pairs.len() {
+        match pairs[place] {
+            Some((other, _)) if name == other => return Some((other, place)),
+            _ => {}
+        }
+    }
+    None
 }

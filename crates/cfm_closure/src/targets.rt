@@ -1,6 +1,6 @@
 ghost use Rattle.std.specs.Prelude.{◌≡◌, ◌<◌, ◌^◌, true, None, Some, length, option_map, replicate, slice_index_or, slice_set, IfOk, IfSome};
 ghost use Rattle.cfm_closure.specs.declared.targets.Target.TheVariants.{Absolute, At};
-ghost use Rattle.cfm_closure.specs.Kept.Found.{meant};
+ghost use Rattle.cfm_closure.specs.Kept.Resolutions.{meant};
 ghost use Rattle.cfm_closure.specs.Kept.Targets.{AllKnown};
 
 use std::alloc::{AllocError, Global};
@@ -22,58 +22,58 @@ pub enum Target {
     },
 }
 
-/// The kind of a target that was found.
+/// The kind of a resolution.
 #[derive(Clone, Copy)]
-pub(crate) enum FoundKind {
+pub(crate) enum ResolutionKind {
     /// No target: the import's library is absent, or it is weak and its symbol is missing.
     Missing,
     Absolute,
     InSection,
 }
 
-/// The target that was found for an import, if there is one. A closure has one for each of its imports, so it
-/// takes fewer bytes than an `Option<Target>`.
+/// What an import was resolved to: its target, or none. A closure has one for each of its imports, so it takes
+/// fewer bytes than an `Option<Target>`.
 #[derive(Clone, Copy)]
-pub(crate) struct Found {
-    kind: FoundKind,
+pub(crate) struct Resolution {
+    kind: ResolutionKind,
     fragment: u16,
     section: u32,
     /// The number or the offset.
     value: u32,
 }
 
-impl Found {
-    /// Returns the result for an import without a target.
-    pub fn missing() -> Found
+impl Resolution {
+    /// Returns the resolution of an import without a target.
+    pub fn missing() -> Resolution
         ensures { meant result ≡ None }
     {
-        Found {
-            kind: FoundKind::Missing,
+        Resolution {
+            kind: ResolutionKind::Missing,
             fragment: 0,
             section: 0,
             value: 0,
         }
     }
 
-    /// Returns a number as target.
-    pub fn absolute(number: u32) -> Found
+    /// Returns the resolution to a number.
+    pub fn absolute(number: u32) -> Resolution
         ensures { meant result ≡ Some (Absolute number) }
     {
-        Found {
-            kind: FoundKind::Absolute,
+        Resolution {
+            kind: ResolutionKind::Absolute,
             fragment: 0,
             section: 0,
             value: number,
         }
     }
 
-    /// Returns a place in a section as target.
-    pub fn at(fragment: usize, section: u32, offset: u32) -> Found
+    /// Returns the resolution to a place in a section.
+    pub fn at(fragment: usize, section: u32, offset: u32) -> Resolution
         requires { fragment < 2 ^ 16 }
         ensures { meant result ≡ Some (At fragment section offset) }
     {
-        Found {
-            kind: FoundKind::InSection,
+        Resolution {
+            kind: ResolutionKind::InSection,
             fragment: fragment as u16,
             section,
             value: offset,
@@ -84,9 +84,9 @@ impl Found {
         ensures { result ≡ meant self }
     {
         match self.kind {
-            FoundKind::Missing => None,
-            FoundKind::Absolute => Some(Target::Absolute(self.value)),
-            FoundKind::InSection => Some(Target::At {
+            ResolutionKind::Missing => None,
+            ResolutionKind::Absolute => Some(Target::Absolute(self.value)),
+            ResolutionKind::InSection => Some(Target::At {
                 fragment: usize::from(self.fragment),
                 section: self.section,
                 offset: self.value,
@@ -100,7 +100,7 @@ impl Found {
 /// They are in an `Arc`, so that a closure may go to another thread.
 #[derive(Drop)]
 pub(crate) struct SharedTargets {
-    known: Arc<Vec<Option<Found>>>,
+    known: Arc<Vec<Option<Resolution>>>,
 }
 
 impl Model for SharedTargets {
@@ -109,7 +109,7 @@ impl Model for SharedTargets {
     ghost Value = { Row };
 
     ghost use Rattle.std.specs.Arc.{arc_value};
-    ghost use Rattle.cfm_closure.specs.Kept.Found.{all_meant};
+    ghost use Rattle.cfm_closure.specs.Kept.Resolutions.{all_meant};
 
     ghost view = { λ t. all_meant (arc_value t.known).items };
 }
@@ -125,7 +125,7 @@ impl SharedTargets {
     }
 
     /// Returns the target of import `j`, if it is known.
-    fn get(&self, j: usize) -> Option<Found>
+    fn get(&self, j: usize) -> Option<Resolution>
         ensures { option_map meant result ≡ slice_index_or self.now j None }
     {
         known_at(&self.known, j)
@@ -136,7 +136,7 @@ impl SharedTargets {
 #[derive(Drop)]
 pub(crate) enum TargetRow {
     /// In this closure alone, to be noted when they are found.
-    Own(Vec<Option<Found>>),
+    Own(Vec<Option<Resolution>>),
     Shared(SharedTargets),
 }
 
@@ -187,7 +187,7 @@ impl Targets {
     }
 
     /// Returns the target of import `j`, if it is known.
-    pub fn get(&self, j: usize) -> Option<Found>
+    pub fn get(&self, j: usize) -> Option<Resolution>
         ensures { option_map meant result ≡ slice_index_or self.now j None }
     {
         match &self.row {
@@ -197,16 +197,16 @@ impl Targets {
     }
 
     /// Notes the target of import `j`. If one is known, it is this one.
-    pub fn note(&mut self, j: usize, found: Found)
+    pub fn note(&mut self, j: usize, resolution: Resolution)
         requires import { j < length self.old }
-        requires right { IfSome (slice_index_or self.old j None) (λ known. known ≡ meant found) }
-        ensures { self.new ≡ slice_set self.old j (Some (meant found)) }
+        requires right { IfSome (slice_index_or self.old j None) (λ known. known ≡ meant resolution) }
+        ensures { self.new ≡ slice_set self.old j (Some (meant resolution)) }
     {
         let known = match &mut self.row {
             TargetRow::Own(known) => known,
             TargetRow::Shared(_) => return,
         };
-        known[j] = Some(found);
+        known[j] = Some(resolution);
     }
 
     /// Returns the targets, to be shared with other closures. All must be known. They aren't copied.
@@ -237,7 +237,7 @@ impl Targets {
 }
 
 /// Returns the target of import `j`, if it is known.
-fn known_at(known: &[Option<Found>], j: usize) -> Option<Found>
+fn known_at(known: &[Option<Resolution>], j: usize) -> Option<Resolution>
     ensures { result ≡ slice_index_or known.now j None }
 {
     *known.get(j)?

@@ -1,8 +1,8 @@
--- Some extents find places or lack room. No more addresses have to be tried than are below the limit.
+-- Some extents find places or lack one. No more addresses have to be tried than are below the limit.
 use Rattle.std.proofs.Common.{◌≡◌, ◌⊎◌, ℕ, zero, suc, ◌+◌, ◌%◌, ◌<◌, ◌≤◌, List, [], ◌∷◌, refl, subst, inl, inr, arith}
 use Rattle.std.proofs.lemmas.Bool.{cases_lt}
 use Rattle.std.proofs.lemmas.Bool.Decides.{eqb_tells}
-use Rattle.cfm_memory.specs.Extents.{ArePlaced, Extent, HasNoRoomFor, IsPlaceFor, LackRoom}
+use Rattle.cfm_memory.specs.Extents.{ArePlacedBy, Extent, HasNoPlaceBy, HasNoRoomFor, IsPlaceBy, IsPlaceFor, LackPlaceBy, Rule, at_given, at_lowest, rule_after}
 use Rattle.cfm_memory.specs.Instances.{Instance, Layout}
 use Rattle.cfm_memory.specs.Limits.{first_address}
 use Rattle.cfm_memory.specs.Placement.{IsClear, IsFree, IsLowest, IsRoom, end_of, step_of, taken, with_new}
@@ -73,25 +73,32 @@ lowest-among m size alignment (suc n) = next (lowest-among m size alignment n)
     next (inl found) = inl found
     next (inr none) = last none (room-decided m size alignment n)
 
--- an extent has a place, or no address has room for it
-place-found : (m : Layout) (e : Extent) → ((p : Place) × IsPlaceFor m e p) ⊎ HasNoRoomFor m e
-place-found m e = by (lowest-among m e.size e.alignment (suc m.limit))
+-- an extent has a place by a rule, or it has none
+place-found : (rule : Rule) (m : Layout) (e : Extent) → ((p : Place) × IsPlaceBy rule m e p) ⊎ HasNoPlaceBy rule m e
+place-found at_lowest m e = by (lowest-among m e.size e.alignment (suc m.limit))
   where
     by : ((address : ℕ) × IsLowest m e.size e.alignment address) ⊎ ((address : ℕ) → address < suc m.limit → IsRoom m e.size e.alignment address → ⊥) → ((p : Place) × IsPlaceFor m e p) ⊎ HasNoRoomFor m e
     by (inl found) = inl (record { address = found.0; size = e.size }, record { size = refl; lowest = found.1 })
     by (inr none) = inr (λ address room. none address (let inside = room.inside in omega (arith, inside)) room)
-
--- some extents have places in turn, or one lacks room after those before it
-pub extents-found : (m : Layout) (extents : List Extent) → ((places : List Place) × (after : Layout) × ArePlaced m extents places after) ⊎ LackRoom m extents
-extents-found m [] = inl ([], m, refl)
-extents-found m (e ∷ extents) = first (place-found m e) (λ p. extents-found (with_new m p) extents)
+place-found (at_given []) m e = inr tt
+place-found (at_given (address ∷ addresses)) m e = by (room-decided m e.size e.alignment address)
   where
-    next : (p : Place) → IsPlaceFor m e p → ((places : List Place) × (after : Layout) × ArePlaced (with_new m p) extents places after) ⊎ LackRoom (with_new m p) extents
-        → ((places : List Place) × (after : Layout) × ArePlaced m (e ∷ extents) places after) ⊎ LackRoom m (e ∷ extents)
+    by : Decided (IsRoom m e.size e.alignment address) → ((p : Place) × IsPlaceBy (at_given (address ∷ addresses)) m e p) ⊎ HasNoPlaceBy (at_given (address ∷ addresses)) m e
+    by (inl room) = inl (record { address = address; size = e.size }, (record { size = refl; room = room }, refl))
+    by (inr none) = inr none
+
+-- some extents have places in turn, or one has none after those before it
+pub extents-found : (rule : Rule) (m : Layout) (extents : List Extent) → ((places : List Place) × (after : Layout) × ArePlacedBy rule m extents places after) ⊎ LackPlaceBy rule m extents
+extents-found rule m [] = inl ([], m, refl)
+extents-found rule m (e ∷ extents) = first (place-found rule m e) (λ p. extents-found (rule_after rule 1) (with_new m p) extents)
+  where
+    next : (p : Place) → IsPlaceBy rule m e p → ((places : List Place) × (after : Layout) × ArePlacedBy (rule_after rule 1) (with_new m p) extents places after) ⊎ LackPlaceBy (rule_after rule 1) (with_new m p) extents
+        → ((places : List Place) × (after : Layout) × ArePlacedBy rule m (e ∷ extents) places after) ⊎ LackPlaceBy rule m (e ∷ extents)
     next p is (inl found) = inl (p ∷ found.0, found.1, (is, found.2))
     next p is (inr lack) = inr (inr (p, is, lack))
 
-    first : ((p : Place) × IsPlaceFor m e p) ⊎ HasNoRoomFor m e → ((p : Place) → ((places : List Place) × (after : Layout) × ArePlaced (with_new m p) extents places after) ⊎ LackRoom (with_new m p) extents)
-        → ((places : List Place) × (after : Layout) × ArePlaced m (e ∷ extents) places after) ⊎ LackRoom m (e ∷ extents)
+    first : ((p : Place) × IsPlaceBy rule m e p) ⊎ HasNoPlaceBy rule m e
+        → ((p : Place) → ((places : List Place) × (after : Layout) × ArePlacedBy (rule_after rule 1) (with_new m p) extents places after) ⊎ LackPlaceBy (rule_after rule 1) (with_new m p) extents)
+        → ((places : List Place) × (after : Layout) × ArePlacedBy rule m (e ∷ extents) places after) ⊎ LackPlaceBy rule m (e ∷ extents)
     first (inl here) later = next here.0 here.1 (later here.0)
     first (inr none) later = inr (inl none)

@@ -1,7 +1,7 @@
 -- A memory after some instances are removed, whatever was written to them.
 use Rattle.std.proofs.Common.{◌<◌, ◌==◌, ◌∙◌, ◌∷◌, ◌≡◌, ◌≢◌, IsTrue, List, [], ap, arith, inl, inr, length, refl, suc, sym, zero, ℕ}
 use Rattle.std.proofs.lemmas.Bool.Decides.{eqb_tells, leb_tells}
-use Rattle.cfm_memory.specs.Extents.{ArePlaced, Extent, given_back, place_at}
+use Rattle.cfm_memory.specs.Extents.{ArePlacedBy, Extent, Rule, given_back, place_at, rule_after}
 use Rattle.cfm_memory.specs.Instances.{Instance, Layout, bytes_at, has_length, holds_place, with_bytes, with_instance, with_instances, without}
 use Rattle.cfm_memory.specs.Placement.{with_new}
 use Rattle.cfm_memory.specs.declared.place.Place.{Place}
@@ -46,13 +46,13 @@ given_back_without m a (p ∷ places) =
     ∙ given_back_without (with_instances m (without m.instances p.address)) a places
 
 -- new instances that are removed leave the earlier instances
-pub placed_given_back : (m : Layout) (extents : List Extent) (places : List Place) (after : Layout) → ArePlaced m extents places after → given_back after places ≡ m
-placed_given_back m [] [] after placed = placed
-placed_given_back m [] (p ∷ places) after placed = absurd placed
-placed_given_back m (e ∷ extents) [] after placed = absurd placed
-placed_given_back m (e ∷ extents) (p ∷ places) after placed =
+pub placed_given_back : (rule : Rule) (m : Layout) (extents : List Extent) (places : List Place) (after : Layout) → ArePlacedBy rule m extents places after → given_back after places ≡ m
+placed_given_back rule m [] [] after placed = placed
+placed_given_back rule m [] (p ∷ places) after placed = absurd placed
+placed_given_back rule m (e ∷ extents) [] after placed = absurd placed
+placed_given_back rule m (e ∷ extents) (p ∷ places) after placed =
     given_back_without after p.address places
-    ∙ ap (λ (k : Layout). with_instances k (without k.instances p.address)) (placed_given_back (with_new m p) extents places after placed.1)
+    ∙ ap (λ (k : Layout). with_instances k (without k.instances p.address)) (placed_given_back (rule_after rule 1) (with_new m p) extents places after placed.1)
     ∙ new_given_back m p
 
 -- bytes written to an instance are removed with it

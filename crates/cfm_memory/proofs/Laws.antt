@@ -6,9 +6,10 @@ pub use Rattle.cfm_memory.proofs.Placing.{within_taken}
 pub use Rattle.cfm_memory.proofs.Contents.{written_here, written_other}
 -- bytes written with the instance's length are unchanged
 pub use Rattle.cfm_memory.proofs.Contents.{fitted_same}
--- instances that are placed in turn: one turn after another, which extents lack room, how many
--- there are
-pub use Rattle.cfm_memory.proofs.InTurn.{placed-append, lack-after, length-placed}
+-- the rule of placement for instances after others
+pub use Rattle.cfm_memory.proofs.InTurn.{after-both, after-none}
+-- instances that are placed in turn: one turn after another, how many there are, each has room
+pub use Rattle.cfm_memory.proofs.InTurn.{placed-append, length-placed, place-room}
 -- they are zeros, have the sizes that they need, lie apart, and all others stay
 pub use Rattle.cfm_memory.proofs.InTurn.{no_extent, placed_stand, placed_size, placed_apart, placed_new, placed_stays}
 -- no two of some places that are apart have the same address
@@ -23,7 +24,7 @@ pub use Rattle.cfm_memory.proofs.GivenBack.{given_back_without}
 pub use Rattle.cfm_memory.proofs.GivenBack.{new_given_back, placed_given_back, written_given_back}
 -- and all others keep their bytes and are held
 pub use Rattle.cfm_memory.proofs.GivenBack.{given_back_elsewhere, held_elsewhere, written_holds}
--- some extents find places, or one lacks room
+-- some extents find places, or one has none
 pub use Rattle.cfm_memory.proofs.Found.{extents-found}
 -- new instances with bytes that are given: they have these, all others stay, and are left when the new ones are removed
 pub use Rattle.cfm_memory.proofs.Filled.{filled_elsewhere, filled_given_back, filled_stand, with_filled}

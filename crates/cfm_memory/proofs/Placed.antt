@@ -5,7 +5,7 @@ use Rattle.std.specs.Global.{Vec}
 use Rattle.std.specs.Ordering.{nat_cmp}
 use Rattle.cfm_memory.specs.Limits.{first_address}
 use Rattle.cfm_memory.specs.Instances.{Instance, Layout, with_bytes, with_instance, without}
-use Rattle.cfm_memory.specs.Placement.{taken, IsClear, IsFree, IsRoom, IsLowest}
+use Rattle.cfm_memory.specs.Placement.{taken, IsClear, IsFree, IsRoom}
 use Rattle.cfm_memory.specs.declared.hints.Hint.{Hint}
 use Rattle.cfm_memory.specs.declared.place.Reserved.{Reserved}
 use Rattle.cfm_memory.specs.Kept.Searches.{AreLowered, IsKept}
@@ -17,16 +17,16 @@ use Rattle.cfm_memory.proofs.Remembered.{hints_lowered, hints_stay}
 use Rattle.cfm_memory.proofs.Placing.{some_taken}
 
 -- an address that has room has it among the instances that the code keeps
-room_seen : (g : ℕ) (m : Layout) (limit size alignment address : ℕ) (xs : List Instance) (rs : List Reserved) → record { granule = g; limit = limit; instances = xs; reserved = rs } ≡ m → IsLowest m size alignment address
+room_seen : (g : ℕ) (m : Layout) (limit size alignment address : ℕ) (xs : List Instance) (rs : List Reserved) → record { granule = g; limit = limit; instances = xs; reserved = rs } ≡ m → IsRoom m size alignment address
     → IsRoom (record { granule = g; limit = limit; instances = xs; reserved = rs }) size alignment address
-room_seen g m limit size alignment address xs rs view_is lowest =
+room_seen g m limit size alignment address xs rs view_is room =
     let P : Layout → Type 0 = λ k. IsRoom k size alignment address in
-    subst P (sym view_is) lowest.room
+    subst P (sym view_is) room
 
 pub placed_kept : (g : ℕ) (m : Layout) (limit : ℕ) (hints : List Hint) (size alignment address : ℕ) (bytes : List ℕ) (xs : List Instance) (rs : List Reserved) → record { granule = g; limit = limit; instances = xs; reserved = rs } ≡ m → length bytes ≡ size
-    → IsLowest m size alignment address → IsKept g limit xs rs hints → IsKept g limit (with_instance xs (record { address = address; bytes = bytes })) rs hints
-placed_kept g m limit hints size alignment address bytes xs rs view_is size_is lowest kept =
-    let room = room_seen g m limit size alignment address xs rs view_is lowest in
+    → IsRoom m size alignment address → IsKept g limit xs rs hints → IsKept g limit (with_instance xs (record { address = address; bytes = bytes })) rs hints
+placed_kept g m limit hints size alignment address bytes xs rs view_is size_is has_room kept =
+    let room = room_seen g m limit size alignment address xs rs view_is has_room in
     let Q : ℕ → Type 0 = λ n. (address + taken g n ≤ limit) × IsFree g address (address + taken g n) xs × IsClear address (address + taken g n) rs in
     let there = subst Q (sym size_is) (room.inside, room.free, room.clear) in
     record {
@@ -38,10 +38,10 @@ placed_kept g m limit hints size alignment address bytes xs rs view_is size_is l
     }
 
 -- the map with a new entry has a new instance
-pub placed_is : (g : ℕ) (m : Layout) (limit size alignment address : ℕ) (v : Vec ℕ) (es : List (ℕ × Vec ℕ)) (rs : List Reserved) → record { granule = g; limit = limit; instances = instances es; reserved = rs } ≡ m → IsLowest m size alignment address
+pub placed_is : (g : ℕ) (m : Layout) (limit size alignment address : ℕ) (v : Vec ℕ) (es : List (ℕ × Vec ℕ)) (rs : List Reserved) → record { granule = g; limit = limit; instances = instances es; reserved = rs } ≡ m → IsRoom m size alignment address
     → instances (insert_entry nat_cmp es address v) ≡ with_instance (instances es) (record { address = address; bytes = v.items })
-placed_is g m limit size alignment address v es rs view_is lowest =
-    let room = room_seen g m limit size alignment address (instances es) rs view_is lowest in
+placed_is g m limit size alignment address v es rs view_is has_room =
+    let room = room_seen g m limit size alignment address (instances es) rs view_is has_room in
     let some = some_taken g size in
     inserted_is es address v (nothing_at_free g (instances es) address (address + taken g size) (omega (arith, some)) room.free)
 

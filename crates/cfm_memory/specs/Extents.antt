@@ -1,14 +1,12 @@
--- Several instances are placed, each in turn at the lowest address with room: the bytes at their places,
--- and the memory after they are removed. A section header says how much memory a section needs and how it
+-- Several instances are placed, each in turn at the lowest address with room or at an address that is given: the bytes at
+-- their places, and the memory after they are removed. A section header says how much memory a section needs and how it
 -- is aligned (Mac OS Runtime Architectures, "PEF Structure", section headers: totalSize, alignment). That
 -- places are given in turn is this project's own rule of placement.
-use Rattle.std.specs.Prelude.{◌≡◌, ◌≢◌, ◌⊎◌, ⊤, ℕ, ◌<◌, List, [], ◌∷◌, All, IsTrue, Some, length, replicate, slice_index_or}
+use Rattle.std.specs.Prelude.{◌≡◌, ◌≢◌, ◌⊎◌, ℕ, ◌<◌, List, [], ◌∷◌, All, IsTrue, Some, drop, length, replicate, slice_index_or}
 use Rattle.cfm_memory.specs.Instances.{Layout, bytes_at, holds_place, with_instances, without}
 use Rattle.cfm_memory.specs.Limits.{grain}
 use Rattle.cfm_memory.specs.Placement.{IsLowest, IsRoom, with_new}
 use Rattle.cfm_memory.specs.declared.place.Place.{Place}
-use Rattle.cfm_memory.specs.declared.place.MemoryFault.{MemoryFault}
-use Rattle.cfm_memory.specs.declared.place.MemoryFault.TheVariants.{NoRoom, OutOfMemory}
 
 -- the memory that an instance needs: its size, and its alignment as an exponent of two
 pub record Extent : Type 0 where
@@ -20,26 +18,56 @@ pub record IsPlaceFor (m : Layout) (e : Extent) (p : Place) : Type 0 where
   pub size : p.size ≡ e.size
   pub lowest : IsLowest m e.size e.alignment p.address
 
--- new instances of some extents were placed in a memory, in order, which gave another memory
+-- a place for an extent has room
+pub record HasRoom (m : Layout) (e : Extent) (p : Place) : Type 0 where
+  pub size : p.size ≡ e.size
+  pub room : IsRoom m e.size e.alignment p.address
+
+-- where new instances lie: each in turn at the lowest address with room, or at the next of some addresses
+pub data Rule : Type 0 where
+  at_lowest : Rule
+  at_given : List ℕ → Rule
+
+-- the rule for those after n instances
+abbrev pub rule_after : Rule → ℕ → Rule
+rule_after at_lowest n = at_lowest
+rule_after (at_given addresses) n = at_given (drop n addresses)
+
+-- a place for the first extent by a rule. At a given address it has room, too
+abbrev pub IsPlaceBy : Rule → Layout → Extent → Place → Type 0
+IsPlaceBy at_lowest m e p = IsPlaceFor m e p
+IsPlaceBy (at_given []) m e p = ⊥
+IsPlaceBy (at_given (address ∷ addresses)) m e p = HasRoom m e p × (p.address ≡ address)
+
+-- new instances of some extents were placed in a memory, in order, by a rule, which gave another memory
+abbrev pub ArePlacedBy : Rule → Layout → List Extent → List Place → Layout → Type 0
+ArePlacedBy rule m [] [] after = after ≡ m
+ArePlacedBy rule m [] (p ∷ places) after = ⊥
+ArePlacedBy rule m (e ∷ extents) [] after = ⊥
+ArePlacedBy rule m (e ∷ extents) (p ∷ places) after = IsPlaceBy rule m e p × ArePlacedBy (rule_after rule 1) (with_new m p) extents places after
+
+-- each in turn was placed at the lowest address with room
 abbrev pub ArePlaced : Layout → List Extent → List Place → Layout → Type 0
-ArePlaced m [] [] after = after ≡ m
-ArePlaced m [] (p ∷ places) after = ⊥
-ArePlaced m (e ∷ extents) [] after = ⊥
-ArePlaced m (e ∷ extents) (p ∷ places) after = IsPlaceFor m e p × ArePlaced (with_new m p) extents places after
+ArePlaced m extents places after = ArePlacedBy at_lowest m extents places after
 
 -- no address has room for an extent
 abbrev pub HasNoRoomFor : Layout → Extent → Type 0
 HasNoRoomFor m e = (address : ℕ) → IsRoom m e.size e.alignment address → ⊥
 
+-- the first extent has no place by a rule: no address has room, or the given one hasn't
+abbrev pub HasNoPlaceBy : Rule → Layout → Extent → Type 0
+HasNoPlaceBy at_lowest m e = HasNoRoomFor m e
+HasNoPlaceBy (at_given []) m e = Unit {0}
+HasNoPlaceBy (at_given (address ∷ addresses)) m e = IsRoom m e.size e.alignment address → ⊥
+
+-- one of some extents has no place by a rule after those before it
+abbrev pub LackPlaceBy : Rule → Layout → List Extent → Type 0
+LackPlaceBy rule m [] = ⊥
+LackPlaceBy rule m (e ∷ extents) = HasNoPlaceBy rule m e ⊎ ((p : Place) × IsPlaceBy rule m e p × LackPlaceBy (rule_after rule 1) (with_new m p) extents)
+
 -- one of some extents finds no room after those before it
 abbrev pub LackRoom : Layout → List Extent → Type 0
-LackRoom m [] = ⊥
-LackRoom m (e ∷ extents) = HasNoRoomFor m e ⊎ ((p : Place) × IsPlaceFor m e p × LackRoom (with_new m p) extents)
-
--- why some extents may not be placed: `NoRoom` if there is no room
-abbrev pub MayNotPlace : MemoryFault → Layout → List Extent → Type 0
-MayNotPlace NoRoom m extents = LackRoom m extents
-MayNotPlace OutOfMemory m extents = ⊤
+LackRoom m extents = LackPlaceBy at_lowest m extents
 
 -- memory without instances and reserved ranges
 abbrev pub empty_memory : ℕ → ℕ → Layout

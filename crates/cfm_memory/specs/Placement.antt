@@ -1,4 +1,4 @@
--- Where an instance may lie: at the lowest free address that has its alignment. The format says how a
+-- Where an instance may lie: at the lowest free address that has its alignment, or at one that is given. The format says how a
 -- section's memory is aligned (Mac OS Runtime Architectures, "PEF Structure", section headers: alignment,
 -- an exponent of two), but not where it lies. So the rest is this project's own rule of placement.
 use Rattle.std.specs.Prelude.{◌≡◌, ℕ, ◌+◌, ◌%◌, ◌^◌, ◌≤◌, ◌<◌, ◌⊎◌, max, List, [], ◌∷◌, length, replicate}
@@ -54,6 +54,11 @@ with_new m place = with_instances m (with_instance m.instances (record { address
 abbrev pub MayRefuse : Layout → ℕ → ℕ → MemoryFault → Type 0
 MayRefuse m size alignment NoRoom = (address : ℕ) → IsRoom m size alignment address → ⊥
 MayRefuse m size alignment OutOfMemory = (address : ℕ) × IsRoom m size alignment address
+
+-- when an instance may be refused at an address that is given
+abbrev pub MayRefuseAt : Layout → ℕ → ℕ → ℕ → MemoryFault → Type 0
+MayRefuseAt m size alignment address NoRoom = IsRoom m size alignment address → ⊥
+MayRefuseAt m size alignment address OutOfMemory = IsRoom m size alignment address
 
 -- instances from an address on up to a limit, one after the other
 abbrev pub IsLaidOut : ℕ → ℕ → ℕ → List Instance → Type 0

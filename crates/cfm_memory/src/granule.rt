@@ -1,9 +1,9 @@
-ghost use Rattle.std.specs.Prelude.{◌≡◌, ◌^◌, ◌≤◌};
-ghost use Rattle.cfm_memory.specs.Placement.{taken};
+ghost use Rattle.std.specs.Prelude.{◌≡◌, ◌^◌, ◌<◌, ◌≤◌};
+ghost use Rattle.cfm_memory.specs.Placement.{step_of, taken};
 ghost use Rattle.pef_words.specs.Refusals.{result_map};
 ghost use Rattle.cfm_memory.specs.Faults.{granule_fault_name, granule_fault_number};
 ghost use Rattle.cfm_memory.specs.Granules.{granule_of};
-ghost use Rattle.cfm_memory.specs.Limits.{IsGranule, grain};
+ghost use Rattle.cfm_memory.specs.Limits.{IsGranule, grain, greatest_alignment};
 
 use std::fmt;
 use thiserror::Error;
@@ -45,6 +45,15 @@ impl Granule {
         taken_by(*self, u64::from(size))
     }
 
+    /// Returns the number of which the address of a section is a multiple: the greater of the granule and of 2^`alignment`.
+    /// `alignment` is at most 31.
+    pub fn step(&self, alignment: u8) -> u64
+        requires { alignment ≤ greatest_alignment }
+        ensures { result ≡ step_of self.now.bytes alignment }
+    {
+        step_by(*self, alignment)
+    }
+
     /// Returns the granule in bytes.
     pub fn bytes(&self) -> u32
         ensures { result ≡ self.now.bytes }
@@ -60,6 +69,16 @@ pub(crate) fn taken_by(granule: Granule, size: u64) -> u64
     ensures { result ≡ taken granule.bytes size }
 {
     size.max(1).next_multiple_of(u64::from(granule.bytes))
+}
+
+/// Returns the number of which an instance's address is a multiple.
+#[tactic(auto, unfolding(crate::specs::Placement::step_of))]
+pub(crate) fn step_by(granule: Granule, alignment: u8) -> u64
+    requires { alignment ≤ greatest_alignment }
+    ensures value { result ≡ step_of granule.bytes alignment }
+    ensures bounds { (0 < result) × (result ≤ 2 ^ 32) }
+{
+    u64::from(granule.bytes()).max(1 << alignment)
 }
 
 /// Why a number is no granule. The text is the refusal's name.

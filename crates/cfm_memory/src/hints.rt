@@ -2,7 +2,7 @@ ghost use Rattle.std.specs.Prelude.{◌≡◌, ℕ, ◌<◌, length, replicate, 
 ghost use Rattle.cfm_memory.specs.Kept.Searches.{AreLowered, IsStart, Serves, lowered, no_hint};
 
 /// The lowest address of an instance.
-const FIRST_ADDRESS: u64 = 0x0001_0000;
+pub(crate) const FIRST_ADDRESS: u64 = 0x0001_0000;
 
 /// How many hints are kept.
 const KEPT: usize = 64;

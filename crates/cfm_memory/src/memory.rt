@@ -6,12 +6,13 @@ ghost use Rattle.cfm_memory.specs.Extents.{empty_memory, no_instances};
 ghost use Rattle.cfm_memory.specs.Instances.{bytes_at, holds_place, range_at, with_instances, without};
 ghost use Rattle.cfm_memory.specs.Lending.{LendsPart};
 ghost use Rattle.cfm_memory.specs.Limits.{first_address, greatest_alignment};
-ghost use Rattle.cfm_memory.specs.Placement.{taken, step_of, AreClear, AreInTurn, IsClear, IsFree, IsInOrder, IsLowest, IsRoom, MayRefuse, with_new};
+ghost use Rattle.cfm_memory.specs.Placement.{taken, AreClear, AreInTurn, IsClear, IsFree, IsInOrder, IsLowest, IsRoom, MayRefuse, MayRefuseAt, with_new};
 ghost use Rattle.cfm_memory.specs.Reservation.{IsNoRange, IsVacant, MayNotReserve, Reserves, Unreserves, reserved_range, with_range};
+ghost use Rattle.cfm_memory.specs.declared.place.MemoryFault.TheVariants.{OutOfMemory};
 ghost use Rattle.cfm_memory.specs.Kept.Searches.{AllPassed, IsBarren, IsFirstFree, IsFirstVacant, IsPast, part_of, range_number};
 
-use crate::granule::{Granule, taken_by};
-use crate::hints::{Hint, Hints};
+use crate::granule::{Granule, step_by, taken_by};
+use crate::hints::{FIRST_ADDRESS, Hint, Hints};
 use crate::place::{MemoryFault, Place, Reserved};
 use std::alloc::{AllocError, Global};
 use std::collections::BTreeMap;
@@ -118,6 +119,61 @@ impl Memory {
             Some(address) => address,
             None => return Err(MemoryFault::NoRoom),
         };
+        self.put(size, alignment, address)
+    }
+
+    /// Places a new instance of `size` zero bytes at an address that is given.
+    ///
+    /// The instance takes as many bytes as one that [`place`](Self::place) places, and its address has to be one that the
+    /// other could get.
+    ///
+    /// # Errors
+    ///
+    /// `NoRoom` if the address is below 00010000 (hex), or isn't a multiple of the granule and of 2^`alignment`, or the
+    /// instance would pass the limit, or meet another one or a reserved range; otherwise `OutOfMemory` if an allocation
+    /// fails. Neither changes the memory.
+    pub fn place_at(&mut self, size: u32, alignment: u8, address: u32) -> Result<Place, MemoryFault>
+        requires { alignment ≤ greatest_alignment }
+        ensures room { OnOk result (IsRoom self.old size alignment address) }
+        ensures here { IfOk result (λ place. place ≡ record { address = address; size = size }) }
+        ensures placed { IfOk result (λ place. self.new ≡ with_new self.old place) }
+        ensures refused { IfErr result (λ fault. MayRefuseAt self.old size alignment address fault) }
+        ensures unchanged { OnErr result (self.new ≡ self.old) }
+    {
+        if !self.has_room(size, alignment, address) {
+            return Err(MemoryFault::NoRoom);
+        }
+        self.put(size, alignment, address)
+    }
+
+    /// Returns whether an address has room for an instance of `size` bytes.
+    fn has_room(&self, size: u32, alignment: u8, address: u32) -> bool
+        requires { alignment ≤ greatest_alignment }
+        ensures yes { result ≡ true → IsRoom self.now size alignment address }
+        ensures no { result ≡ false → IsRoom self.now size alignment address → ⊥ }
+    {
+        let from = u64::from(address);
+        let range = Reserved {
+            from,
+            to: from + taken_by(self.granule, u64::from(size)),
+        };
+        from >= FIRST_ADDRESS
+            && from % step_by(self.granule, alignment) == 0
+            && range.to <= u64::from(self.limit)
+            && self.is_free(range)
+            && rank_of(&self.reserved, range).is_some()
+    }
+
+    /// Puts a new instance of `size` zero bytes at an address that has room for it.
+    #[tactic(auto, using(crate::proofs::Changes::in_order_seen))]
+    fn put(&mut self, size: u32, alignment: u8, address: u32) -> Result<Place, MemoryFault>
+        requires { IsRoom self.old size alignment address }
+        ensures here { IfOk result (λ place. place ≡ record { address = address; size = size }) }
+        ensures placed { IfOk result (λ place. self.new ≡ with_new self.old place) }
+        ensures refused { IfErr result (λ fault. fault ≡ OutOfMemory) }
+        ensures unchanged { OnErr result (self.new ≡ self.old) }
+        ensures in_order { IsInOrder self.old }
+    {
         let bytes = zeros(self.alloc, size as usize)?;
         self.instances.insert(address, bytes)?;
         Ok(Place { address, size })
@@ -459,14 +515,4 @@ fn zeros(alloc: Global, len: usize) -> Result<Vec<u8>, AllocError>
     ensures { IfOk result (λ bytes. bytes.items ≡ replicate len 0) }
 {
     vec![in alloc; 0; len]
-}
-
-/// Returns the number of which an instance's address is a multiple.
-#[tactic(auto, unfolding(crate::specs::Placement::step_of))]
-fn step_by(granule: Granule, alignment: u8) -> u64
-    requires { alignment ≤ greatest_alignment }
-    ensures value { result ≡ step_of granule.bytes alignment }
-    ensures bounds { (0 < result) × (result ≤ 2 ^ 32) }
-{
-    u64::from(granule.bytes()).max(1 << alignment)
 }

@@ -6,12 +6,13 @@ use Rattle.cfm_memory.specs.Reservation.{Reserves, Unreserves, reserved_range, w
 use Rattle.cfm_closure.specs.Stores.{Pair}
 use Rattle.cfm_prepare.specs.Options.{Choices}
 use Rattle.cfm_prepare.specs.Contexts.{ContextState, Open, added, made_state, open_of, removed, unused_state}
-use Rattle.cfm_prepare.specs.Runs.{Runs, Step, closed, freed, prepared, reserved, stored, taken_out}
+use Rattle.cfm_prepare.specs.Runs.{Runs, Step, closed, freed, prepared, prepared_given, reserved, stored, taken_out}
 
 -- numbers are never reused
 given-grows : (s t : ContextState) (steps : List Step) → Runs s steps t → s.given ≤ t.given
 given-grows s t [] run = (let same : t.given ≡ s.given = ap (λ (x : ContextState). x.given) run in omega (arith, same))
 given-grows s t (prepared name number ∷ steps) run = (let more = given-grows run.0 t steps run.2 in omega (arith, more, run.1.given))
+given-grows s t (prepared_given name addresses number ∷ steps) run = (let more = given-grows run.0 t steps run.2 in omega (arith, more, run.1.given))
 given-grows s t (closed number ∷ steps) run = (let more = given-grows run.0 t steps run.2 in omega (arith, more, run.1.given))
 given-grows s t (reserved address size ∷ steps) run =
     (let more = given-grows run.0 t steps run.2 in let same : run.0.given ≡ s.given = ap (λ (x : ContextState). x.given) run.1.is in omega (arith, more, same))
@@ -56,6 +57,8 @@ unused-free s memory choices address size fresh frees =
 unused-from : (s t : ContextState) (choices : Choices) (steps : List Step) → IsUnused choices s → Runs s steps t → t.given ≡ 0 → IsUnused choices t
 unused-from s t choices [] fresh run none = subst (IsUnused choices) (sym run) fresh
 unused-from s t choices (prepared name number ∷ steps) fresh run none =
+    (let more = given-grows run.0 t steps run.2 in let one : run.0.given ≡ s.given + 1 = run.1.given in absurd (omega (arith, more, one, none)))
+unused-from s t choices (prepared_given name addresses number ∷ steps) fresh run none =
     (let more = given-grows run.0 t steps run.2 in let one : run.0.given ≡ s.given + 1 = run.1.given in absurd (omega (arith, more, one, none)))
 unused-from s t choices (closed number ∷ steps) fresh run none = absurd (none-open number run.1.closed (sym (ap (λ (s : ContextState). open_of s.connections number) fresh) ∙ run.1.was))
 unused-from s t choices (stored name bytes ∷ steps) fresh run none =

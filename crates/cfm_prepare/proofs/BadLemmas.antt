@@ -1,13 +1,13 @@
 -- A refusal of an image or of a relocation header among some fragments is one of a fragment with the name that is reported.
-use Rattle.std.proofs.Common.{◌≡◌, ℕ, List, [], ◌∷◌, Option, None, Some, Contains, refl, sym, ap, arith}
+use Rattle.std.proofs.Common.{◌≡◌, ℕ, List, [], ◌∷◌, Option, None, Some, Contains, length, refl, sym, ap, arith}
 use Rattle.std.specs.Option.{option_or}
 use Rattle.cfm_closure.specs.Stores.{Pair, pair_of}
-use Rattle.cfm_memory.specs.Extents.{ArePlaced}
+use Rattle.cfm_memory.specs.Extents.{ArePlacedBy, Rule, rule_after}
 use Rattle.cfm_memory.specs.Instances.{Layout}
 use Rattle.pef_loader.specs.declared.program_fault.ProgramFault.{ProgramFault}
 use Rattle.cfm_prepare.specs.Addresses.{addresses_of, first_bad_program}
 use Rattle.cfm_prepare.specs.Fragments.{Present, extents_in, first_bad_image, image_refusal_in, named, positions, reloc_refusal_in}
-use Rattle.cfm_prepare.specs.Placing.{AllPlaced}
+use Rattle.cfm_prepare.specs.Placing.{AllPlacedBy}
 use Rattle.cfm_prepare.specs.declared.image_fault.ImageFault.{ImageFault}
 use Rattle.cfm_prepare.proofs.ListLemmas.{contains-next}
 
@@ -44,15 +44,16 @@ pub record HasRefusedHeader (pairs : List Pair) (all fs : List Present) (name : 
   pub member : Contains fs one
   pub position : Contains (positions fs) one.position
   pub is : name ≡ (pair_of pairs one.position).name
+  pub rule : Rule
   pub before : Layout
   pub after : Layout
-  pub placed : ArePlaced before (extents_in pairs one.position) one.places after
+  pub placed : ArePlacedBy rule before (extents_in pairs one.position) one.places after
   pub fault : ProgramFault
   pub refused : reloc_refusal_in pairs (addresses_of pairs all one) one.position ≡ Some fault
 
-pub bad-program : (pairs : List Pair) (all : List Present) (m after : Layout) (fs : List Present) (name : List ℕ) (k : ProgramFault) → AllPlaced pairs m fs after → first_bad_program pairs all fs ≡ Some (name, k) → HasRefusedHeader pairs all fs name
-bad-program pairs all m after [] name k placed is = absurd (cc)
-bad-program pairs all m after (f ∷ fs) name k placed is = by (reloc_refusal_in pairs (addresses_of pairs all f) f.position) refl is (bad-program pairs all placed.0 after fs name k placed.2)
+pub bad-program : (rule : Rule) (pairs : List Pair) (all : List Present) (m after : Layout) (fs : List Present) (name : List ℕ) (k : ProgramFault) → AllPlacedBy rule pairs m fs after → first_bad_program pairs all fs ≡ Some (name, k) → HasRefusedHeader pairs all fs name
+bad-program rule pairs all m after [] name k placed is = absurd (cc)
+bad-program rule pairs all m after (f ∷ fs) name k placed is = by (reloc_refusal_in pairs (addresses_of pairs all f) f.position) refl is (bad-program (rule_after rule (length f.places)) pairs all placed.0 after fs name k placed.2)
   where
     by : (o : Option ProgramFault) → reloc_refusal_in pairs (addresses_of pairs all f) f.position ≡ o → option_or (named pairs f.position o) (first_bad_program pairs all fs) ≡ Some (name, k)
         → (first_bad_program pairs all fs ≡ Some (name, k) → HasRefusedHeader pairs all fs name) → HasRefusedHeader pairs all (f ∷ fs) name
@@ -63,6 +64,7 @@ bad-program pairs all m after (f ∷ fs) name k placed is = by (reloc_refusal_in
           member = contains-next f r.one fs r.member;
           position = contains-next f.position r.one.position (positions fs) r.position;
           is = r.is;
+          rule = r.rule;
           before = r.before;
           after = r.after;
           placed = r.placed;
@@ -74,6 +76,7 @@ bad-program pairs all m after (f ∷ fs) name k placed is = by (reloc_refusal_in
       member = (0, omega arith, refl);
       position = (0, omega arith, refl);
       is = told name (pair_of pairs f.position).name k e is;
+      rule = rule;
       before = m;
       after = placed.0;
       placed = placed.1;

@@ -1,13 +1,13 @@
 -- New fragments, from their placing to the end of their preparation or its first refusal.
 use Rattle.std.proofs.Common.{◌≡◌, ℕ, zero, suc, ◌<◌, Bool, true, false, List, [], ◌∷◌, ◌++◌, None, Some, Result, Ok, Err, All, Contains, OnOk, IfErr, length, get_or, cond, refl, sym, ap, subst, ◌∙◌, arith}
-use Rattle.cfm_memory.specs.Extents.{zeros_at}
+use Rattle.cfm_memory.specs.Extents.{Rule, zeros_at}
 use Rattle.cfm_memory.specs.Instances.{Layout}
 use Rattle.cfm_closure.specs.Stores.{Pair}
 use Rattle.cfm_prepare.specs.Addresses.{first_bad_program, section_of}
 use Rattle.cfm_prepare.specs.Lists.{has}
 use Rattle.cfm_prepare.specs.Fragments.{Present, StandAll, first_bad_image, is_present, new_among}
-use Rattle.cfm_prepare.specs.Placing.{AreNew, ArePrepared}
-use Rattle.cfm_prepare.specs.Refusals.{MayNotPrepareNew}
+use Rattle.cfm_prepare.specs.Placing.{AreNewBy, ArePreparedBy}
+use Rattle.cfm_prepare.specs.Refusals.{MayNotPrepareNewBy}
 use Rattle.cfm_prepare.specs.Kept.Ready.{AllHeld, AreAbsent, AreLaidOut, AreReady, ChangesIn, FillsUpTo, HaveBegun, HavePlaced, RelocatesUpTo, found_in}
 use Rattle.cfm_prepare.specs.declared.fragment_fault.FragmentFault.{FragmentFault}
 use Rattle.cfm_prepare.specs.declared.fragment_fault.FragmentFault.TheVariants as fault
@@ -17,82 +17,82 @@ use Rattle.cfm_prepare.proofs.PlacedLemmas.{placed-apart, placed-back, placed-fi
 use Rattle.cfm_prepare.proofs.ReadyLemmas.{held-rejoined, ready-after}
 
 -- the fragments that were placed can be released
-pub begun-of : (pairs : List Pair) (m : Layout) (there now : List Present) (ps new : List ℕ) (after : Layout) → AreReady m there → ((p : ℕ) → has ps p ≡ true → has new p ≡ true) → HavePlaced pairs m there ps now after → HaveBegun m there new now after
-begun-of pairs m there now ps new after ready inside have = record {
+pub begun-of : {rule : Rule} (pairs : List Pair) (m : Layout) (there now : List Present) (ps new : List ℕ) (after : Layout) → AreReady m there → ((p : ℕ) → has ps p ≡ true → has new p ≡ true) → HavePlaced rule pairs m there ps now after → HaveBegun m there new now after
+begun-of {rule} pairs m there now ps new after ready inside have = record {
   fresh = have.fresh;
   behind = have.behind;
   are = λ p there. inside p (ap (λ qs. has qs p) (sym have.are) ∙ (sym (present-has have.fresh p) ∙ there));
-  others = placed-back pairs m have.fresh after have.placed;
-  ready = subst (λ fs. AreReady after fs) (sym have.behind) (ready-after pairs m there have.fresh after ready have.placed);
+  others = placed-back rule pairs m have.fresh after have.placed;
+  ready = subst (λ fs. AreReady after fs) (sym have.behind) (ready-after rule pairs m there have.fresh after ready have.placed);
 }
 
 -- new fragments that were placed, as they are found among all, can be filled and relocated
-pub found-laid : (pairs : List Pair) (m mid : Layout) (there now : List Present) (ps : List ℕ) → AreAbsent there ps → HavePlaced pairs m there ps now mid → AreLaidOut pairs (found_in now ps)
-found-laid pairs m mid there now ps absent have =
+pub found-laid : {rule : Rule} (pairs : List Pair) (m mid : Layout) (there now : List Present) (ps : List ℕ) → AreAbsent there ps → HavePlaced rule pairs m there ps now mid → AreLaidOut pairs (found_in now ps)
+found-laid {rule} pairs m mid there now ps absent have =
     let laid : AreLaidOut pairs have.fresh = record {
-      each = λ i under. record { fits = placed-fit pairs m have.fresh mid have.placed i under; own = placed-own pairs m have.fresh mid have.placed i under };
-      apart = placed-apart pairs m have.fresh mid have.placed;
+      each = λ i under. record { fits = placed-fit rule pairs m have.fresh mid have.placed i under; own = placed-own rule pairs m have.fresh mid have.placed i under };
+      apart = placed-apart rule pairs m have.fresh mid have.placed;
     } in
     subst (λ (fs : List Present). AreLaidOut pairs fs) (sym (found-fresh pairs m mid there now ps absent have)) laid
 
-pub found-zeros : (pairs : List Pair) (m mid : Layout) (there now : List Present) (ps : List ℕ) → AreAbsent there ps → HavePlaced pairs m there ps now mid → StandAll mid (found_in now ps) (λ (f : Present). zeros_at f.places)
-found-zeros pairs m mid there now ps absent have =
-    subst (λ (fs : List Present). StandAll mid fs (λ (f : Present). zeros_at f.places)) (sym (found-fresh pairs m mid there now ps absent have)) (placed-zeros pairs m have.fresh mid have.placed)
+pub found-zeros : {rule : Rule} (pairs : List Pair) (m mid : Layout) (there now : List Present) (ps : List ℕ) → AreAbsent there ps → HavePlaced rule pairs m there ps now mid → StandAll mid (found_in now ps) (λ (f : Present). zeros_at f.places)
+found-zeros {rule} pairs m mid there now ps absent have =
+    subst (λ (fs : List Present). StandAll mid fs (λ (f : Present). zeros_at f.places)) (sym (found-fresh pairs m mid there now ps absent have)) (placed-zeros rule pairs m have.fresh mid have.placed)
 
-pub found-held : (pairs : List Pair) (m mid : Layout) (there now : List Present) (ps : List ℕ) → AreAbsent there ps → HavePlaced pairs m there ps now mid → AllHeld mid (found_in now ps)
-found-held pairs m mid there now ps absent have =
-    subst (λ (fs : List Present). AllHeld mid fs) (sym (found-fresh pairs m mid there now ps absent have)) (placed-held pairs m have.fresh mid have.placed)
+pub found-held : {rule : Rule} (pairs : List Pair) (m mid : Layout) (there now : List Present) (ps : List ℕ) → AreAbsent there ps → HavePlaced rule pairs m there ps now mid → AllHeld mid (found_in now ps)
+found-held {rule} pairs m mid there now ps absent have =
+    subst (λ (fs : List Present). AllHeld mid fs) (sym (found-fresh pairs m mid there now ps absent have)) (placed-held rule pairs m have.fresh mid have.placed)
 
 -- a change after another one
 pub changes-then : (m mid after : Layout) (fs : List Present) → ChangesIn m fs mid → ChangesIn mid fs after → ChangesIn m fs after
 changes-then m mid after fs first second = record { others = second.others ∙ first.others; held = λ was. second.held (first.held was) }
 
 -- when they have changed they can still be released
-pub begun-after : (pairs : List Pair) (m : Layout) (there now : List Present) (ps : List ℕ) (mid after : Layout) → AreAbsent there ps → HavePlaced pairs m there ps now mid → AreReady m there → ChangesIn mid (found_in now ps) after → HaveBegun m there ps now after
-begun-after pairs m there now ps mid after absent have ready changes =
+pub begun-after : {rule : Rule} (pairs : List Pair) (m : Layout) (there now : List Present) (ps : List ℕ) (mid after : Layout) → AreAbsent there ps → HavePlaced rule pairs m there ps now mid → AreReady m there → ChangesIn mid (found_in now ps) after → HaveBegun m there ps now after
+begun-after {rule} pairs m there now ps mid after absent have ready changes =
     let fresh = subst (λ (fs : List Present). ChangesIn mid fs after) (found-fresh pairs m mid there now ps absent have) changes in
-    let held = fresh.held (placed-held pairs m have.fresh mid have.placed) in
+    let held = fresh.held (placed-held rule pairs m have.fresh mid have.placed) in
     record {
       fresh = have.fresh;
       behind = have.behind;
       are = λ p there. ap (λ qs. has qs p) (sym have.are) ∙ (sym (present-has have.fresh p) ∙ there);
-      others = fresh.others ∙ placed-back pairs m have.fresh mid have.placed;
-      ready = subst (λ fs. AreReady after fs) (sym have.behind) (held-rejoined mid after there have.fresh (ready-after pairs m there have.fresh mid ready have.placed) held fresh.others);
+      others = fresh.others ∙ placed-back rule pairs m have.fresh mid have.placed;
+      ready = subst (λ fs. AreReady after fs) (sym have.behind) (held-rejoined mid after there have.fresh (ready-after rule pairs m there have.fresh mid ready have.placed) held fresh.others);
     }
 
-new-of : (pairs : List Pair) (m : Layout) (there now : List Present) (ps : List ℕ) (mid : Layout) (have : HavePlaced pairs m there ps now mid) → AreNew pairs m ps have.fresh
+new-of : {rule : Rule} (pairs : List Pair) (m : Layout) (there now : List Present) (ps : List ℕ) (mid : Layout) (have : HavePlaced rule pairs m there ps now mid) → AreNewBy rule pairs m ps have.fresh
 new-of pairs m there now ps mid have = record { are = have.are; empty = mid; placed = have.placed }
 
 -- all steps succeeded, or one was refused
-pub prepared-after : {A : Type 0} (r : Result A FragmentFault) (pairs : List Pair) (m : Layout) (there now : List Present) (ps : List ℕ) (mid after : Layout) → AreAbsent there ps → HavePlaced pairs m there ps now mid
+pub prepared-after : {A : Type 0} {rule : Rule} (r : Result A FragmentFault) (pairs : List Pair) (m : Layout) (there now : List Present) (ps : List ℕ) (mid after : Layout) → AreAbsent there ps → HavePlaced rule pairs m there ps now mid
     → first_bad_image pairs (found_in now ps) ≡ None → ChangesIn mid (found_in now ps) after
     → RelocatesUpTo r (first_bad_program pairs now (found_in now ps)) → OnOk r (StandAll after (found_in now ps) (section_of pairs now))
-    → OnOk r ((fresh : List Present) × (now ≡ there ++ fresh) × ArePrepared pairs there m ps fresh after)
+    → OnOk r ((fresh : List Present) × (now ≡ there ++ fresh) × ArePreparedBy rule pairs there m ps fresh after)
 prepared-after (Err e) pairs m there now ps mid after absent have filled changes relocated stand = tt
-prepared-after (Ok x) pairs m there now ps mid after absent have filled changes relocated stand =
+prepared-after {rule = rule} (Ok x) pairs m there now ps mid after absent have filled changes relocated stand =
     let same = found-fresh pairs m mid there now ps absent have in
     let fresh = subst (λ (fs : List Present). ChangesIn mid fs after) same changes in (
       have.fresh,
       have.behind,
       record {
         are = new-of pairs m there now ps mid have;
-        others = fresh.others ∙ placed-back pairs m have.fresh mid have.placed;
+        others = fresh.others ∙ placed-back rule pairs m have.fresh mid have.placed;
         filled = ap (first_bad_image pairs) (sym same) ∙ filled;
         relocated = subst (λ fs. first_bad_program pairs fs have.fresh ≡ None) have.behind (ap (first_bad_program pairs now) (sym same) ∙ relocated);
         stand = subst (λ fs. StandAll after have.fresh (section_of pairs fs)) have.behind (subst (λ (fs : List Present). StandAll after fs (section_of pairs now)) same stand);
       },
     )
 
-pub image-refused : (e : FragmentFault) (pairs : List Pair) (m : Layout) (there now : List Present) (ps : List ℕ) (mid : Layout) → AreAbsent there ps → HavePlaced pairs m there ps now mid
-    → FillsUpTo {A = Unit {0}} (Err e) (first_bad_image pairs (found_in now ps)) → MayNotPrepareNew pairs there m ps e
+pub image-refused : {rule : Rule} (e : FragmentFault) (pairs : List Pair) (m : Layout) (there now : List Present) (ps : List ℕ) (mid : Layout) → AreAbsent there ps → HavePlaced rule pairs m there ps now mid
+    → FillsUpTo {A = Unit {0}} (Err e) (first_bad_image pairs (found_in now ps)) → MayNotPrepareNewBy rule pairs there m ps e
 image-refused (fault.NoRoom f place) pairs m there now ps mid absent have refused = absurd refused
 image-refused (fault.Pack f k place) pairs m there now ps mid absent have refused =
     record { fresh = have.fresh; are = new-of pairs m there now ps mid have; first = ap (first_bad_image pairs) (sym (found-fresh pairs m mid there now ps absent have)) ∙ refused }
 image-refused (fault.Reloc f k section place) pairs m there now ps mid absent have refused = absurd refused
 image-refused fault.OutOfMemory pairs m there now ps mid absent have refused = absurd refused
 
-program-refused : (e : FragmentFault) (pairs : List Pair) (m : Layout) (there now : List Present) (ps : List ℕ) (mid : Layout) → AreAbsent there ps → HavePlaced pairs m there ps now mid
-    → first_bad_image pairs (found_in now ps) ≡ None → RelocatesUpTo {A = Unit {0}} (Err e) (first_bad_program pairs now (found_in now ps)) → MayNotPrepareNew pairs there m ps e
+program-refused : {rule : Rule} (e : FragmentFault) (pairs : List Pair) (m : Layout) (there now : List Present) (ps : List ℕ) (mid : Layout) → AreAbsent there ps → HavePlaced rule pairs m there ps now mid
+    → first_bad_image pairs (found_in now ps) ≡ None → RelocatesUpTo {A = Unit {0}} (Err e) (first_bad_program pairs now (found_in now ps)) → MayNotPrepareNewBy rule pairs there m ps e
 program-refused (fault.NoRoom f place) pairs m there now ps mid absent have filled refused = absurd refused
 program-refused (fault.Pack f k place) pairs m there now ps mid absent have filled refused = absurd refused
 program-refused (fault.Reloc f k section place) pairs m there now ps mid absent have filled refused =
@@ -105,8 +105,8 @@ program-refused (fault.Reloc f k section place) pairs m there now ps mid absent 
     }
 program-refused fault.OutOfMemory pairs m there now ps mid absent have filled refused = tt
 
-pub relocating-refused : {A : Type 0} (r : Result A FragmentFault) (pairs : List Pair) (m : Layout) (there now : List Present) (ps : List ℕ) (mid : Layout) → AreAbsent there ps → HavePlaced pairs m there ps now mid
-    → first_bad_image pairs (found_in now ps) ≡ None → RelocatesUpTo r (first_bad_program pairs now (found_in now ps)) → IfErr r (λ e. MayNotPrepareNew pairs there m ps e)
+pub relocating-refused : {A : Type 0} {rule : Rule} (r : Result A FragmentFault) (pairs : List Pair) (m : Layout) (there now : List Present) (ps : List ℕ) (mid : Layout) → AreAbsent there ps → HavePlaced rule pairs m there ps now mid
+    → first_bad_image pairs (found_in now ps) ≡ None → RelocatesUpTo r (first_bad_program pairs now (found_in now ps)) → IfErr r (λ e. MayNotPrepareNewBy rule pairs there m ps e)
 relocating-refused (Ok x) pairs m there now ps mid absent have filled refused = tt
 relocating-refused (Err e) pairs m there now ps mid absent have filled refused = program-refused e pairs m there now ps mid absent have filled refused
 
@@ -119,3 +119,8 @@ new-at false p ps new each (suc k) d under = contains-next p (get_or new k d) ps
 pub new-members : (fs : List Present) (order : List ℕ) → All (λ p. Contains order p) (new_among fs order)
 new-members fs [] k d under = absurd (omega (arith, under))
 new-members fs (p ∷ ps) k d under = new-at (is_present fs p) p ps (new_among fs ps) (new-members fs ps) k d under
+
+pub are-members : (there : List Present) (order whole new : List ℕ) → order ≡ whole → new ≡ new_among there order → All (λ p. Contains whole p) new
+are-members there order whole new order_is new_is =
+    let P : List ℕ → Type 0 = λ ps. All (λ p. Contains whole p) ps in
+    subst P (sym (new_is ∙ ap (new_among there) order_is)) (new-members there whole)

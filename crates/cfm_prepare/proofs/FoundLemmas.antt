@@ -1,6 +1,7 @@
 -- New fragments, found by their positions among those that are present.
 use Rattle.std.proofs.Common.{◌≡◌, ◌==◌, ℕ, zero, suc, ◌<◌, Bool, true, false, List, [], ◌∷◌, ◌++◌, cond, get_or, length, take, refl, sym, ap, ap₂, subst, ◌∙◌, inl, inr, arith}
 use Rattle.std.proofs.lemmas.Bool.Decides.{eqb_tells}
+use Rattle.cfm_memory.specs.Extents.{Rule}
 use Rattle.cfm_memory.specs.Instances.{Layout}
 use Rattle.cfm_memory.specs.declared.place.Place.{Place}
 use Rattle.cfm_closure.specs.Stores.{Pair}
@@ -30,7 +31,7 @@ once-before (q ∷ qs) (suc i) once under =
     ap₂ (λ a b. cond a true b) (apart-of q (get_or qs i 0) qs once.0 (has-get qs i low)) (once-before qs i once.1 low)
 
 -- a fragment that is placed next doesn't exist yet
-pub absent-next : (pairs : List Pair) (m after : Layout) (there now : List Present) (new : List ℕ) (i : ℕ) → AreAbsent there new → HavePlaced pairs m there (take i new) now after → i < length new → is_present now (get_or new i 0) ≡ false
+pub absent-next : {rule : Rule} (pairs : List Pair) (m after : Layout) (there now : List Present) (new : List ℕ) (i : ℕ) → AreAbsent there new → HavePlaced rule pairs m there (take i new) now after → i < length new → is_present now (get_or new i 0) ≡ false
 absent-next pairs m after there now new i absent have under =
     let q = get_or new i 0 in
     let before : is_present have.fresh q ≡ false = present-has have.fresh q ∙ ap (λ ps. has ps q) have.are ∙ once-before new i absent.once under in
@@ -52,7 +53,7 @@ found-own (f ∷ fs) once =
     first f fs = elim (eqb_tells f.position f.position) [ inl same ↦ rw same.0 refl | inr other ↦ absurd (other.1 refl) ]
 
 -- new fragments are those that are found by their positions
-pub found-fresh : (pairs : List Pair) (m after : Layout) (there now : List Present) (new : List ℕ) → AreAbsent there new → (have : HavePlaced pairs m there new now after) → found_in now new ≡ have.fresh
+pub found-fresh : {rule : Rule} (pairs : List Pair) (m after : Layout) (there now : List Present) (new : List ℕ) → AreAbsent there new → (have : HavePlaced rule pairs m there new now after) → found_in now new ≡ have.fresh
 found-fresh pairs m after there now new absent have =
     let fresh = have.fresh in
     let once : IsOnce (positions fresh) = subst IsOnce (sym have.are) absent.once in

@@ -8,7 +8,7 @@ use Rattle.pef_loader.specs.Loader.{Loaded, loaded_of}
 use Rattle.pef_loader.specs.declared.fault.LoaderFault.{LoaderFault}
 use Rattle.pef_loader.proofs.Laws.{loaded_of-ok}
 use Rattle.pef_reloc.specs.Applied.{Addresses}
-use Rattle.cfm_memory.specs.Extents.{ArePlaced, Extent, Stand}
+use Rattle.cfm_memory.specs.Extents.{ArePlacedBy, Extent, Rule, Stand}
 use Rattle.cfm_memory.specs.Instances.{Layout}
 use Rattle.cfm_memory.specs.declared.place.Place.{Place}
 use Rattle.cfm_closure.specs.Stores.{Pair, pair_of}
@@ -41,13 +41,13 @@ unfolding fragment_of
 container-of pairs p l loader = of-container (pair_of pairs p).name (container_of (pair_of pairs p).bytes) l loader
 
 -- the places of a fragment that was placed are those of its container's sections
-pub placed-there : (pairs : List Pair) (p : ℕ) (c : Contained) (before after : Layout) (places : List Place) → container_at pairs p ≡ Some c → ArePlaced before (extents_in pairs p) places after → ArePlaced before (extents_of c) places after
-placed-there pairs p c before after places is placed =
-    let P : List Extent → Type 0 = λ es. ArePlaced before es places after in
+pub placed-there : (rule : Rule) (pairs : List Pair) (p : ℕ) (c : Contained) (before after : Layout) (places : List Place) → container_at pairs p ≡ Some c → ArePlacedBy rule before (extents_in pairs p) places after → ArePlacedBy rule before (extents_of c) places after
+placed-there rule pairs p c before after places is placed =
+    let P : List Extent → Type 0 = λ es. ArePlacedBy rule before es places after in
     subst P (ap (λ o. option_map_or extents_of o []) is) placed
 
-pub length-there : (pairs : List Pair) (p : ℕ) (c : Contained) (before after : Layout) (places : List Place) → container_at pairs p ≡ Some c → ArePlaced before (extents_in pairs p) places after → length places ≡ c.header.instantiated_section_count
-length-there pairs p c before after places is placed = length-fragment c before after places (placed-there pairs p c before after places is placed)
+pub length-there : (rule : Rule) (pairs : List Pair) (p : ℕ) (c : Contained) (before after : Layout) (places : List Place) → container_at pairs p ≡ Some c → ArePlacedBy rule before (extents_in pairs p) places after → length places ≡ c.header.instantiated_section_count
+length-there rule pairs p c before after places is placed = length-fragment rule c before after places (placed-there rule pairs p c before after places is placed)
 
 -- how a section is filled, and why it may not be
 filled-there : (pairs : List Pair) (p : ℕ) (c : Contained) (k : ℕ) → container_at pairs p ≡ Some c → section_filled pairs p k ≡ filled_at c k

@@ -3,6 +3,7 @@ use Rattle.std.proofs.Common.{◌≡◌, ℕ, ◌+◌, ◌-◌, ◌<◌, ◌==�
 use Rattle.std.specs.Prelude.{◌↔◌, option_map}
 use Rattle.std.proofs.lemmas.Bool.Decides.{eqb_tells}
 use Rattle.std.proofs.lemmas.List.{get_or-reverse, length-reverse, reverse-reverse}
+use Rattle.cfm_memory.specs.Extents.{Rule}
 use Rattle.cfm_closure.specs.Stores.{Pair}
 use Rattle.cfm_closure.specs.Closures.{Closed, closed_of}
 use Rattle.cfm_closure.proofs.Laws.{closed-init}
@@ -11,8 +12,8 @@ use Rattle.cfm_prepare.specs.Fragments.{is_present}
 use Rattle.cfm_prepare.specs.Lists.{has}
 use Rattle.cfm_prepare.specs.Options.{Choices}
 use Rattle.cfm_prepare.specs.Readers.{needless_among, released_by}
-use Rattle.cfm_prepare.specs.Runs.{AreClosed, IsStill, Runs, Step, closed, freed, prepared, reserved, stored, taken_out}
-use Rattle.cfm_prepare.specs.Steps.{Closes, Prepares}
+use Rattle.cfm_prepare.specs.Runs.{AreClosed, IsStill, Runs, Step, closed, freed, prepared, prepared_given, reserved, stored, taken_out}
+use Rattle.cfm_prepare.specs.Steps.{Closes, PreparesBy}
 use Rattle.cfm_prepare.proofs.ListLemmas.{has-at, has-contains}
 use Rattle.cfm_prepare.proofs.RunLemmas.{after-close, after-prepare, has-new, needed-either, never, new-at, run-sound}
 
@@ -109,12 +110,15 @@ given-without given number (o ∷ os) are = by (o.number == number) (given-witho
     by true later = are.1
     by false later = (are.0, later)
 
+given-opened : {rule : Rule} (s t : ContextState) (name : List ℕ) (number : ℕ) → AreGiven s.given s.connections → PreparesBy rule s name number t → AreGiven t.given t.connections
+given-opened s t name number are step =
+    let pushed = given-push s.given s.connections (opened s step.closure.has.root step.closure.closed) are refl in
+    subst (λ os. AreGiven t.given os) (sym step.connections) (subst (λ n. AreGiven n (s.connections ++ opened s step.closure.has.root step.closure.closed ∷ [])) (sym step.given) pushed)
+
 given-after : (s t : ContextState) (steps : List Step) → AreGiven s.given s.connections → Runs s steps t → AreGiven t.given t.connections
 given-after s t [] are run = subst (λ (t : ContextState). AreGiven t.given t.connections) (sym run) are
-given-after s t (prepared name number ∷ steps) are run =
-    let step = run.1 in
-    let pushed = given-push s.given s.connections (opened s step.closure.has.root step.closure.closed) are refl in
-    given-after run.0 t steps (subst (λ os. AreGiven run.0.given os) (sym step.connections) (subst (λ n. AreGiven n (s.connections ++ opened s step.closure.has.root step.closure.closed ∷ [])) (sym step.given) pushed)) run.2
+given-after s t (prepared name number ∷ steps) are run = given-after run.0 t steps (given-opened s run.0 name number are run.1) run.2
+given-after s t (prepared_given name addresses number ∷ steps) are run = given-after run.0 t steps (given-opened s run.0 name number are run.1) run.2
 given-after s t (closed number ∷ steps) are run =
     let step = run.1 in
     given-after run.0 t steps (subst (λ os. AreGiven run.0.given os) (sym step.connections) (subst (λ n. AreGiven n (open_without s.connections number)) (sym step.given) (given-without s.given number s.connections are))) run.2
@@ -131,14 +135,20 @@ open-last (x ∷ os) o number are is = elim (eqb_tells x.number number) [
   | inr other ↦ rw other.0 (open-last os o number are.1 is)
 ]
 
+pub run-opened : {rule : Rule} (pairs : List Pair) (choices : Choices) (steps : List Step) (s t : ContextState) (name : List ℕ) (number : ℕ) → Runs (made_state pairs choices) steps s → (step : PreparesBy rule s name number t)
+    → open_of t.connections number ≡ Some (opened s step.closure.has.root step.closure.closed)
+run-opened pairs choices steps s t name number run step =
+    let o : Open = opened s step.closure.has.root step.closure.closed in
+    let given = given-after (made_state pairs choices) s steps tt run in
+    ap (λ os. open_of os number) step.connections ∙ ap (λ n. open_of (s.connections ++ o ∷ []) n) step.number ∙ open-last s.connections o s.given given refl
+
 -- what a preparation places is what wasn't present and is then
-pub run-placed : (pairs : List Pair) (choices : Choices) (steps : List Step) (s t : ContextState) (name : List ℕ) (number : ℕ) (placed : List ℕ) (p : ℕ) → Runs (made_state pairs choices) steps s → Prepares s name number t
+pub run-placed : {rule : Rule} (pairs : List Pair) (choices : Choices) (steps : List Step) (s t : ContextState) (name : List ℕ) (number : ℕ) (placed : List ℕ) (p : ℕ) → Runs (made_state pairs choices) steps s → PreparesBy rule s name number t
     → option_map (λ o. o.placed) (open_of t.connections number) ≡ Some placed → Contains placed p ↔ ((is_present s.present p ≡ false) × (is_present t.present p ≡ true))
 run-placed pairs choices steps s t name number placed p run step is =
     let sound = run-sound pairs choices steps s run in
     let o : Open = opened s step.closure.has.root step.closure.closed in
-    let given = given-after (made_state pairs choices) s steps tt run in
-    let found : open_of t.connections number ≡ Some o = ap (λ os. open_of os number) step.connections ∙ ap (λ n. open_of (s.connections ++ o ∷ []) n) step.number ∙ open-last s.connections o s.given given refl in
+    let found = run-opened pairs choices steps s t name number run step in
     let all : o.placed ≡ placed = (let same : Some o.placed ≡ Some placed = sym (ap (option_map (λ (o : Open). o.placed)) found) ∙ is in cc) in
     let here = sound.same p in
     let after = (after-prepare s.pairs s t name number sound step).same p ∙ ap (λ os. is_needed os p) step.connections ∙ needed-either s.connections o p ∙ ap (λ b. cond b true (has o.closed.order p)) (sym here) in

@@ -1,7 +1,7 @@
 -- A fragment that is present keeps its memory over a step, after any list of steps.
 use Rattle.std.proofs.Common.{◌≡◌, ◌≢◌, ℕ, suc, ◌<◌, ◌==◌, Bool, true, false, List, [], ◌∷◌, ◌++◌, Some, cond, length, refl, sym, ap, subst, ◌∙◌, inl, inr, arith}
 use Rattle.std.proofs.lemmas.Bool.Decides.{eqb_tells}
-use Rattle.cfm_memory.specs.Extents.{given_back, place_at}
+use Rattle.cfm_memory.specs.Extents.{Rule, given_back, place_at}
 use Rattle.cfm_memory.specs.declared.place.Place.{Place}
 use Rattle.cfm_memory.specs.Instances.{Layout, bytes_at}
 use Rattle.cfm_memory.specs.Reservation.{Reserves, Unreserves}
@@ -13,8 +13,8 @@ use Rattle.cfm_prepare.proofs.PlacedLemmas.{placed-pairs, placed-new}
 use Rattle.cfm_prepare.proofs.GroupLemmas.{ArePairApart, turned}
 use Rattle.cfm_prepare.specs.Options.{Choices}
 use Rattle.cfm_prepare.specs.Contexts.{ContextState, Open, made_state, is_needed, needed_of, unneeded_of}
-use Rattle.cfm_prepare.specs.Runs.{Keeps, Runs, Step, Takes, closed, freed, prepared, reserved, stored, taken_out}
-use Rattle.cfm_prepare.specs.Steps.{Closes, Prepares, PutsBack, TakesOut}
+use Rattle.cfm_prepare.specs.Runs.{Keeps, Runs, Step, Takes, closed, freed, prepared, prepared_given, reserved, stored, taken_out}
+use Rattle.cfm_prepare.specs.Steps.{Closes, PreparesBy, PutsBack, TakesOut}
 use Rattle.cfm_prepare.proofs.RunLemmas.{present-needed}
 
 -- a fact of each of some fragments
@@ -109,18 +109,18 @@ pub record IsLaid (s : ContextState) : Type 0 where
   pub there : AllBy (IsThere s.memory) s.present
   pub apart : AreApartAll s.present
 
-apart-new : (pairs : List Pair) (s t : ContextState) (name : List ℕ) (number : ℕ) (step : Prepares s name number t) (f : Present) → IsThere s.memory f → AllBy (λ g. ArePairApart g f) step.fresh
-apart-new pairs s t name number step f there =
+apart-new : {rule : Rule} (pairs : List Pair) (s t : ContextState) (name : List ℕ) (number : ℕ) (step : PreparesBy rule s name number t) (f : Present) → IsThere s.memory f → AllBy (λ g. ArePairApart g f) step.fresh
+apart-new {rule} pairs s t name number step f there =
     let are = step.prepared.are in
     all-index (λ g. ArePairApart g f) step.fresh (λ i under a b low less same.
-    placed-new s.pairs s.memory step.fresh are.empty i a (place_at f.places b).address (there b less).0 are.placed under low (there b less).1 (sym same))
+    placed-new rule s.pairs s.memory step.fresh are.empty i a (place_at f.places b).address (there b less).0 are.placed under low (there b less).1 (sym same))
 
-pub kept-new : (pairs : List Pair) (s t : ContextState) (name : List ℕ) (number : ℕ) (step : Prepares s name number t) (f : Present) → IsThere s.memory f → Keeps s.memory t.memory f.places
+pub kept-new : {rule : Rule} (pairs : List Pair) (s t : ContextState) (name : List ℕ) (number : ℕ) (step : PreparesBy rule s name number t) (f : Present) → IsThere s.memory f → Keeps s.memory t.memory f.places
 kept-new pairs s t name number step f there k under =
     sym (keeps-apart t.memory step.fresh f (apart-new pairs s t name number step f there) k under) ∙ ap (λ (m : Layout). bytes_at m.instances (place_at f.places k).address) step.prepared.others
 
-pub laid-prepare : (pairs : List Pair) (s t : ContextState) (name : List ℕ) (number : ℕ) → IsLaid s → Prepares s name number t → IsLaid t
-laid-prepare pairs s t name number laid step =
+pub laid-prepare : {rule : Rule} (pairs : List Pair) (s t : ContextState) (name : List ℕ) (number : ℕ) → IsLaid s → PreparesBy rule s name number t → IsLaid t
+laid-prepare {rule} pairs s t name number laid step =
     let are = step.prepared.are in
     let old = all-map (IsThere s.memory) (IsThere t.memory) s.present (λ f there. there-kept s.memory t.memory f there (kept-new pairs s t name number step f there)) laid.there in
     let new = all-index (IsThere t.memory) step.fresh (λ i under k low. (section_of s.pairs (s.present ++ step.fresh) (present_at step.fresh i) k, step.prepared.stand i under k low)) in
@@ -128,7 +128,7 @@ laid-prepare pairs s t name number laid step =
     (λ f there. all-map (λ g. ArePairApart g f) (ArePairApart f) step.fresh (λ g. turned g f) (apart-new pairs s t name number step f there)) laid.there in
     record {
       there = subst (AllBy (IsThere t.memory)) (sym step.present) (all-append (IsThere t.memory) s.present step.fresh old new);
-      apart = subst AreApartAll (sym step.present) (apart-append s.present step.fresh laid.apart (apart-index step.fresh (placed-pairs s.pairs s.memory step.fresh are.empty are.placed)) cross);
+      apart = subst AreApartAll (sym step.present) (apart-append s.present step.fresh laid.apart (apart-index step.fresh (placed-pairs rule s.pairs s.memory step.fresh are.empty are.placed)) cross);
     }
 
 -- those that are kept by a closing keep their bytes
@@ -181,6 +181,7 @@ laid-free s t address size laid step = subst IsLaid (sym step.is) (record {
 laid-all : (pairs : List Pair) (s t : ContextState) (steps : List Step) → IsLaid s → Runs s steps t → IsLaid t
 laid-all pairs s t [] laid run = subst IsLaid (sym run) laid
 laid-all pairs s t (prepared name number ∷ steps) laid run = laid-all pairs run.0 t steps (laid-prepare pairs s run.0 name number laid run.1) run.2
+laid-all pairs s t (prepared_given name addresses number ∷ steps) laid run = laid-all pairs run.0 t steps (laid-prepare pairs s run.0 name number laid run.1) run.2
 laid-all pairs s t (closed number ∷ steps) laid run = laid-all pairs run.0 t steps (laid-close s run.0 number laid run.1) run.2
 laid-all pairs s t (reserved address size ∷ steps) laid run = laid-all pairs run.0 t steps (laid-reserve s run.0 address size laid run.1) run.2
 laid-all pairs s t (freed address size ∷ steps) laid run = laid-all pairs run.0 t steps (laid-free s run.0 address size laid run.1) run.2
@@ -217,12 +218,17 @@ both-true : (b c : Bool) → cond b c false ≡ true → b ≡ true
 both-true true c is = refl
 both-true false c is = is
 
-step-keeps : (pairs : List Pair) (s t : ContextState) (x : Step) (p : ℕ) → IsLaid s → Takes s x t → is_present s.present p ≡ true → is_present t.present p ≡ true
+prepare-keeps : {rule : Rule} (pairs : List Pair) (s t : ContextState) (name : List ℕ) (number p : ℕ) → IsLaid s → PreparesBy rule s name number t → is_present s.present p ≡ true
     → (places_of t.present p ≡ places_of s.present p) × Keeps s.memory t.memory (places_of s.present p)
-step-keeps pairs s t (prepared name number) p laid step was is = (
+prepare-keeps pairs s t name number p laid step was = (
   ap (λ fs. places_of fs p) step.present ∙ places-before s.present step.fresh p was,
   places-keep s.memory t.memory s.present p (all-map (IsThere s.memory) (λ f. Keeps s.memory t.memory f.places) s.present (kept-new pairs s t name number step) laid.there),
 )
+
+step-keeps : (pairs : List Pair) (s t : ContextState) (x : Step) (p : ℕ) → IsLaid s → Takes s x t → is_present s.present p ≡ true → is_present t.present p ≡ true
+    → (places_of t.present p ≡ places_of s.present p) × Keeps s.memory t.memory (places_of s.present p)
+step-keeps pairs s t (prepared name number) p laid step was is = prepare-keeps pairs s t name number p laid step was
+step-keeps pairs s t (prepared_given name addresses number) p laid step was is = prepare-keeps pairs s t name number p laid step was
 step-keeps pairs s t (closed number) p laid step was is =
     let here : cond (is_needed t.connections p) (is_present s.present p) false ≡ true = sym (ap (λ fs. is_present fs p) step.present ∙ present-needed t.connections s.present p) ∙ is in
     let same = places-needed t.connections s.present p (both-true (is_needed t.connections p) (is_present s.present p) here) in (

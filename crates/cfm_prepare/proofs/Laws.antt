@@ -10,13 +10,21 @@ pub use Rattle.cfm_prepare.proofs.KeepLemmas.{run-keeps}
 -- a fragment that is present is in the store, and needs the same memory after a step
 pub use Rattle.cfm_prepare.proofs.RunLemmas.{run-inside}
 pub use Rattle.cfm_prepare.proofs.NowLemmas.{step-extents}
+-- the closures of open connections are those of their roots
+pub use Rattle.cfm_prepare.proofs.RunLemmas.{run-closed}
+-- a connection that was opened is found by its number
+pub use Rattle.cfm_prepare.proofs.GoneLemmas.{run-opened}
+-- a fragment has one closure
+pub use Rattle.cfm_prepare.proofs.OpenLemmas.{same-closed}
+-- a list has a number, or contains it
+pub use Rattle.cfm_prepare.proofs.ListLemmas.{has-at, has-contains}
 -- fragments that take no more than is allowed don't take more
 pub use Rattle.cfm_prepare.proofs.BoundLemmas.{not-past}
--- there is a state that a preparation gives, if no new fragment lacks room or is refused
+-- there is a state that a preparation gives, if no new fragment lacks a place or is refused
 pub use Rattle.cfm_prepare.proofs.EnoughLemmas.{prepares-to}
 -- if no relocation header is refused, the first refusal is none
 pub use Rattle.cfm_prepare.proofs.HeaderLemmas.{headers-unrefused}
--- fragments that lack room in a place lack room
+-- fragments that lack a place for a section lack places
 pub use Rattle.cfm_prepare.proofs.PlacingLemmas.{lacks-room}
 -- a fragment that was placed has a place for each instantiated section of its container, as its loader section knows
 -- their number

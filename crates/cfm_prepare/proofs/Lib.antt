@@ -4,6 +4,7 @@ mod BegunLemmas
 mod BoundLemmas
 mod ConnectionLemmas
 mod EnoughLemmas
+mod ExportLemmas
 mod FoundLemmas
 mod FragmentLemmas
 mod GoneLemmas
@@ -13,6 +14,8 @@ mod ImageLemmas
 mod KeepLemmas
 pub mod Laws
 mod ListLemmas
+mod LocationLemmas
+mod NewLemmas
 mod NowLemmas
 mod OpenLemmas
 mod PlaceLemmas

@@ -5,7 +5,7 @@ use Rattle.std.specs.Prelude.{Result, option_map}
 use Rattle.std.specs.Option.{option_map_or}
 use Rattle.std.specs.Result.{result_ok, result_unwrap_or}
 use Rattle.std.proofs.lemmas.Bool.Decides.{eqb_tells}
-use Rattle.cfm_memory.specs.Extents.{ArePlaced, Stand, place_at}
+use Rattle.cfm_memory.specs.Extents.{ArePlacedBy, Rule, Stand, place_at}
 use Rattle.cfm_memory.specs.Instances.{Layout}
 use Rattle.cfm_memory.specs.declared.place.Place.{Place}
 use Rattle.cfm_closure.specs.Stores.{Pair}
@@ -30,8 +30,8 @@ use Rattle.pef_words.proofs.Laws.Tests.{cond-later}
 use Rattle.cfm_prepare.specs.Options.{Choices}
 use Rattle.cfm_prepare.specs.Contexts.{ContextState, Open, made_state, is_needed, needed_of, opened}
 use Rattle.cfm_prepare.specs.Now.{IsPreparedNow}
-use Rattle.cfm_prepare.specs.Runs.{AreClosed, Keeps, Runs, Step, Takes, closed, freed, prepared, reserved, stored, taken_out}
-use Rattle.cfm_prepare.specs.Steps.{Closes, Prepares, PutsBack, TakesOut}
+use Rattle.cfm_prepare.specs.Runs.{AreClosed, Keeps, Runs, Step, Takes, closed, freed, prepared, prepared_given, reserved, stored, taken_out}
+use Rattle.cfm_prepare.specs.Steps.{Closes, PreparesBy, PutsBack, TakesOut}
 use Rattle.cfm_prepare.proofs.KeepLemmas.{AllBy, IsLaid, IsThere, all-append, all-both, all-index, all-map, all-needed, frees-keeps, kept-close, kept-new, laid-close, laid-free, laid-prepare, laid-reserve, laid-store, places-before, places-needed, reserves-keeps}
 use Rattle.cfm_prepare.proofs.RunLemmas.{AllSame, ChangesStore, IsSound, after-close, after-free, after-prepare, after-reserve, after-store, fresh-sound, needed-either, removes, run-sound, stores}
 
@@ -117,8 +117,8 @@ record IsNow (pairs : List Pair) (s : ContextState) : Type 0 where
   fits : AllBy (Fits pairs) s.present
   stand : AllBy (StandsNow pairs s.memory s.present) s.present
 
-now-prepare : (pairs : List Pair) (s t : ContextState) (name : List ℕ) (number : ℕ) → IsNow pairs s → Prepares s name number t → IsNow pairs t
-now-prepare pairs s t name number now step =
+now-prepare : {rule : Rule} (pairs : List Pair) (s t : ContextState) (name : List ℕ) (number : ℕ) → IsNow pairs s → PreparesBy rule s name number t → IsNow pairs t
+now-prepare {rule} pairs s t name number now step =
     let sound = now.sound in
     let all : List Present = s.present ++ step.fresh in
     let agree : AgreeOn s.connections s.present all = λ q needed. places-before s.present step.fresh q (sound.same q ∙ needed) in
@@ -132,7 +132,7 @@ now-prepare pairs s t name number now step =
     let P : List Pair → Type 0 = λ ps. AllBy (StandsNow ps t.memory all) step.fresh in
     let new : P pairs = subst P sound.store (all-index (StandsNow s.pairs t.memory all) step.fresh (λ i under. step.prepared.stand i under)) in
     let Q : List Pair → Type 0 = λ ps. AllBy (Fits ps) step.fresh in
-    let fit : Q pairs = subst Q sound.store (all-index (Fits s.pairs) step.fresh (placed-fit s.pairs s.memory step.fresh step.prepared.are.empty step.prepared.are.placed)) in
+    let fit : Q pairs = subst Q sound.store (all-index (Fits s.pairs) step.fresh (placed-fit rule s.pairs s.memory step.fresh step.prepared.are.empty step.prepared.are.placed)) in
     record {
       sound = after-prepare pairs s t name number sound step;
       laid = laid-prepare pairs s t name number now.laid step;
@@ -206,9 +206,10 @@ module _ (pairs pairs' : List Pair) (more : length pairs ≤ length pairs') (os 
 
   other-fits : (places : List Place) → Fits pairs (record { position = p; places = places }) → Fits pairs' (record { position = p; places = places })
   other-fits places fits = record {
+    rule = fits.rule;
     before = fits.before;
     after = fits.after;
-    placed = subst (λ es. ArePlaced fits.before es places fits.after) (sym other-extents) fits.placed;
+    placed = subst (λ es. ArePlacedBy fits.rule fits.before es places fits.after) (sym other-extents) fits.placed;
   }
 
 now-store : (s t : ContextState) → IsNow s.pairs s → ChangesStore s t → IsNow t.pairs t
@@ -237,6 +238,7 @@ changed-extents s t p sound change is =
 
 pub step-extents : (pairs : List Pair) (choices : Choices) (steps : List Step) (s t : ContextState) (step : Step) (p : ℕ) → Runs (made_state pairs choices) steps s → Takes s step t → is_present s.present p ≡ true → extents_in t.pairs p ≡ extents_in s.pairs p
 step-extents pairs choices steps s t (prepared name number) p run takes is = ap (λ pairs. extents_in pairs p) takes.pairs
+step-extents pairs choices steps s t (prepared_given name addresses number) p run takes is = ap (λ pairs. extents_in pairs p) takes.pairs
 step-extents pairs choices steps s t (closed number) p run takes is = ap (λ pairs. extents_in pairs p) takes.pairs
 step-extents pairs choices steps s t (reserved address size) p run takes is = ap (λ (t : ContextState). extents_in t.pairs p) takes.is
 step-extents pairs choices steps s t (freed address size) p run takes is = ap (λ (t : ContextState). extents_in t.pairs p) takes.is
@@ -268,6 +270,7 @@ now-free s t address size now step =
 now-all : (s t : ContextState) (steps : List Step) → IsNow s.pairs s → Runs s steps t → IsNow t.pairs t
 now-all s t [] now run = subst (λ (t : ContextState). IsNow t.pairs t) (sym run) now
 now-all s t (prepared name number ∷ steps) now run = now-all run.0 t steps (subst (λ ps. IsNow ps run.0) (sym run.1.pairs) (now-prepare s.pairs s run.0 name number now run.1)) run.2
+now-all s t (prepared_given name addresses number ∷ steps) now run = now-all run.0 t steps (subst (λ ps. IsNow ps run.0) (sym run.1.pairs) (now-prepare s.pairs s run.0 name number now run.1)) run.2
 now-all s t (closed number ∷ steps) now run = now-all run.0 t steps (subst (λ ps. IsNow ps run.0) (sym run.1.pairs) (now-close s.pairs s run.0 number now run.1)) run.2
 now-all s t (reserved address size ∷ steps) now run = now-all run.0 t steps (now-reserve s run.0 address size now run.1) run.2
 now-all s t (freed address size ∷ steps) now run = now-all run.0 t steps (now-free s run.0 address size now run.1) run.2
@@ -289,6 +292,7 @@ now-at : (pairs : List Pair) (s : ContextState) (p : ℕ) → IsNow pairs s → 
 now-at pairs s p now is =
     let fit = at-position (λ q places. Fits pairs (record { position = q; places = places })) s.present p now.fits is in
     record {
+      rule = fit.rule;
       before = fit.before;
       empty = fit.after;
       placed = fit.placed;
@@ -299,7 +303,7 @@ pub run-now : (pairs : List Pair) (choices : Choices) (steps : List Step) (s : C
 run-now pairs choices steps s p run is = now-at s.pairs s p (now-all (made_state pairs choices) s steps (fresh-now pairs choices) run) is
 
 -- and a step that prepares leaves each fragment of its closure so
-pub run-prepares : (pairs : List Pair) (choices : Choices) (steps : List Step) (s t : ContextState) (name : List ℕ) (number p : ℕ) → Runs (made_state pairs choices) steps s → (step : Prepares s name number t) → Contains step.closure.closed.order p
+pub run-prepares : {rule : Rule} (pairs : List Pair) (choices : Choices) (steps : List Step) (s t : ContextState) (name : List ℕ) (number p : ℕ) → Runs (made_state pairs choices) steps s → (step : PreparesBy rule s name number t) → Contains step.closure.closed.order p
     → (is_present t.present p ≡ true) × IsPreparedNow t.pairs t p
 run-prepares pairs choices steps s t name number p run step there =
     let now = subst (λ ps. IsNow ps t) (sym step.pairs) (now-prepare s.pairs s t name number (now-all (made_state pairs choices) s steps (fresh-now pairs choices) run) step) in

@@ -1,14 +1,14 @@
 -- The extents of a container's sections, one after the other.
 use Rattle.std.proofs.Common.{◌≡◌, ℕ, zero, suc, ◌+◌, ◌-◌, ◌<◌, List, [], ◌∷◌, ◌++◌, refl, sym, ap, subst, ◌∙◌, length, get_or, arith}
-use Rattle.cfm_memory.specs.Extents.{ArePlaced, Extent, HasNoRoomFor, IsPlaceFor, place_at}
+use Rattle.cfm_memory.specs.Extents.{ArePlacedBy, Extent, HasNoPlaceBy, IsPlaceBy, Rule, place_at, rule_after}
 use Rattle.cfm_memory.specs.Instances.{Layout}
 use Rattle.cfm_memory.specs.Placement.{with_new}
-use Rattle.cfm_prepare.specs.Placing.{LacksRoomFor}
+use Rattle.cfm_prepare.specs.Placing.{LacksPlaceFor}
 use Rattle.cfm_prepare.specs.Kept.Unplaced.{MayNotPlaceAll, MayRefuseFor}
 use Rattle.cfm_prepare.specs.declared.places.Unplaced.{Unplaced}
 use Rattle.cfm_prepare.specs.declared.places.Unplaced.TheVariants.{NoRoom, OutOfMemory}
 use Rattle.cfm_memory.specs.declared.place.Place.{Place}
-use Rattle.cfm_memory.proofs.Laws.{length-placed, no_extent, placed-append, placed_size}
+use Rattle.cfm_memory.proofs.Laws.{after-both, after-none, length-placed, no_extent, placed-append, placed_size}
 use Rattle.pef_views.specs.Container.{Contained}
 use Rattle.cfm_prepare.specs.Images.{extent_at, extents_from, extents_of}
 
@@ -47,39 +47,50 @@ extent-is c from (suc n) (suc k) under =
     let next : from + 1 + k ≡ from + suc k = omega arith in
     extent-is c (from + 1) n k (omega arith) ∙ ap (extent_at c) next
 
--- a section more is placed
-pub placed_next : (c : Contained) (m mid : Layout) (places : List Place) (i : ℕ) (p : Place) → ArePlaced m (extents_from c 0 i) places mid → IsPlaceFor mid (extent_at c i) p
-    → ArePlaced m (extents_from c 0 (i + 1)) (places ++ p ∷ []) (with_new mid p)
-placed_next c m mid places i p placed is =
-    subst (λ es. ArePlaced m es (places ++ p ∷ []) (with_new mid p)) (sym (extents_next c i))
-    (placed-append m mid (with_new mid p) (extents_from c 0 i) (extent_at c i ∷ []) places (p ∷ []) placed (is, refl))
+-- as many places as sections were placed
+pub count-placed : (rule : Rule) (c : Contained) (m mid : Layout) (places : List Place) (i : ℕ) → ArePlacedBy rule m (extents_from c 0 i) places mid → length places ≡ i
+count-placed rule c m mid places i placed = length-placed rule m (extents_from c 0 i) places mid placed ∙ length-extents c 0 i
 
--- the section after those that were placed finds no room
-lacks_at : (m mid : Layout) (extents : List Extent) (e : Extent) (others : List Extent) (places : List Place) → ArePlaced m extents places mid → HasNoRoomFor mid e → LacksRoomFor m (extents ++ e ∷ others) (length extents)
-lacks_at m mid [] e others [] placed none = let P : Layout → Type 0 = λ k. HasNoRoomFor k e in subst P placed none
-lacks_at m mid [] e others (p ∷ places) placed none = absurd placed
-lacks_at m mid (x ∷ xs) e others [] placed none = absurd placed
-lacks_at m mid (x ∷ xs) e others (p ∷ places) placed none = (p, placed.0, lacks_at (with_new m p) mid xs e others places placed.1 none)
+-- a section more is placed
+pub placed_next : (rule : Rule) (c : Contained) (m mid : Layout) (places : List Place) (i : ℕ) (p : Place) → ArePlacedBy rule m (extents_from c 0 i) places mid → IsPlaceBy (rule_after rule i) mid (extent_at c i) p
+    → ArePlacedBy rule m (extents_from c 0 (i + 1)) (places ++ p ∷ []) (with_new mid p)
+placed_next rule c m mid places i p placed is =
+    let P : ℕ → Type 0 = λ n. IsPlaceBy (rule_after rule n) mid (extent_at c i) p in
+    let here = subst P (sym (count-placed rule c m mid places i placed)) is in
+    subst (λ es. ArePlacedBy rule m es (places ++ p ∷ []) (with_new mid p)) (sym (extents_next c i))
+    (placed-append rule m mid (with_new mid p) (extents_from c 0 i) (extent_at c i ∷ []) places (p ∷ []) placed (here, refl))
+
+-- the section after those that were placed has no place
+lacks_at : (rule : Rule) (m mid : Layout) (extents : List Extent) (e : Extent) (others : List Extent) (places : List Place) → ArePlacedBy rule m extents places mid → HasNoPlaceBy (rule_after rule (length extents)) mid e
+    → LacksPlaceFor rule m (extents ++ e ∷ others) (length extents)
+lacks_at rule m mid [] e others [] placed none = let P : Layout → Type 0 = λ k. HasNoPlaceBy rule k e in subst P placed (subst (λ r. HasNoPlaceBy r mid e) (after-none rule) none)
+lacks_at rule m mid [] e others (p ∷ places) placed none = absurd placed
+lacks_at rule m mid (x ∷ xs) e others [] placed none = absurd placed
+lacks_at rule m mid (x ∷ xs) e others (p ∷ places) placed none =
+    let count : suc (length xs) ≡ 1 + length xs = omega arith in
+    let rest = subst (λ r. HasNoPlaceBy r mid e) (ap (rule_after rule) count ∙ sym (after-both rule 1 (length xs))) none in
+    (p, placed.0, lacks_at (rule_after rule 1) (with_new m p) mid xs e others places placed.1 rest)
 
 -- a section that is refused is the first of them
-pub refused_here : (fault : Unplaced) (c : Contained) (m mid : Layout) (places : List Place) (i n : ℕ) → i < n → ArePlaced m (extents_from c 0 i) places mid → MayRefuseFor mid (extent_at c i) i fault
-    → MayNotPlaceAll fault m (extents_from c 0 n)
-refused_here (NoRoom section) c m mid places i n under placed refused =
+pub refused_here : (fault : Unplaced) (rule : Rule) (c : Contained) (m mid : Layout) (places : List Place) (i n : ℕ) → i < n → ArePlacedBy rule m (extents_from c 0 i) places mid → MayRefuseFor (rule_after rule i) mid (extent_at c i) i fault
+    → MayNotPlaceAll fault rule m (extents_from c 0 n)
+refused_here (NoRoom section) rule c m mid places i n under placed refused =
     let rest = extents_from c (i + 1) (n - (i + 1)) in
-    let P : List Extent → Type 0 = λ es. LacksRoomFor m es section in
-    let Q : ℕ → Type 0 = λ k. LacksRoomFor m (extents_from c 0 i ++ extent_at c i ∷ rest) k in
+    let P : List Extent → Type 0 = λ es. LacksPlaceFor rule m es section in
+    let Q : ℕ → Type 0 = λ k. LacksPlaceFor rule m (extents_from c 0 i ++ extent_at c i ∷ rest) k in
+    let N : ℕ → Type 0 = λ k. HasNoPlaceBy (rule_after rule k) mid (extent_at c i) in
     subst P (sym (extents_around c i n under))
-    (subst Q (length-extents c 0 i ∙ sym refused.0) (lacks_at m mid (extents_from c 0 i) (extent_at c i) rest places placed refused.1))
-refused_here OutOfMemory c m mid places i n under placed refused = tt
+    (subst Q (length-extents c 0 i ∙ sym refused.0) (lacks_at rule m mid (extents_from c 0 i) (extent_at c i) rest places placed (subst N (sym (length-extents c 0 i)) refused.1)))
+refused_here OutOfMemory rule c m mid places i n under placed refused = tt
 
 -- there are as many places as instantiated sections
-pub length-fragment : (c : Contained) (m after : Layout) (places : List Place) → ArePlaced m (extents_of c) places after → length places ≡ c.header.instantiated_section_count
-length-fragment c m after places placed = length-placed m (extents_of c) places after placed ∙ length-extents c 0 c.header.instantiated_section_count
+pub length-fragment : (rule : Rule) (c : Contained) (m after : Layout) (places : List Place) → ArePlacedBy rule m (extents_of c) places after → length places ≡ c.header.instantiated_section_count
+length-fragment rule c m after places placed = length-placed rule m (extents_of c) places after placed ∙ length-extents c 0 c.header.instantiated_section_count
 
 -- and each has the size of its section
-pub size-fragment : (c : Contained) (m after : Layout) (places : List Place) → ArePlaced m (extents_of c) places after → (k : ℕ) → k < length places → (place_at places k).size ≡ (extent_at c k).size
-size-fragment c m after places placed k under =
+pub size-fragment : (rule : Rule) (c : Contained) (m after : Layout) (places : List Place) → ArePlacedBy rule m (extents_of c) places after → (k : ℕ) → k < length places → (place_at places k).size ≡ (extent_at c k).size
+size-fragment rule c m after places placed k under =
     let n = c.header.instantiated_section_count in
-    let len = length-fragment c m after places placed in
+    let len = length-fragment rule c m after places placed in
     let here : 0 + k ≡ k = omega arith in
-    placed_size m (extents_of c) places after placed k ∙ ap (λ (e : Extent). e.size) (extent-is c 0 n k (omega (arith, under, len)) ∙ ap (extent_at c) here)
+    placed_size rule m (extents_of c) places after placed k ∙ ap (λ (e : Extent). e.size) (extent-is c 0 n k (omega (arith, under, len)) ∙ ap (extent_at c) here)

@@ -5,13 +5,13 @@ use Rattle.std.proofs.lemmas.Bool.{cases_lt}
 use Rattle.std.proofs.lemmas.Bool.Decides.{eqb_tells}
 use Rattle.std.proofs.lemmas.List.{get_or_append_left, length-append}
 use Rattle.std.proofs.Math.Seq.{get_or-append_right}
-use Rattle.cfm_memory.specs.Extents.{AreApart, AreHeld, given_back, place_at}
+use Rattle.cfm_memory.specs.Extents.{AreApart, AreHeld, Rule, given_back, place_at}
 use Rattle.cfm_memory.specs.Instances.{Layout, bytes_at, has_length}
 use Rattle.cfm_memory.specs.declared.place.Place.{Place}
 use Rattle.cfm_memory.proofs.Laws.{given_back_elsewhere}
 use Rattle.cfm_closure.specs.Stores.{Pair}
 use Rattle.cfm_prepare.specs.Fragments.{Present, all_given_back, places_of, present_at}
-use Rattle.cfm_prepare.specs.Placing.{AllPlaced}
+use Rattle.cfm_prepare.specs.Placing.{AllPlacedBy}
 use Rattle.cfm_prepare.specs.Kept.Ready.{AllApart, AllHeld, AreReady}
 use Rattle.cfm_prepare.proofs.GroupLemmas.{ArePairApart, all-elsewhere, held_same, no_fragment, nowhere, turned}
 use Rattle.cfm_prepare.proofs.PlacedLemmas.{placed-apart, placed-held, placed-new, placed-own, placed-stays}
@@ -87,17 +87,17 @@ bytes-there : (m : Layout) (qs : List Place) (k : ℕ) → AreHeld m qs → k < 
 bytes-there m qs k held under = held-some (bytes_at m.instances (place_at qs k).address) (place_at qs k).size (held k nowhere under)
 
 -- new fragments after those that exist
-pub ready-after : (pairs : List Pair) (m : Layout) (there fresh : List Present) (after : Layout) → AreReady m there → AllPlaced pairs m fresh after → AreReady after (there ++ fresh)
-ready-after pairs m there fresh after ready placed = record {
+pub ready-after : (rule : Rule) (pairs : List Pair) (m : Layout) (there fresh : List Present) (after : Layout) → AreReady m there → AllPlacedBy rule pairs m fresh after → AreReady after (there ++ fresh)
+ready-after rule pairs m there fresh after ready placed = record {
   held = each-of (λ f. AreHeld after f.places) there fresh
       (λ i under. held_same m after (present_at there i).places (λ k low.
       let s = bytes-there m (present_at there i).places k (ready.held i under) low in
-      placed-stays pairs m fresh after (place_at (present_at there i).places k).address s.0 placed s.1 ∙ sym s.1) (ready.held i under))
-      (placed-held pairs m fresh after placed);
-  own = each-of (λ f. AreApart f.places) there fresh ready.own (placed-own pairs m fresh after placed);
-  apart = append-apart there fresh ready.apart (placed-apart pairs m fresh after placed) (λ i j under high a b low less.
+      placed-stays rule pairs m fresh after (place_at (present_at there i).places k).address s.0 placed s.1 ∙ sym s.1) (ready.held i under))
+      (placed-held rule pairs m fresh after placed);
+  own = each-of (λ f. AreApart f.places) there fresh ready.own (placed-own rule pairs m fresh after placed);
+  apart = append-apart there fresh ready.apart (placed-apart rule pairs m fresh after placed) (λ i j under high a b low less.
       let s = bytes-there m (present_at there i).places a (ready.held i under) low in
-      placed-new pairs m fresh after j b (place_at (present_at there i).places a).address s.0 placed high less s.1);
+      placed-new rule pairs m fresh after j b (place_at (present_at there i).places a).address s.0 placed high less s.1);
 }
 
 -- new fragments changed, and nothing else did

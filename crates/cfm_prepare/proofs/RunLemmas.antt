@@ -1,6 +1,7 @@
 -- After any list of steps the fragments that are present are those of the open connections' closures.
 use Rattle.std.proofs.Common.{◌≡◌, ℕ, ◌==◌, ◌<◌, ◌≤◌, Bool, true, false, List, [], ◌∷◌, ◌++◌, Ok, Some, cond, refl, sym, ap, subst, ◌∙◌, inl, inr, length, arith}
 use Rattle.std.proofs.lemmas.Bool.Decides.{eqb_tells}
+use Rattle.cfm_memory.specs.Extents.{Rule}
 use Rattle.cfm_closure.specs.Stores.{Pair, place_of}
 use Rattle.std.specs.Prelude.{option_map, IsSome, ◌⊎◌}
 use Rattle.std.specs.Result.{result_ok}
@@ -17,9 +18,9 @@ use Rattle.cfm_prepare.proofs.SlotLemmas.{present-append}
 use Rattle.cfm_prepare.proofs.FoundLemmas.{present-has}
 use Rattle.cfm_prepare.specs.Options.{Choices}
 use Rattle.cfm_prepare.specs.Contexts.{ContextState, Open, made_state, is_needed, needed_of, open_without, opened}
-use Rattle.cfm_prepare.specs.Runs.{AreClosed, IsStill, Runs, Step, closed, freed, prepared, reserved, stored, taken_out}
+use Rattle.cfm_prepare.specs.Runs.{AreClosed, IsStill, Runs, Step, closed, freed, prepared, prepared_given, reserved, stored, taken_out}
 use Rattle.cfm_prepare.specs.Removals.{Removes}
-use Rattle.cfm_prepare.specs.Steps.{Adds, AnyNames, Closes, Prepares, PutsBack, TakesOut}
+use Rattle.cfm_prepare.specs.Steps.{Adds, AnyNames, Closes, PreparesBy, PutsBack, TakesOut}
 
 pub never : (b : Bool) → false ≡ cond b false false
 never true = refl
@@ -190,7 +191,7 @@ pub record IsSound (pairs : List Pair) (s : ContextState) : Type 0 where
   pub closures : AreClosed pairs s.connections
   pub same : (p : ℕ) → is_present s.present p ≡ is_needed s.connections p
 
-pub after-prepare : (pairs : List Pair) (s t : ContextState) (name : List ℕ) (number : ℕ) → IsSound pairs s → Prepares s name number t → IsSound pairs t
+pub after-prepare : {rule : Rule} (pairs : List Pair) (s t : ContextState) (name : List ℕ) (number : ℕ) → IsSound pairs s → PreparesBy rule s name number t → IsSound pairs t
 after-prepare pairs s t name number sound step =
     let o : Open = opened s step.closure.has.root step.closure.closed in
     let own : closed_of pairs o.root ≡ Ok o.closed = ap (λ ps. closed_of ps o.root) (sym sound.store) ∙ step.closure.is in
@@ -269,6 +270,7 @@ after-free s t address size sound step =
 after-all : (s t : ContextState) (steps : List Step) → IsSound s.pairs s → Runs s steps t → IsSound t.pairs t
 after-all s t [] sound run = subst (λ (t : ContextState). IsSound t.pairs t) (sym run) sound
 after-all s t (prepared name number ∷ steps) sound run = after-all run.0 t steps (subst (λ ps. IsSound ps run.0) (sym run.1.pairs) (after-prepare s.pairs s run.0 name number sound run.1)) run.2
+after-all s t (prepared_given name addresses number ∷ steps) sound run = after-all run.0 t steps (subst (λ ps. IsSound ps run.0) (sym run.1.pairs) (after-prepare s.pairs s run.0 name number sound run.1)) run.2
 after-all s t (closed number ∷ steps) sound run = after-all run.0 t steps (subst (λ ps. IsSound ps run.0) (sym run.1.pairs) (after-close s.pairs s run.0 number sound run.1)) run.2
 after-all s t (reserved address size ∷ steps) sound run = after-all run.0 t steps (after-reserve s run.0 address size sound run.1) run.2
 after-all s t (freed address size ∷ steps) sound run = after-all run.0 t steps (after-free s run.0 address size sound run.1) run.2

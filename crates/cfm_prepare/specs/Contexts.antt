@@ -2,7 +2,7 @@
 -- Architectures, "Code Fragment Manager", "Preparing a Fragment", "Releasing Fragments"). That there is one
 -- context, whose fragments are shared by all its connections, and how connections are numbered, is this
 -- project's own rule.
-use Rattle.std.specs.Prelude.{◌==◌, ℕ, Bool, false, true, List, [], ◌∷◌, ◌++◌, Option, None, Some, if◌then◌else◌}
+use Rattle.std.specs.Prelude.{◌==◌, ℕ, Bool, false, true, List, [], ◌∷◌, Option, None, Some, if◌then◌else◌}
 use Rattle.cfm_memory.specs.Extents.{empty_memory}
 use Rattle.cfm_memory.specs.Instances.{Layout}
 use Rattle.cfm_memory.specs.declared.place.Reserved.{Reserved}

@@ -10,6 +10,8 @@ use Rattle.cfm_prepare.specs.declared.fault.CloseFault.{CloseFault}
 use Rattle.cfm_prepare.specs.declared.fault.CloseFault.TheVariants.{BadConnection}
 use Rattle.cfm_prepare.specs.declared.fault.PrepareFault.{PrepareFault}
 use Rattle.cfm_prepare.specs.declared.fault.PrepareFault.TheVariants as fault
+use Rattle.cfm_prepare.specs.declared.place_fault.PlaceFault.{PlaceFault}
+use Rattle.cfm_prepare.specs.declared.place_fault.PlaceFault.TheVariants as place
 use Rattle.cfm_prepare.specs.declared.remove_fault.RemoveFault.{RemoveFault}
 use Rattle.cfm_prepare.specs.declared.remove_fault.RemoveFault.TheVariants as remove
 
@@ -72,3 +74,16 @@ abbrev pub add_fault_name : AddFault → List ℕ
 add_fault_name add.AddedTooLate = codes "AddedTooLate"
 add_fault_name add.StoreFull = codes "StoreFull"
 add_fault_name add.OutOfMemory = codes "OutOfMemory"
+
+-- for a fragment that isn't prepared at some addresses. Only a library has this call, so one number is from 200 on
+abbrev pub place_fault_number : PlaceFault → ℕ
+place_fault_number place.WrongAddressCount = 210
+place_fault_number (place.Prepare f) = fault_number f
+
+abbrev pub place_fault_name : PlaceFault → List ℕ
+place_fault_name place.WrongAddressCount = codes "WrongAddressCount"
+place_fault_name (place.Prepare f) = fault_name f
+
+abbrev pub place_fault_place : PlaceFault → Option Place
+place_fault_place place.WrongAddressCount = None
+place_fault_place (place.Prepare f) = fault_place f

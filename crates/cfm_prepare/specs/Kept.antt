@@ -3,6 +3,7 @@ pub mod Bounds
 pub mod Connections
 pub mod Contexts
 pub mod Ready
+pub mod Rules
 pub mod Slots
 pub mod Unplaced
 pub mod Users

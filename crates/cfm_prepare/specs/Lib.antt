@@ -3,12 +3,15 @@ pub mod Bounds
 pub mod Contexts
 pub mod Faults
 pub mod FragmentFaults
+pub mod FragmentExports
 pub mod Fragments
 pub mod Images
 pub mod Kept
 pub mod Lacking
 pub mod Lists
+pub mod Locations
 pub mod Made
+pub mod NewSections
 pub mod Now
 pub mod Options
 pub mod Placing

@@ -41,7 +41,7 @@ export_address pairs all p (Reexport import) = import_address pairs all p import
 -- the address of a fragment's first export with a name
 abbrev pub symbol_at : List Pair → List Present → ℕ → List ℕ → Option ℕ
 symbol_at pairs all p name =
-    option_map (λ x. export_address pairs all p (value_of x.section x.value))
+    option_map (λ x. export_address pairs all p (value_of x.fields.section x.fields.value))
     (option_and_then (λ l. option_and_then (export_of l) (named_of l name)) (loader_at pairs p))
 
 -- the address of the first export with a name of a connection's root
@@ -54,7 +54,7 @@ symbol_of all o p name = if has o.closed.order p then symbol_at o.closed.pairs a
 
 -- the address of export number i of a fragment
 abbrev pub export_at : List Pair → List Present → ℕ → ℕ → Option ℕ
-export_at pairs all p i = option_map (λ x. export_address pairs all p (value_of x.section x.value)) (option_and_then (λ l. export_of l i) (loader_at pairs p))
+export_at pairs all p i = option_map (λ x. export_address pairs all p (value_of x.fields.section x.fields.value)) (option_and_then (λ l. export_of l i) (loader_at pairs p))
 
 -- the address of export number i of a fragment, if a connection's closure has the fragment
 abbrev pub numbered_export : List Present → Open → ℕ → ℕ → Option ℕ

@@ -9,13 +9,15 @@ use Rattle.cfm_closure.specs.Fragments.{fragment_of}
 use Rattle.cfm_closure.specs.Targets.{target_of}
 use Rattle.cfm_prepare.specs.Contexts.{ContextState, Open}
 use Rattle.cfm_prepare.specs.Removals.{Removes}
-use Rattle.cfm_prepare.specs.Steps.{Adds, Closes, Prepares, PutsBack, TakesOut}
+use Rattle.cfm_prepare.specs.Steps.{Adds, Closes, Prepares, PreparesAt, PutsBack, TakesOut}
 
--- a fragment was prepared by its name, which gave a number; or the connection with a number was closed; or a fragment
+-- a fragment was prepared by its name, which gave a number; or it was, with addresses for its sections; or the connection with
+-- a number was closed; or a fragment
 -- was added with a name and bytes; or one was removed by its name; or some bytes from an address on were taken out of use, or such
 -- a range was given back
 pub data Step : Type 0 where
   prepared : List ℕ → ℕ → Step
+  prepared_given : List ℕ → List ℕ → ℕ → Step
   closed : ℕ → Step
   stored : List ℕ → List ℕ → Step
   taken_out : List ℕ → Step
@@ -24,6 +26,7 @@ pub data Step : Type 0 where
 
 abbrev pub Takes : ContextState → Step → ContextState → Type 0
 Takes s (prepared name number) t = Prepares s name number t
+Takes s (prepared_given name addresses number) t = PreparesAt s name addresses number t
 Takes s (closed number) t = Closes s number t
 Takes s (stored name bytes) t = Adds s name bytes t
 Takes s (taken_out name) t = Removes s name t

@@ -1,10 +1,11 @@
-ghost use Rattle.std.specs.Prelude.{◌≡◌, ◌+◌, ◌++◌, ◌<◌, [], ◌∷◌, ℕ, IfSome, None, OnOk, false, nat_lt, true};
+ghost use Rattle.std.specs.Prelude.{◌≡◌, ◌+◌, ◌++◌, ◌<◌, [], ◌∷◌, ℕ, Contains, IfSome, None, OnOk, false, nat_lt, true};
 ghost use Rattle.cfm_prepare.specs.Steps.{AnyNames};
 ghost use Rattle.std.specs.Option.{IfNone, is_some, option_copied};
 ghost use Rattle.cfm_prepare.specs.Contexts.{open_of, open_without};
-ghost use Rattle.cfm_prepare.specs.Kept.Connections.{AreNumbered, IsSlotOf, open_in};
+ghost use Rattle.cfm_prepare.specs.Kept.Connections.{AreNumbered, IsSlotOf, having_in, open_in};
+ghost use Rattle.cfm_prepare.specs.Locations.{first_having};
 
-use crate::open_connection::OpenConnection;
+use crate::open_connection::{OpenConnection, has};
 use std::alloc::{AllocError, Global};
 use std::marker::Model;
 
@@ -60,6 +61,19 @@ impl<'a> Connections<'a> {
     {
         let rank = rank_of(&self.slots, number)?;
         self.slots[rank].connected.as_ref()
+    }
+
+    /// Returns the first open connection whose closure has a fragment.
+    pub fn having(&self, position: usize) -> Option<&OpenConnection<'a>>
+        ensures first { option_copied result ≡ first_having self.now.items position }
+        ensures has { IfSome result (λ o. Contains o.now.closed.order position) }
+    {
+        for slot in &self.slots {
+            if let Some(connected) = slot_having(slot, position) {
+                return Some(connected);
+            }
+        }
+        None
     }
 
     /// Returns whether an open connection's closure has a fragment with a library entry of this name.
@@ -132,6 +146,18 @@ impl<'a> Connections<'a> {
         let rank = rank_of(&self.slots, number)?;
         self.slots[rank].connected.take()
     }
+}
+
+/// Returns the connection of a slot, if it is open and its closure has a fragment.
+fn slot_having<'a, 'b>(slot: &'b Slot<'a>, position: usize) -> Option<&'b OpenConnection<'a>>
+    ensures value { option_copied result ≡ having_in slot.now.connected position }
+    ensures has { IfSome result (λ o. Contains o.now.closed.order position) }
+{
+    let connected = slot.connected.as_ref()?;
+    if !has(connected.closure().order(), position) {
+        return None;
+    }
+    Some(connected)
 }
 
 /// Returns where the slot of a number is.

@@ -1,31 +1,44 @@
-ghost use Rattle.std.specs.Prelude.{◌≡◌, ◌<◌, ◌≤◌, ◌+◌, ℕ, List, IfErr, IfOk, IfSome, MatchOption, None, OnErr, OnOk, Some, length, map, option_map, false, true};
+ghost use Rattle.std.specs.Prelude.{◌≡◌, ◌<◌, ◌≤◌, ◌+◌, ℕ, List, IfErr, IfOk, IfSome, MatchOption, None, Ok, OnErr, OnOk, Some, length, map, option_map, false, true};
 ghost use Rattle.std.specs.Option.{option_and_then, option_copied};
+ghost use Rattle.cfm_closure.specs.Closures.{Closed, closed_of};
 ghost use Rattle.cfm_closure.specs.Stores.{name_at, place_of};
 ghost use Rattle.cfm_closure.specs.Views.{missing_seen};
 ghost use Rattle.cfm_memory.specs.Placement.{IsClear};
 ghost use Rattle.cfm_memory.specs.Reservation.{IsNoRange, MayNotReserve};
 ghost use Rattle.cfm_prepare.specs.Fragments.{places_of};
 ghost use Rattle.cfm_prepare.specs.Lacking.{Lacks, MayNotTell};
+ghost use Rattle.cfm_prepare.specs.Kept.Rules.{rule_of};
 ghost use Rattle.cfm_prepare.specs.Made.{choices_of};
+ghost use Rattle.cfm_prepare.specs.NewSections.{AreNewSections, MayNotTellSections};
+ghost use Rattle.cfm_prepare.specs.Placing.{IsRuleFor};
 ghost use Rattle.cfm_prepare.specs.Sections.{section_present, section_seen, sections_at, sections_left};
+ghost use Rattle.pef_loader.specs.Views.{loaded};
+ghost use Rattle.cfm_prepare.specs.FragmentExports.{fragment_export, fragment_export_named, fragment_loader, placed_seen};
+ghost use Rattle.cfm_prepare.specs.Locations.{IsLocated, location_seen};
 ghost use Rattle.cfm_prepare.specs.Contexts.{fresh_state, made_state, open_of};
 ghost use Rattle.cfm_prepare.specs.Readers.{entries_of, has_present, import_target_of, main_address, numbered_export, released_by, root_section, section_header_of, symbol_address, symbol_of};
 ghost use Rattle.cfm_prepare.specs.Removals.{MayNotRemove, Removes};
-ghost use Rattle.cfm_prepare.specs.Steps.{Adds, Closes, MayNotAdd, MayNotPrepare, Prepares, PutsBack, TakesOut};
+ghost use Rattle.cfm_prepare.specs.Steps.{Adds, Closes, MayNotAdd, MayNotPrepare, MayNotPrepareAt, MayNotPrepareBy, Prepares, PreparesAt, PreparesBy, PutsBack, TakesOut, new_of};
 
 use crate::add_fault::AddFault;
 use crate::connections::Connections;
 use crate::entries::Entries;
+use crate::exports::{FragmentExport, fragment_export, fragment_export_named, fragment_loader};
 use crate::fault::{CloseFault, PrepareFault};
 use crate::fragments::Fragments;
 use crate::imports::ImportTarget;
+use crate::locations::{Location, nearest_export, section_with};
+use crate::new_sections::NewSection;
 use crate::open_connection::OpenConnection;
 use crate::options::Options;
+use crate::place_fault::PlaceFault;
+use crate::places::PlaceRule;
 use crate::remove_fault::RemoveFault;
 use crate::sections::Sections;
 use crate::users::{enter, leave, make_room, release, unshared_among};
 use cfm_closure::{CachedStore, Closure, MissingLibrary, Store, StoreFault};
 use cfm_memory::MemoryFault;
+use pef_loader::Loader;
 use pef_views::SectionHeader;
 use std::alloc::{AllocError, Global};
 use std::fmt;
@@ -232,16 +245,85 @@ impl<'a> Context<'a> {
         let Some(root) = self.store.find(name) else {
             return Err(PrepareFault::RootMissing);
         };
-        self.open_root(root)
+        self.open_root(root, PlaceRule::Lowest)
     }
 
-    /// Opens a connection to the fragment in a place of the store.
-    #[tactic(auto, using(crate::proofs::UsersLemmas::same_users))]
-    fn open_root(&mut self, root: usize) -> Result<Connection, PrepareFault<'a>>
+    /// Returns the sections that [`prepare`](Self::prepare) would place for a name, in the order in which it places them, with
+    /// the memory that each needs. [`prepare_at`](Self::prepare_at) takes an address for each.
+    ///
+    /// # Errors
+    ///
+    /// Those of `prepare` up to `TooManyStepsInAll`: nothing is placed. `OutOfMemory` if an allocation fails. The context is
+    /// unchanged in any case.
+    pub fn new_sections(&mut self, name: &[u8]) -> Result<Vec<NewSection>, PrepareFault<'a>>
+        ensures sections { IfOk result (λ sections. AreNewSections self.old name.now sections.items) }
+        ensures refused { IfErr result (λ fault. MayNotTellSections self.old name.now fault) }
+        ensures unchanged { self.new ≡ self.old }
+    {
+        if self.connections.given() >= self.options.connections as usize {
+            return Err(PrepareFault::TooManyConnections);
+        }
+        let Some(root) = self.store.find(name) else {
+            return Err(PrepareFault::RootMissing);
+        };
+        self.sections_of_root(root)
+    }
+
+    /// Opens a connection as [`prepare`](Self::prepare) does, but places the k-th new section at the k-th of some addresses. They are in the
+    /// order of [`new_sections`](Self::new_sections).
+    ///
+    /// # Errors
+    ///
+    /// Those of `prepare` up to `TooManyStepsInAll`. Otherwise `WrongAddressCount` if there are more or fewer addresses than
+    /// new sections. Otherwise the others of `prepare`. `NoRoom` here is for the first section whose address is below
+    /// 00010000 (hex) or isn't a multiple of its alignment, or that would pass the limit, or meet a section or a reserved
+    /// range. After an error the context is unchanged.
+    pub fn prepare_at(
+        &mut self,
+        name: &[u8],
+        addresses: &[u32],
+    ) -> Result<Connection, PlaceFault<'a>>
+        ensures prepared { IfOk result (λ connection. PreparesAt self.old name.now addresses.now connection.0 self.new) }
+        ensures refused { IfErr result (λ fault. MayNotPrepareAt self.old name.now addresses.now fault) }
+        ensures unchanged { OnErr result (self.new ≡ self.old) }
+    {
+        let count = self.new_sections(name)?.len();
+        if count != addresses.len() {
+            return Err(PlaceFault::WrongAddressCount);
+        }
+        let Some(root) = self.store.find(name) else {
+            unreachable!()
+        };
+        let connection = self.open_root(root, PlaceRule::Given(addresses))?;
+        Ok(connection)
+    }
+
+    /// Returns the sections that a preparation of the fragment in a place of the store would place.
+    fn sections_of_root(&mut self, root: usize) -> Result<Vec<NewSection>, PrepareFault<'a>>
         requires root { root < length self.old.pairs }
         requires left { self.old.given < self.old.bounds.connections }
-        ensures prepared { (name : List ℕ) → place_of self.old.pairs name ≡ Some root → IfOk result (λ connection. Prepares self.old name connection.0 self.new) }
-        ensures refused { (name : List ℕ) → place_of self.old.pairs name ≡ Some root → IfErr result (λ fault. MayNotPrepare self.old name fault) }
+        ensures sections { (name : List ℕ) → place_of self.old.pairs name ≡ Some root → IfOk result (λ sections. AreNewSections self.old name sections.items) }
+        ensures refused { (name : List ℕ) → place_of self.old.pairs name ≡ Some root → IfErr result (λ fault. MayNotTellSections self.old name fault) }
+        ensures unchanged { self.new ≡ self.old }
+    {
+        let closure = self.store.closure(self.alloc, root)?;
+        self.fragments.test_bounds(&closure, &self.options)?;
+        let sections = self.fragments.new_sections(&closure)?;
+        Ok(sections)
+    }
+
+    /// Opens a connection to the fragment in a place of the store. Its new sections are placed by a rule.
+    #[tactic(auto, using(crate::proofs::UsersLemmas::same_users))]
+    fn open_root(
+        &mut self,
+        root: usize,
+        rule: PlaceRule<'_>,
+    ) -> Result<Connection, PrepareFault<'a>>
+        requires root { root < length self.old.pairs }
+        requires left { self.old.given < self.old.bounds.connections }
+        requires counted { (closed : Closed) → closed_of self.old.pairs root ≡ Ok closed → IsRuleFor (rule_of rule) self.old.pairs (new_of self.old closed) }
+        ensures prepared { (name : List ℕ) → place_of self.old.pairs name ≡ Some root → IfOk result (λ connection. PreparesBy (rule_of rule.entry) self.old name connection.0 self.new) }
+        ensures refused { (name : List ℕ) → place_of self.old.pairs name ≡ Some root → IfErr result (λ fault. MayNotPrepareBy (rule_of rule.entry) self.old name fault) }
         ensures unchanged { OnErr result (self.new ≡ self.old) }
     {
         make_room(&mut self.users, self.store.len())?;
@@ -249,7 +331,7 @@ impl<'a> Context<'a> {
         let closure = self.store.closure(self.alloc, root)?;
         let placed = self.fragments.new_among(closure.init_order())?;
         self.fragments.test_bounds(&closure, &self.options)?;
-        self.fragments.prepare(&closure)?;
+        self.fragments.prepare(&closure, rule)?;
         enter(&mut self.users, closure.order());
         let number = self.connections.given() as u32;
         self.connections
@@ -450,6 +532,63 @@ impl<'a> Context<'a> {
     {
         let connected = self.connections.get(connection.0)?;
         connected.symbol(&self.fragments, position, name)
+    }
+
+    /// Returns the loader section of a fragment of a connection's closure, given by its place in the store: it has the
+    /// number of its exports, and its imports by their names. `None` if the closure lacks the fragment, or the connection
+    /// isn't open.
+    pub fn fragment_loader(&self, connection: Connection, position: usize) -> Option<Loader<'a>>
+        ensures { option_map loaded result ≡ option_and_then (λ o. fragment_loader o position) (open_of self.now.connections connection.0) }
+    {
+        let connected = self.connections.get(connection.0)?;
+        fragment_loader(connected, position)
+    }
+
+    /// Returns export `number` of a fragment of a connection's closure, given by its place in the store, with where it
+    /// ends and its address. `None` past the last export, if the closure lacks the fragment, or the connection isn't open.
+    pub fn fragment_export(
+        &self,
+        connection: Connection,
+        position: usize,
+        number: usize,
+    ) -> Option<FragmentExport<'a>>
+        ensures { option_map placed_seen result ≡ option_and_then (λ o. fragment_export self.now.present o position number) (open_of self.now.connections connection.0) }
+    {
+        let connected = self.connections.get(connection.0)?;
+        fragment_export(connected, &self.fragments, position, number)
+    }
+
+    /// Returns the first export with a name of a fragment of a connection's closure, given by its place in the store, with
+    /// where it ends and its address. `None` if there is none, the closure lacks the fragment, or the connection isn't open.
+    pub fn fragment_export_named(
+        &self,
+        connection: Connection,
+        position: usize,
+        name: &[u8],
+    ) -> Option<FragmentExport<'a>>
+        ensures { option_map placed_seen result ≡ option_and_then (λ o. fragment_export_named self.now.present o position name.now) (open_of self.now.connections connection.0) }
+    {
+        let connected = self.connections.get(connection.0)?;
+        fragment_export_named(connected, &self.fragments, position, name)
+    }
+
+    /// Returns where an address is: in which section of which fragment, and the nearest export there at it or before it.
+    /// `None` if it is in no section of a fragment that is present.
+    pub fn at(&self, address: u32) -> Option<Location<'a>>
+        ensures { IsLocated self.now address (option_map location_seen result) }
+    {
+        let (fragment, section, offset) = section_with(&self.fragments, address)?;
+        let Some(connected) = self.connections.having(fragment) else {
+            unreachable!()
+        };
+        let closure = connected.closure();
+        Some(Location {
+            connection: Connection(connected.number()),
+            fragment,
+            section,
+            offset,
+            nearest: nearest_export(closure, &self.fragments, fragment, section, offset),
+        })
     }
 
     /// Returns the header of section `i` in the container of a fragment of a connection's closure, given by

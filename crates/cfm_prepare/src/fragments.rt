@@ -1,21 +1,25 @@
-ghost use Rattle.std.specs.Prelude.{◌≡◌, ◌≤◌, ◌+◌, ◌++◌, List, IfErr, IfOk, IfSome, MatchOption, OnErr, OnOk, false, length, option_map, true};
+ghost use Rattle.std.specs.Prelude.{◌≡◌, ◌≤◌, ◌+◌, ◌++◌, [], ℕ, List, IfErr, IfOk, IfSome, MatchOption, OnErr, OnOk, false, length, option_map, true};
 ghost use Rattle.cfm_memory.specs.Placement.{IsClear};
 ghost use Rattle.cfm_memory.specs.Reservation.{IsNoRange, MayNotReserve, Reserves, Unreserves};
 ghost use Rattle.cfm_prepare.specs.Addresses.{target_address};
 ghost use Rattle.cfm_prepare.specs.Fragments.{IsGivenBack, Present, is_present, new_among, none_present, places_of};
 ghost use Rattle.cfm_prepare.specs.Bounds.{AreWithin, bytes_in, steps_in};
 ghost use Rattle.cfm_prepare.specs.Kept.Bounds.{IsPastBounds};
+ghost use Rattle.cfm_prepare.specs.Kept.Rules.{rule_of};
 ghost use Rattle.cfm_prepare.specs.Lists.{IsOnce};
 ghost use Rattle.cfm_prepare.specs.Made.{choices_of};
-ghost use Rattle.cfm_prepare.specs.Placing.{ArePrepared};
-ghost use Rattle.cfm_prepare.specs.Refusals.{MayNotPrepareNew};
+ghost use Rattle.cfm_prepare.specs.NewSections.{new_sections_of};
+ghost use Rattle.cfm_prepare.specs.Placing.{ArePreparedBy};
+ghost use Rattle.cfm_prepare.specs.Refusals.{MayNotPrepareNewBy};
 ghost use Rattle.cfm_prepare.specs.Sections.{section_present, section_seen, sections_at, sections_left};
 
 use crate::addresses::target_address;
 use crate::bounds::test_bounds;
 use crate::fault::PrepareFault;
 use crate::fragment_fault::FragmentFault;
+use crate::new_sections::{NewSection, new_sections};
 use crate::options::Options;
+use crate::places::PlaceRule;
 use crate::preparation::{Preparation, give_back_fragment};
 use crate::sections::Sections;
 use crate::slots::{Slots, new_among};
@@ -74,17 +78,21 @@ impl Fragments {
         test_bounds(closure, &self.present, self.memory.granule(), options)
     }
 
-    /// Prepares the fragments of a closure that aren't present: all are placed, then filled, then relocated,
+    /// Prepares the fragments of a closure that aren't present: all are placed by a rule, then filled, then relocated,
     /// each time in the order of the closure.
     ///
     /// # Errors
     ///
     /// The first refusal of placement, of the images, or of the relocation headers, in this order; or
     /// `OutOfMemory`. The fragments that were present are then unchanged.
-    pub fn prepare<'a>(&mut self, closure: &Closure<'a>) -> Result<(), FragmentFault<'a>>
+    pub fn prepare<'a>(
+        &mut self,
+        closure: &Closure<'a>,
+        rule: PlaceRule<'_>,
+    ) -> Result<(), FragmentFault<'a>>
         requires { IsOnce closure.now.order }
-        ensures prepared { OnOk result ((fresh : List Present) × (self.new.present ≡ self.old.present ++ fresh) × ArePrepared closure.now.pairs self.old.present self.old.memory (new_among self.old.present closure.now.order) fresh self.new.memory) }
-        ensures refused { IfErr result (λ fault. MayNotPrepareNew closure.now.pairs self.old.present self.old.memory (new_among self.old.present closure.now.order) fault) }
+        ensures prepared { OnOk result ((fresh : List Present) × (self.new.present ≡ self.old.present ++ fresh) × ArePreparedBy (rule_of rule.entry) closure.now.pairs self.old.present self.old.memory (new_among self.old.present closure.now.order) fresh self.new.memory) }
+        ensures refused { IfErr result (λ fault. MayNotPrepareNewBy (rule_of rule.entry) closure.now.pairs self.old.present self.old.memory (new_among self.old.present closure.now.order) fault) }
         ensures unchanged { OnErr result (self.new ≡ self.old) }
     {
         let new = new_among(self.alloc, &self.present, closure.order())?;
@@ -92,6 +100,7 @@ impl Fragments {
             alloc: self.alloc,
             closure,
             new: &new,
+            rule,
         };
         preparation.run(&mut self.memory, &mut self.present)
     }
@@ -101,6 +110,14 @@ impl Fragments {
         ensures { IfOk result (λ new. new.items ≡ new_among self.now.present positions.now) }
     {
         new_among(self.alloc, &self.present, positions)
+    }
+
+    /// Returns the sections of the fragments of a closure that aren't present.
+    pub fn new_sections(&self, closure: &Closure<'_>) -> Result<Vec<NewSection>, AllocError>
+        ensures { IfOk result (λ sections. sections.items ≡ new_sections_of closure.now.pairs self.now.memory.granule (new_among self.now.present closure.now.order)) }
+    {
+        let new = new_among(self.alloc, &self.present, closure.order())?;
+        new_sections(self.alloc, closure, &new, self.memory.granule())
     }
 
     /// Takes `size` addresses from `address` on out of use.
@@ -138,6 +155,13 @@ impl Fragments {
         ensures { result ≡ is_present self.now.present position }
     {
         self.present.has(position)
+    }
+
+    /// Returns a place of the store from which on no fragment is present.
+    pub fn end(&self) -> usize
+        ensures { (p : ℕ) → result ≤ p → places_of self.now.present p ≡ [] }
+    {
+        self.present.end()
     }
 
     /// Returns where the instantiated sections of the fragment in a place of the store lie, in their order;

@@ -233,7 +233,7 @@ impl<'a> OpenConnection<'a> {
 }
 
 /// Returns whether a list has a number.
-fn has(numbers: &[usize], number: usize) -> bool
+pub(crate) fn has(numbers: &[usize], number: usize) -> bool
     ensures { result ≡ has numbers.now number }
 {
     for other in numbers {

@@ -1,10 +1,11 @@
 ghost use Rattle.std.specs.Prelude.{◌≡◌, ◌≤◌, ◌++◌, ℕ, [], ◌∷◌, Err, IfErr, IfOk, IsTrue, OnErr, OnOk};
-ghost use Rattle.cfm_memory.specs.Extents.{AreApart, AreHeld, ArePlaced, given_back};
+ghost use Rattle.cfm_memory.specs.Extents.{AreApart, AreHeld, ArePlacedBy, HasNoPlaceBy, IsPlaceBy, given_back, rule_after};
 ghost use Rattle.cfm_memory.specs.Instances.{holds_place, with_instances, without};
 ghost use Rattle.cfm_memory.specs.Limits.{greatest_alignment};
-ghost use Rattle.cfm_memory.specs.Placement.{IsLowest, with_new};
+ghost use Rattle.cfm_memory.specs.Placement.{with_new};
 ghost use Rattle.cfm_prepare.specs.declared.places.Unplaced.TheVariants as Unplaced;
-ghost use Rattle.cfm_prepare.specs.Kept.Unplaced.{MayNotPlaceAll, MayRefuseFor};
+ghost use Rattle.cfm_prepare.specs.Kept.Rules.{rule_of};
+ghost use Rattle.cfm_prepare.specs.Kept.Unplaced.{MayNotPlaceAll, MayRefuseFor, MayRefuseBy};
 ghost use Rattle.pef_views.specs.Views.{contained};
 ghost use Rattle.cfm_prepare.specs.Images.{extents_from, extents_of};
 
@@ -20,24 +21,48 @@ pub(crate) enum Unplaced {
     OutOfMemory,
 }
 
-/// Places the instantiated sections of a container, each in turn at the lowest address with room. They
-/// are zeros.
+/// Where new sections lie.
+#[derive(Clone, Copy)]
+pub(crate) enum PlaceRule<'p> {
+    /// Each in turn at the lowest address with room.
+    Lowest,
+    /// Each in turn at the next of these addresses.
+    Given(&'p [u32]),
+}
+
+impl<'p> PlaceRule<'p> {
+    /// Returns the rule for the sections after `count` others.
+    pub fn after(self, count: usize) -> PlaceRule<'p>
+        ensures { rule_of result ≡ rule_after (rule_of self.entry) count }
+    {
+        match self {
+            PlaceRule::Lowest => PlaceRule::Lowest,
+            PlaceRule::Given(addresses) => {
+                let (_, rest) = addresses.split_at(count.min(addresses.len()));
+                PlaceRule::Given(rest)
+            }
+        }
+    }
+}
+
+/// Places the instantiated sections of a container, each in turn by a rule. They are zeros.
 ///
 /// # Errors
 ///
-/// `NoRoom` if a section finds no room after those before it, and `OutOfMemory` if an allocation fails.
+/// `NoRoom` if a section has no place by the rule after those before it, and `OutOfMemory` if an allocation fails.
 /// The memory is then unchanged: the sections that were placed are released.
 pub(crate) fn place_sections(
     alloc: Global,
     memory: &mut Memory,
     container: &Container<'_>,
+    rule: PlaceRule<'_>,
 ) -> Result<Vec<Place>, Unplaced>
-    ensures placed { IfOk result (λ places. ArePlaced memory.old (extents_of (contained container.now)) places.items memory.new) }
-    ensures refused { IfErr result (λ fault. MayNotPlaceAll fault memory.old (extents_of (contained container.now))) }
+    ensures placed { IfOk result (λ places. ArePlacedBy (rule_of rule.entry) memory.old (extents_of (contained container.now)) places.items memory.new) }
+    ensures refused { IfErr result (λ fault. MayNotPlaceAll fault (rule_of rule.entry) memory.old (extents_of (contained container.now))) }
     ensures unchanged { OnErr result (memory.new ≡ memory.old) }
 {
     let mut places = Vec::new(alloc);
-    match place_each(memory, container, &mut places) {
+    match place_each(memory, container, rule, &mut places) {
         Ok(()) => Ok(places),
         Err(fault) => {
             give_back(memory, places.as_slice());
@@ -50,12 +75,13 @@ pub(crate) fn place_sections(
 fn place_each(
     memory: &mut Memory,
     container: &Container<'_>,
+    rule: PlaceRule<'_>,
     places: &mut Vec<Place>,
 ) -> Result<(), Unplaced>
     requires { places.old.items ≡ [] }
-    ensures placed { OnOk result (ArePlaced memory.old (extents_of (contained container.now)) places.new.items memory.new) }
-    ensures refused { IfErr result (λ fault. MayNotPlaceAll fault memory.old (extents_of (contained container.now))) }
-    ensures so_far { (n : ℕ) × ArePlaced memory.old (extents_from (contained container.now) 0 n) places.new.items memory.new }
+    ensures placed { OnOk result (ArePlacedBy (rule_of rule.entry) memory.old (extents_of (contained container.now)) places.new.items memory.new) }
+    ensures refused { IfErr result (λ fault. MayNotPlaceAll fault (rule_of rule.entry) memory.old (extents_of (contained container.now))) }
+    ensures so_far { (n : ℕ) × ArePlacedBy (rule_of rule.entry) memory.old (extents_from (contained container.now) 0 n) places.new.items memory.new }
 {
     let count = usize::from(container.header().instantiated_section_count);
     for i in 0..count {
@@ -63,30 +89,53 @@ fn place_each(
             unreachable!()
         };
         let header = section.header;
-        let place = place_section(memory, header.total_size, header.alignment, i as u32)?;
+        let rest = rule.after(i);
+        let place = place_section(memory, header.total_size, header.alignment, rest, i as u32)?;
         keep(memory, places, place)?;
     }
     Ok(())
 }
 
-/// Places a section of `size` bytes.
+/// Places a section of `size` bytes by a rule.
 fn place_section(
     memory: &mut Memory,
     size: u32,
     alignment: u8,
+    rule: PlaceRule<'_>,
     section: u32,
 ) -> Result<Place, Unplaced>
     requires { alignment ≤ greatest_alignment }
-    ensures lowest { IfOk result (λ place. IsLowest memory.old size alignment place.address) }
-    ensures size { IfOk result (λ place. place.size ≡ size) }
+    ensures place { IfOk result (λ place. IsPlaceBy (rule_of rule.entry) memory.old (record { size = size; alignment = alignment }) place) }
     ensures placed { IfOk result (λ place. memory.new ≡ with_new memory.old place) }
-    ensures refused { IfErr result (λ fault. MayRefuseFor memory.old (record { size = size; alignment = alignment }) section fault) }
+    ensures refused { IfErr result (λ fault. MayRefuseFor (rule_of rule.entry) memory.old (record { size = size; alignment = alignment }) section fault) }
     ensures unchanged { OnErr result (memory.new ≡ memory.old) }
 {
-    match memory.place(size, alignment) {
+    match place_by(memory, size, alignment, rule) {
         Ok(place) => Ok(place),
         Err(MemoryFault::NoRoom) => Err(Unplaced::NoRoom { section }),
         Err(MemoryFault::OutOfMemory) => Err(Unplaced::OutOfMemory),
+    }
+}
+
+/// Places an instance of `size` bytes by a rule.
+fn place_by(
+    memory: &mut Memory,
+    size: u32,
+    alignment: u8,
+    rule: PlaceRule<'_>,
+) -> Result<Place, MemoryFault>
+    requires { alignment ≤ greatest_alignment }
+    ensures place { IfOk result (λ place. IsPlaceBy (rule_of rule.entry) memory.old (record { size = size; alignment = alignment }) place) }
+    ensures placed { IfOk result (λ place. memory.new ≡ with_new memory.old place) }
+    ensures refused { IfErr result (λ fault. MayRefuseBy (rule_of rule.entry) memory.old (record { size = size; alignment = alignment }) fault) }
+    ensures unchanged { OnErr result (memory.new ≡ memory.old) }
+{
+    match rule {
+        PlaceRule::Lowest => memory.place(size, alignment),
+        PlaceRule::Given(addresses) => match addresses.split_first() {
+            Some((address, _)) => memory.place_at(size, alignment, *address),
+            None => Err(MemoryFault::NoRoom),
+        },
     }
 }
 

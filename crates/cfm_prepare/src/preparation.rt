@@ -1,16 +1,17 @@
-ghost use Rattle.std.specs.Prelude.{◌≡◌, ◌++◌, ℕ, List, [], ◌∷◌, All, Contains, IfErr, OnErr, OnOk, false, take};
-ghost use Rattle.cfm_memory.specs.Extents.{AreHeld, ArePlaced, Stand, zeros_at};
+ghost use Rattle.std.specs.Prelude.{◌≡◌, ◌++◌, ℕ, List, [], ◌∷◌, All, Contains, IfErr, IfOk, OnErr, OnOk, false, length, take};
+ghost use Rattle.cfm_memory.specs.Extents.{AreHeld, ArePlacedBy, Stand, rule_after, zeros_at};
 ghost use Rattle.cfm_memory.specs.declared.place.Place.{Place};
 ghost use Rattle.cfm_prepare.specs.Addresses.{addresses_of, first_bad_program, section_of};
 ghost use Rattle.cfm_prepare.specs.Fragments.{IsGivenBack, Present, StandAll, all_given_back, extents_in, first_bad_image, image_refusal_in, is_present, named, places_of, present_of, reloc_refusal_in, section_filled};
-ghost use Rattle.cfm_prepare.specs.Placing.{ArePrepared};
-ghost use Rattle.cfm_prepare.specs.Refusals.{MayNotPrepareNew};
+ghost use Rattle.cfm_prepare.specs.Placing.{ArePreparedBy};
+ghost use Rattle.cfm_prepare.specs.Refusals.{MayNotPrepareNewBy};
+ghost use Rattle.cfm_prepare.specs.Kept.Rules.{rule_of};
 ghost use Rattle.cfm_prepare.specs.Kept.Ready.{AllHeld, AreAbsent, AreLaidOut, AreReady, ChangesAt, ChangesIn, FillsUpTo, HaveBegun, HavePlaced, IsLaidOut, IsNotPlaced, RelocatesUpTo, found_in, others_of, these_of};
 
 use crate::addresses::{import_addresses, section_addresses};
 use crate::fragment_fault::FragmentFault;
 use crate::images::fill_sections;
-use crate::places::{Unplaced, give_back, place_sections};
+use crate::places::{PlaceRule, Unplaced, give_back, place_sections};
 use crate::relocation::{HeaderFault, relocate_sections};
 use crate::slots::Slots;
 use cfm_closure::Closure;
@@ -20,7 +21,7 @@ use pef_format::layout::TOTAL_SIZE_AT;
 use pef_loader::{ProgramFault, place_in};
 use std::alloc::Global;
 
-/// The preparation of new fragments of a closure. All are placed, then filled with their images, then
+/// The preparation of new fragments of a closure. All are placed by a rule, then filled with their images, then
 /// relocated, each time in their order.
 ///
 /// Each step is passed the memory, and the fragments that are present in it.
@@ -30,6 +31,8 @@ pub(crate) struct Preparation<'p, 'a> {
     pub closure: &'p Closure<'a>,
     /// The new fragments, by their places in the store.
     pub new: &'p [usize],
+    /// Where their sections lie.
+    pub rule: PlaceRule<'p>,
 }
 
 impl<'a> Preparation<'_, 'a> {
@@ -39,8 +42,8 @@ impl<'a> Preparation<'_, 'a> {
         requires members { All (λ p. Contains self.now.closure.now.order p) self.now.new.now }
         requires new { AreAbsent present.old.items self.now.new.now }
         requires ready { AreReady memory.old present.old.items }
-        ensures prepared { OnOk result ((fresh : List Present) × (present.new.items ≡ present.old.items ++ fresh) × ArePrepared self.now.closure.now.pairs present.old.items memory.old self.now.new.now fresh memory.new) }
-        ensures refused { IfErr result (λ fault. MayNotPrepareNew self.now.closure.now.pairs present.old.items memory.old self.now.new.now fault) }
+        ensures prepared { OnOk result ((fresh : List Present) × (present.new.items ≡ present.old.items ++ fresh) × ArePreparedBy (rule_of self.now.rule) self.now.closure.now.pairs present.old.items memory.old self.now.new.now fresh memory.new) }
+        ensures refused { IfErr result (λ fault. MayNotPrepareNewBy (rule_of self.now.rule) self.now.closure.now.pairs present.old.items memory.old self.now.new.now fault) }
         ensures unchanged { OnErr result ((memory.new ≡ memory.old) × (present.new.items ≡ present.old.items)) }
         ensures ready { AreReady memory.new present.new.items }
     {
@@ -58,8 +61,8 @@ impl<'a> Preparation<'_, 'a> {
         requires members { All (λ p. Contains self.now.closure.now.order p) self.now.new.now }
         requires new { AreAbsent present.old.items self.now.new.now }
         requires ready { AreReady memory.old present.old.items }
-        ensures prepared { OnOk result ((fresh : List Present) × (present.new.items ≡ present.old.items ++ fresh) × ArePrepared self.now.closure.now.pairs present.old.items memory.old self.now.new.now fresh memory.new) }
-        ensures refused { IfErr result (λ fault. MayNotPrepareNew self.now.closure.now.pairs present.old.items memory.old self.now.new.now fault) }
+        ensures prepared { OnOk result ((fresh : List Present) × (present.new.items ≡ present.old.items ++ fresh) × ArePreparedBy (rule_of self.now.rule) self.now.closure.now.pairs present.old.items memory.old self.now.new.now fresh memory.new) }
+        ensures refused { IfErr result (λ fault. MayNotPrepareNewBy (rule_of self.now.rule) self.now.closure.now.pairs present.old.items memory.old self.now.new.now fault) }
         ensures begun { HaveBegun memory.old present.old.items self.now.new.now present.new.items memory.new }
     {
         self.place(memory, present)?;
@@ -82,35 +85,39 @@ impl<'a> Preparation<'_, 'a> {
     fn place(&self, memory: &mut Memory, present: &mut Slots) -> Result<(), FragmentFault<'a>>
         requires members { All (λ p. Contains self.now.closure.now.order p) self.now.new.now }
         requires new { AreAbsent present.old.items self.now.new.now }
-        ensures placed { OnOk result (HavePlaced self.now.closure.now.pairs memory.old present.old.items self.now.new.now present.new.items memory.new) }
-        ensures refused { IfErr result (λ fault. MayNotPrepareNew self.now.closure.now.pairs present.old.items memory.old self.now.new.now fault) }
-        ensures so_far { (n : ℕ) × HavePlaced self.now.closure.now.pairs memory.old present.old.items (take n self.now.new.now) present.new.items memory.new }
+        ensures placed { OnOk result (HavePlaced (rule_of self.now.rule) self.now.closure.now.pairs memory.old present.old.items self.now.new.now present.new.items memory.new) }
+        ensures refused { IfErr result (λ fault. MayNotPrepareNewBy (rule_of self.now.rule) self.now.closure.now.pairs present.old.items memory.old self.now.new.now fault) }
+        ensures so_far { (n : ℕ) × HavePlaced (rule_of self.now.rule) self.now.closure.now.pairs memory.old present.old.items (take n self.now.new.now) present.new.items memory.new }
     {
+        let mut rule = self.rule;
         for position in self.new {
-            self.place_fragment(*position, memory, present)?;
+            let count = self.place_fragment(*position, rule, memory, present)?;
+            rule = rule.after(count);
         }
         Ok(())
     }
 
-    /// Places a fragment, and adds it after those that are present.
+    /// Places a fragment by a rule, and adds it after those that are present. Returns how many sections it has.
     fn place_fragment(
         &self,
         position: usize,
+        rule: PlaceRule<'_>,
         memory: &mut Memory,
         present: &mut Slots,
-    ) -> Result<(), FragmentFault<'a>>
+    ) -> Result<usize, FragmentFault<'a>>
         requires member { Contains self.now.closure.now.order position }
         requires absent { is_present present.old.items position ≡ false }
-        ensures placed { OnOk result ((places : List Place) × ArePlaced memory.old (extents_in self.now.closure.now.pairs position) places memory.new × (present.new.items ≡ present.old.items ++ (record { position = position; places = places }) ∷ [])) }
-        ensures refused { IfErr result (λ fault. IsNotPlaced self.now.closure.now.pairs position memory.old fault) }
+        ensures placed { IfOk result (λ count. (places : List Place) × ArePlacedBy (rule_of rule.entry) memory.old (extents_in self.now.closure.now.pairs position) places memory.new × (present.new.items ≡ present.old.items ++ (record { position = position; places = places }) ∷ []) × (count ≡ length places)) }
+        ensures refused { IfErr result (λ fault. IsNotPlaced (rule_of rule.entry) self.now.closure.now.pairs position memory.old fault) }
         ensures unchanged { OnErr result ((memory.new ≡ memory.old) × (present.new.items ≡ present.old.items)) }
     {
         present.make_room(position)?;
         let container = self.closure.container(position);
-        match place_sections(self.alloc, memory, &container) {
+        match place_sections(self.alloc, memory, &container, rule) {
             Ok(places) => {
+                let count = places.len();
                 present.put(position, places);
-                Ok(())
+                Ok(count)
             }
             Err(Unplaced::NoRoom { section }) => Err(FragmentFault::NoRoom {
                 fragment: self.closure.name(position),

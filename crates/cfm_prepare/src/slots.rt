@@ -1,4 +1,4 @@
-ghost use Rattle.std.specs.Prelude.{◌≡◌, ◌<◌, ◌++◌, ℕ, length, [], ◌∷◌, false, true, IfOk, IfSome, None, OnOk, slice_index_or};
+ghost use Rattle.std.specs.Prelude.{◌≡◌, ◌<◌, ◌≤◌, ◌++◌, ℕ, length, [], ◌∷◌, false, true, IfOk, IfSome, None, OnOk, slice_index_or};
 ghost use Rattle.std.specs.Option.{IfNone, option_copied};
 ghost use Rattle.cfm_prepare.specs.Fragments.{IsTaken, is_present, new_among, places_of};
 ghost use Rattle.cfm_prepare.specs.Lists.{has};
@@ -54,6 +54,13 @@ impl Slots {
             Some(fragment) => &fragment.places,
             None => &[],
         }
+    }
+
+    /// Returns a place of the store from which on no fragment is present.
+    pub fn end(&self) -> usize
+        ensures { (p : ℕ) → result ≤ p → places_of self.now.items p ≡ [] }
+    {
+        self.slots.len()
     }
 
     /// Returns whether the fragment in a place of the store is present.

@@ -1,16 +1,17 @@
 //! Laws of the definitions, for the proofs of other crates. The functions do nothing.
 ghost use Rattle.std.specs.Prelude.{◌≡◌, ◌↔◌, ◌++◌, ℕ, List, [], ◌∷◌, Contains, Some, false, option_map, true};
+ghost use Rattle.cfm_memory.specs.Extents.{Rule};
 ghost use Rattle.cfm_closure.specs.Additions.{with_put, without_pair};
 ghost use Rattle.cfm_closure.specs.Stores.{Pair};
 ghost use Rattle.cfm_prepare.specs.Fragments.{is_present, places_of};
 ghost use Rattle.cfm_prepare.specs.Contexts.{ContextState, added, made_state, is_needed, open_of, removed, unused_state};
 ghost use Rattle.cfm_prepare.specs.Now.{IsPreparedNow};
 ghost use Rattle.cfm_prepare.specs.Options.{Choices};
-ghost use Rattle.cfm_prepare.specs.Placing.{LacksRoom};
+ghost use Rattle.cfm_prepare.specs.Placing.{IsRuleFor, LacksPlaceBy};
 ghost use Rattle.cfm_prepare.specs.Readers.{released_by};
-ghost use Rattle.cfm_prepare.specs.Refusals.{HasBadImage, HasBadProgram};
+ghost use Rattle.cfm_prepare.specs.Refusals.{HasBadImageBy, HasBadProgramBy};
 ghost use Rattle.cfm_prepare.specs.Runs.{AreClosed, Keeps, Runs, Step, Takes};
-ghost use Rattle.cfm_prepare.specs.Steps.{Closes, HasClosure, IsWithin, Prepares, new_of};
+ghost use Rattle.cfm_prepare.specs.Steps.{Closes, HasClosure, IsWithin, PreparesBy, new_of};
 ghost use Rattle.cfm_prepare.specs.declared.image_fault.ImageFault.{ImageFault};
 ghost use Rattle.pef_loader.specs.declared.program_fault.ProgramFault.{ProgramFault};
 
@@ -32,7 +33,7 @@ pub fn kept_fragments()
 /// A preparation leaves each fragment of its closure present and prepared in this way.
 pub fn prepared_fragments()
     ensures now { (pairs : List Pair) (choices : Choices) (steps : List Step) (s : ContextState) (p : ℕ) → Runs (made_state pairs choices) steps s → is_present s.present p ≡ true → IsPreparedNow s.pairs s p }
-    ensures closure { (pairs : List Pair) (choices : Choices) (steps : List Step) (s t : ContextState) (name : List ℕ) (number p : ℕ) → Runs (made_state pairs choices) steps s → (step : Prepares s name number t) → Contains step.closure.closed.order p
+    ensures closure { (pairs : List Pair) (choices : Choices) (steps : List Step) (s t : ContextState) (rule : Rule) (name : List ℕ) (number p : ℕ) → Runs (made_state pairs choices) steps s → (step : PreparesBy rule s name number t) → Contains step.closure.closed.order p
         → (is_present t.present p ≡ true) × IsPreparedNow t.pairs t p }
 {}
 
@@ -45,17 +46,19 @@ pub fn added_fragments()
 {}
 
 /// If a name has a closure, its fragments that aren't present take no more than the context allows, none of them lacks
-/// room, and none is refused for an image or a relocation header, there is a state that the preparation gives.
+/// a place by the rule of placement, which is for as many sections as they have, and none is refused for an image or a
+/// relocation header, there is a state that the preparation gives.
 pub fn possible_preparations()
-    ensures { (s : ContextState) (name : List ℕ) (closure : HasClosure s name) → IsWithin s (new_of s closure.closed) → ((other : List ℕ) → LacksRoom s.pairs s.memory (new_of s closure.closed) other → ⊥)
-        → ((other : List ℕ) (k : ImageFault) → HasBadImage s.pairs s.memory (new_of s closure.closed) other k → ⊥)
-        → ((other : List ℕ) (k : ProgramFault) → HasBadProgram s.pairs s.present s.memory (new_of s closure.closed) other k → ⊥) → (t : ContextState) × Prepares s name s.given t }
+    ensures { (rule : Rule) (s : ContextState) (name : List ℕ) (closure : HasClosure s name) → IsWithin s (new_of s closure.closed) → IsRuleFor rule s.pairs (new_of s closure.closed)
+        → ((other : List ℕ) → LacksPlaceBy rule s.pairs s.memory (new_of s closure.closed) other → ⊥)
+        → ((other : List ℕ) (k : ImageFault) → HasBadImageBy rule s.pairs s.memory (new_of s closure.closed) other k → ⊥)
+        → ((other : List ℕ) (k : ProgramFault) → HasBadProgramBy rule s.pairs s.present s.memory (new_of s closure.closed) other k → ⊥) → (t : ContextState) × PreparesBy rule s name s.given t }
 {}
 
 /// Only reservations and what gives them back change which ranges of addresses are out of use: a preparation and a closing
 /// leave them as they are, and so does an addition by its definition.
 pub fn reserved_ranges()
-    ensures prepared { (s t : ContextState) (name : List ℕ) (number : ℕ) → Prepares s name number t → t.memory.reserved ≡ s.memory.reserved }
+    ensures prepared { (s t : ContextState) (rule : Rule) (name : List ℕ) (number : ℕ) → PreparesBy rule s name number t → t.memory.reserved ≡ s.memory.reserved }
     ensures closed { (s t : ContextState) (number : ℕ) → Closes s number t → t.memory.reserved ≡ s.memory.reserved }
 {}
 
@@ -64,6 +67,6 @@ pub fn reserved_ranges()
 pub fn new_and_released_fragments()
     ensures released { (pairs : List Pair) (choices : Choices) (steps : List Step) (s t : ContextState) (number : ℕ) (released : List ℕ) (p : ℕ) → Runs (made_state pairs choices) steps s → Closes s number t → released_by s number ≡ Some released
         → Contains released p ↔ ((is_present s.present p ≡ true) × (is_present t.present p ≡ false)) }
-    ensures placed { (pairs : List Pair) (choices : Choices) (steps : List Step) (s t : ContextState) (name : List ℕ) (number : ℕ) (placed : List ℕ) (p : ℕ) → Runs (made_state pairs choices) steps s → Prepares s name number t
+    ensures placed { (pairs : List Pair) (choices : Choices) (steps : List Step) (s t : ContextState) (rule : Rule) (name : List ℕ) (number : ℕ) (placed : List ℕ) (p : ℕ) → Runs (made_state pairs choices) steps s → PreparesBy rule s name number t
         → option_map (λ o. o.placed) (open_of t.connections number) ≡ Some placed → Contains placed p ↔ ((is_present s.present p ≡ false) × (is_present t.present p ≡ true)) }
 {}

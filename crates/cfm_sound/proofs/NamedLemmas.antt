@@ -9,13 +9,14 @@ use Rattle.cfm_closure.specs.Promises.{IsOfUnread}
 use Rattle.cfm_closure.specs.declared.fault.BindFault.{BindFault}
 use Rattle.cfm_closure.specs.declared.fault.BindFault.TheVariants as bind
 use Rattle.cfm_closure.proofs.Laws.{closed-met, closed-no_container, closed-no_loader, place_of-below, place_of-named}
+use Rattle.cfm_memory.specs.Extents.{Rule}
 use Rattle.cfm_prepare.specs.Addresses.{addresses_of}
 use Rattle.cfm_prepare.specs.Contexts.{ContextState}
 use Rattle.cfm_prepare.specs.Faults.{fault_number}
 use Rattle.cfm_prepare.specs.FragmentFaults as fragments
 use Rattle.cfm_prepare.specs.Fragments.{image_refusal_in, reloc_refusal_in}
-use Rattle.cfm_prepare.specs.Refusals.{HasBadImage, HasBadProgram}
-use Rattle.cfm_prepare.specs.Steps.{HasClosure, IsRefusedLate, MayNotPrepare, new_of}
+use Rattle.cfm_prepare.specs.Refusals.{HasBadImageBy, HasBadProgramBy}
+use Rattle.cfm_prepare.specs.Steps.{HasClosure, IsRefusedLateBy, MayNotPrepareBy, new_of}
 use Rattle.cfm_prepare.specs.declared.fault.PrepareFault.{PrepareFault}
 use Rattle.cfm_prepare.specs.declared.fault.PrepareFault.TheVariants as fault
 use Rattle.cfm_prepare.specs.declared.fragment_fault.FragmentFault.{FragmentFault}
@@ -55,7 +56,7 @@ new-first s asked closure p there =
     ]
 
 -- one whose image is refused
-unfilled : (s : ContextState) (asked name : List ℕ) (closure : HasClosure s asked) (k : ImageFault) → HasBadImage s.pairs s.memory (new_of s closure.closed) name k → NamesUnsound s.pairs name
+unfilled : {rule : Rule} (s : ContextState) (asked name : List ℕ) (closure : HasClosure s asked) (k : ImageFault) → HasBadImageBy rule s.pairs s.memory (new_of s closure.closed) name k → NamesUnsound s.pairs name
 unfilled s asked name closure k bad =
     let r = bad-image s.pairs bad.fresh name k bad.first in
     let there = subst (λ ps. Contains ps r.position) bad.are.are r.member in
@@ -65,13 +66,13 @@ unfilled s asked name closure k bad =
     absurd (cc (filled, refused))))
 
 -- .. or a relocation header
-unrelocated : (s : ContextState) (asked name : List ℕ) (closure : HasClosure s asked) (k : ProgramFault) → HasBadProgram s.pairs s.present s.memory (new_of s closure.closed) name k → NamesUnsound s.pairs name
-unrelocated s asked name closure k bad =
+unrelocated : {rule : Rule} (s : ContextState) (asked name : List ℕ) (closure : HasClosure s asked) (k : ProgramFault) → HasBadProgramBy rule s.pairs s.present s.memory (new_of s closure.closed) name k → NamesUnsound s.pairs name
+unrelocated {rule} s asked name closure k bad =
     let all = s.present ++ bad.fresh in
-    let r = bad-program s.pairs all s.memory bad.are.empty bad.fresh name k bad.are.placed bad.first in
+    let r = bad-program rule s.pairs all s.memory bad.are.empty bad.fresh name k bad.are.placed bad.first in
     let there = subst (λ ps. Contains ps r.one.position) bad.are.are r.position in
     names-unsound s.pairs name r.one.position (ap (place_of s.pairs) r.is ∙ new-first s asked closure r.one.position there)
-    (λ sound. (let relocated : reloc_refusal_in s.pairs (addresses_of s.pairs all r.one) r.one.position ≡ None = sound-relocated s.pairs r.one.position sound all r.before r.after r.one.places r.placed in
+    (λ sound. (let relocated : reloc_refusal_in s.pairs (addresses_of s.pairs all r.one) r.one.position ≡ None = sound-relocated s.pairs r.one.position sound r.rule all r.before r.after r.one.places r.placed in
     let refused : reloc_refusal_in s.pairs (addresses_of s.pairs all r.one) r.one.position ≡ Some r.fault = r.refused in
     absurd (cc (relocated, refused))))
 
@@ -86,17 +87,17 @@ names-bound s asked root (bind.ReexportLoop f y place) is low fails = absurd (om
 names-bound s asked root (bind.InitLoop f place) is low fails = absurd (omega (arith, low))
 names-bound s asked root bind.OutOfMemory is low fails = absurd (omega (arith, low))
 
-names-late : (s : ContextState) (asked : List ℕ) (f : FragmentFault) → fragments.fault_number f ≤ 39 → IsRefusedLate s asked f → FragmentNames s.pairs f
-names-late s asked (fragment.NoRoom f place) low late = absurd (omega (arith, low))
-names-late s asked (fragment.Pack f k place) low late = unfilled s asked f.now late.closure (record { fault = k; place = place }) late.why
-names-late s asked (fragment.Reloc f k section place) low late = unrelocated s asked f.now late.closure (record { fault = k; section = section; place = place }) late.why
-names-late s asked fragment.OutOfMemory low late = absurd (omega (arith, low))
+names-late : (rule : Rule) (s : ContextState) (asked : List ℕ) (f : FragmentFault) → fragments.fault_number f ≤ 39 → IsRefusedLateBy rule s asked f → FragmentNames s.pairs f
+names-late rule s asked (fragment.NoRoom f place) low late = absurd (omega (arith, low))
+names-late rule s asked (fragment.Pack f k place) low late = unfilled s asked f.now late.closure (record { fault = k; place = place }) late.why
+names-late rule s asked (fragment.Reloc f k section place) low late = unrelocated s asked f.now late.closure (record { fault = k; section = section; place = place }) late.why
+names-late rule s asked fragment.OutOfMemory low late = absurd (omega (arith, low))
 
-pub names_only_unsound : (s : ContextState) (asked : List ℕ) (f : PrepareFault) → fault_number f ≤ 39 → MayNotPrepare s asked f → Names s.pairs f
-names_only_unsound s asked fault.TooManyConnections low why = absurd (omega (arith, low))
-names_only_unsound s asked fault.RootMissing low why = absurd (omega (arith, low))
-names_only_unsound s asked (fault.Bind f) low why = names-bound s asked why.0.root f why.0.is low why.1
-names_only_unsound s asked (fault.TooManyBytes f) low why = absurd (omega (arith, low))
-names_only_unsound s asked (fault.TooManyStepsInAll f) low why = absurd (omega (arith, low))
-names_only_unsound s asked (fault.Fragment f) low why = names-late s asked f low why
-names_only_unsound s asked fault.OutOfMemory low why = absurd (omega (arith, low))
+pub names_only_unsound : (rule : Rule) (s : ContextState) (asked : List ℕ) (f : PrepareFault) → fault_number f ≤ 39 → MayNotPrepareBy rule s asked f → Names s.pairs f
+names_only_unsound rule s asked fault.TooManyConnections low why = absurd (omega (arith, low))
+names_only_unsound rule s asked fault.RootMissing low why = absurd (omega (arith, low))
+names_only_unsound rule s asked (fault.Bind f) low why = names-bound s asked why.0.root f why.0.is low why.1
+names_only_unsound rule s asked (fault.TooManyBytes f) low why = absurd (omega (arith, low))
+names_only_unsound rule s asked (fault.TooManyStepsInAll f) low why = absurd (omega (arith, low))
+names_only_unsound rule s asked (fault.Fragment f) low why = names-late rule s asked f low why
+names_only_unsound rule s asked fault.OutOfMemory low why = absurd (omega (arith, low))

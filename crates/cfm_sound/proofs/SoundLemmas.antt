@@ -25,7 +25,7 @@ use Rattle.pef_reloc.specs.declared.verifying.Sizes.{Sizes}
 use Rattle.pef_reloc.proofs.Laws.{refusal_at-verified}
 use Rattle.cfm_closure.specs.Stores.{Pair, pair_of}
 use Rattle.cfm_closure.specs.Fragments.{Fragment, container_at, fragment_of, import_count, loader_at, with_container, with_loader}
-use Rattle.cfm_memory.specs.Extents.{ArePlaced}
+use Rattle.cfm_memory.specs.Extents.{ArePlacedBy, Rule}
 use Rattle.cfm_memory.specs.Instances.{Layout}
 use Rattle.cfm_memory.specs.declared.place.Place.{Place}
 use Rattle.cfm_sound.proofs.ReadLemmas.{filled-len, header, header-at, header-in, is-container, low, section-is}
@@ -138,11 +138,11 @@ module _ (pairs : List Pair) (p : ℕ) (s : IsSound (pair_of pairs p).bytes) whe
       ap (λ o. option_and_then (λ (c : Contained). first_image_refusal c c.header.instantiated_section_count) o) container-is
       ∙ images-sound (pair_of pairs p).bytes s
 
-  pub sound-relocated : (all : List Present) (before empty : Layout) (places : List Place) → ArePlaced before (extents_in pairs p) places empty → reloc_refusal_in pairs (addresses_of pairs all (record { position = p; places = places })) p ≡ None
-  sound-relocated all before empty places placed =
+  pub sound-relocated : (rule : Rule) (all : List Present) (before empty : Layout) (places : List Place) → ArePlacedBy rule before (extents_in pairs p) places empty → reloc_refusal_in pairs (addresses_of pairs all (record { position = p; places = places })) p ≡ None
+  sound-relocated rule all before empty places placed =
       let a = addresses_at places (addresses_from pairs all p 0 (import_count pairs p)) in
       let count : import_count pairs p ≡ s.loader.header.import_count = ap (λ o. option_map_or (λ (l : Loaded). l.header.import_count) o 0) loader-is in
-      let sections : length a.sections ≡ s.container.header.instantiated_section_count = length-map places (λ (q : Place). q.address) ∙ length-there pairs p s.container before empty places container-is placed in
+      let sections : length a.sections ≡ s.container.header.instantiated_section_count = length-map places (λ (q : Place). q.address) ∙ length-there rule pairs p s.container before empty places container-is placed in
       let imports : length a.imports ≡ s.loader.header.import_count = length-addresses pairs all p 0 (import_count pairs p) ∙ count in
       ap (λ o. option_and_then (λ (c : Contained). option_and_then (λ (l : Loaded). first_reloc_refusal c l a) (loader_at pairs p)) o) container-is
       ∙ ap (λ o. option_and_then (λ (l : Loaded). first_reloc_refusal s.container l a) o) loader-is

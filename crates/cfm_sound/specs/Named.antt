@@ -3,9 +3,10 @@ use Rattle.std.specs.Prelude.{◌≡◌, ◌≢◌, ◌≤◌, ℕ, List, [], So
 use Rattle.cfm_closure.specs.Stores.{Pair, pair_of, place_of}
 use Rattle.cfm_closure.specs.declared.fault.BindFault.{BindFault}
 use Rattle.cfm_closure.specs.declared.fault.BindFault.TheVariants as bind
+use Rattle.cfm_memory.specs.Extents.{Rule}
 use Rattle.cfm_prepare.specs.Contexts.{ContextState}
 use Rattle.cfm_prepare.specs.Faults.{fault_number}
-use Rattle.cfm_prepare.specs.Steps.{MayNotPrepare}
+use Rattle.cfm_prepare.specs.Steps.{MayNotPrepareBy}
 use Rattle.cfm_prepare.specs.declared.fault.PrepareFault.{PrepareFault}
 use Rattle.cfm_prepare.specs.declared.fault.PrepareFault.TheVariants as fault
 use Rattle.cfm_prepare.specs.declared.fragment_fault.FragmentFault.{FragmentFault}
@@ -49,6 +50,7 @@ Names pairs (fault.TooManyStepsInAll f) = ⊥
 Names pairs (fault.Fragment f) = FragmentNames pairs f
 Names pairs fault.OutOfMemory = ⊥
 
--- each error of 1 to 39 that `Context::prepare` may report, in the words of its own clause, names such a fragment
+-- each error of 1 to 39 that `Context::prepare` or `prepare_at` may report, in the words of their own clauses, names such a
+-- fragment
 abbrev pub NamesOnlyUnsound : Type 0
-NamesOnlyUnsound = (s : ContextState) (asked : List ℕ) (f : PrepareFault) → fault_number f ≤ 39 → MayNotPrepare s asked f → Names s.pairs f
+NamesOnlyUnsound = (rule : Rule) (s : ContextState) (asked : List ℕ) (f : PrepareFault) → fault_number f ≤ 39 → MayNotPrepareBy rule s asked f → Names s.pairs f

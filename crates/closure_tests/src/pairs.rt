@@ -49,7 +49,7 @@ fn removed(rt: HostRuntime) {
     store.add(b"one", b"1").expect(&rt, "memory");
     store.add(b"two", b"2").expect(&rt, "memory");
     store.add(b"one", b"3").expect(&rt, "memory");
-    store.remove(rt.alloc(), 0).expect(&rt, "memory");
+    store.remove(0).expect(&rt, "memory");
     assert!(rt; store.len() == 3 && store.pair(0).is_none());
     assert!(rt; store.find(b"one") == Some(2) && store.find(b"two") == Some(1));
     assert!(rt; store.has_room(b"one"));

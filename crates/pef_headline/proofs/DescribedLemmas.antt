@@ -7,7 +7,7 @@ use Rattle.std.specs.Prelude.{Ok, if◌then◌else◌}
 use Rattle.std.specs.Result.{result_err, result_unwrap_or}
 use Rattle.std.proofs.lemmas.List.{length-map, take_all}
 use Rattle.std.proofs.lemmas.Option.{slice_get-get_or}
-use Rattle.cfm_memory.specs.Extents.{ArePlaced}
+use Rattle.cfm_memory.specs.Extents.{ArePlacedBy, Rule}
 use Rattle.cfm_memory.specs.Instances.{Layout}
 use Rattle.cfm_memory.specs.declared.place.Place.{Place}
 use Rattle.cfm_memory.proofs.Laws.{length-placed}
@@ -156,8 +156,8 @@ module _ (script : DescribedScript) (k : LinkedContainer) (linked : IsLinked scr
   length-extents = ap length extents_are ∙ length-map script.sections described_extent
 
   -- places of its sections give addresses, one for each import
-  pub addresses_are : (before empty : Layout) (imports : List ℕ) (places : List Place) → length imports ≡ length script.imports → ArePlaced before (extents_of c) places empty → AreAddresses script (addresses_at places imports)
-  addresses_are before empty imports places count placed = record {
-    sections = length-map places (λ (p : Place). p.address) ∙ length-placed before (extents_of c) places empty placed ∙ length-extents;
+  pub addresses_are : (rule : Rule) (before empty : Layout) (imports : List ℕ) (places : List Place) → length imports ≡ length script.imports → ArePlacedBy rule before (extents_of c) places empty → AreAddresses script (addresses_at places imports)
+  addresses_are rule before empty imports places count placed = record {
+    sections = length-map places (λ (p : Place). p.address) ∙ length-placed rule before (extents_of c) places empty placed ∙ length-extents;
     imports = count;
   }

@@ -6,7 +6,7 @@ use Rattle.cfm_closure.specs.Stores.{Pair, pair_of}
 use Rattle.cfm_closure.specs.Fragments.{Fragment, container_at, fragment_of, import_count, loader_at}
 use Rattle.cfm_prepare.specs.Images.{extents_of, first_image_refusal}
 use Rattle.cfm_prepare.specs.Prepared.{addresses_at, first_reloc_refusal, prepared_at}
-use Rattle.cfm_memory.specs.Extents.{ArePlaced}
+use Rattle.cfm_memory.specs.Extents.{ArePlacedBy, Rule}
 use Rattle.cfm_memory.specs.Instances.{Layout}
 use Rattle.cfm_memory.specs.declared.place.Place.{Place}
 use Rattle.cfm_memory.proofs.Laws.{length-placed}
@@ -16,7 +16,7 @@ use Rattle.cfm_prepare.specs.Options.{Choices}
 use Rattle.cfm_prepare.specs.Contexts.{ContextState, made_state}
 use Rattle.cfm_prepare.specs.Now.{IsPreparedNow}
 use Rattle.cfm_prepare.specs.Runs.{Runs, Step}
-use Rattle.cfm_prepare.specs.Steps.{Prepares}
+use Rattle.cfm_prepare.specs.Steps.{PreparesBy}
 use Rattle.cfm_prepare.proofs.Laws.{length-addresses, run-now, run-prepares}
 use Rattle.pef_loader.specs.Loader.{Loaded}
 use Rattle.pef_reloc.specs.Applied.{Addresses, address_of}
@@ -57,55 +57,59 @@ module _ (script : DescribedScript) (k : LinkedContainer) (linked : IsLinked scr
       ∙ ap (λ o. option_map_or (λ (l : Loaded). prepared_at linked_fragment.container l a i) o []) loader-is
 
   -- with places, its sections and its imports have addresses
-  addressed : (all : List Present) (before empty : Layout) (places : List Place) → ArePlaced before (extents_in pairs p) places empty → AreAddresses script (addresses_at places (addresses_from pairs all p 0 (import_count pairs p)))
-  addressed all before empty places placed =
-      addresses_are script k linked linked_fragment.container linked_fragment.loader read_as_linked.of before empty (addresses_from pairs all p 0 (import_count pairs p)) places (length-addresses pairs all p 0 (import_count pairs p) ∙ count-is)
-      (subst (λ es. ArePlaced before es places empty) extents-in placed)
+  addressed : (rule : Rule) (all : List Present) (before empty : Layout) (places : List Place) → ArePlacedBy rule before (extents_in pairs p) places empty → AreAddresses script (addresses_at places (addresses_from pairs all p 0 (import_count pairs p)))
+  addressed rule all before empty places placed =
+      addresses_are script k linked linked_fragment.container linked_fragment.loader read_as_linked.of rule before empty (addresses_from pairs all p 0 (import_count pairs p)) places (length-addresses pairs all p 0 (import_count pairs p) ∙ count-is)
+      (subst (λ es. ArePlacedBy rule before es places empty) extents-in placed)
 
   -- so it is described, in the memory that it was placed in
-  pub described-from : (s : ContextState) (now : IsPreparedNow pairs s p) → (d : IsDescribedNow pairs s script p) × (d.before ≡ now.before)
+  pub described-from : (s : ContextState) (now : IsPreparedNow pairs s p) → (d : IsDescribedNow pairs s script p) × (d.before ≡ now.before) × (d.rule ≡ now.rule)
   described-from s now =
       let places = places_of s.present p in
       let imports = addresses_from pairs s.present p 0 (import_count pairs p) in
-      let here : ArePlaced now.before (extents_of linked_fragment.container) places now.empty = subst (λ es. ArePlaced now.before es places now.empty) extents-in now.placed in
-      let sizes = length-placed now.before (extents_of linked_fragment.container) places now.empty here ∙ length-extents script k linked linked_fragment.container linked_fragment.loader read_as_linked.of in
-      let are = addressed s.present now.before now.empty places now.placed in (
+      let here : ArePlacedBy now.rule now.before (extents_of linked_fragment.container) places now.empty = subst (λ es. ArePlacedBy now.rule now.before es places now.empty) extents-in now.placed in
+      let sizes = length-placed now.rule now.before (extents_of linked_fragment.container) places now.empty here ∙ length-extents script k linked linked_fragment.container linked_fragment.loader read_as_linked.of in
+      let are = addressed now.rule s.present now.before now.empty places now.placed in (
         record {
+          rule = now.rule;
           before = now.before;
           empty = now.empty;
-          placed = subst (λ es. ArePlaced now.before es places now.empty) (extents_are script k linked linked_fragment.container linked_fragment.loader read_as_linked.of) here;
+          placed = subst (λ es. ArePlacedBy now.rule now.before es places now.empty) (extents_are script k linked linked_fragment.container linked_fragment.loader read_as_linked.of) here;
           stand = λ i under.
               now.stand i under
               ∙ ap Some (prepared-in (addresses_at places imports) i ∙ prepared_is script k linked linked_fragment.container linked_fragment.loader read_as_linked.of (addresses_at places imports) are i (omega (arith, under, sizes))
               ∙ ap (λ n. described_at (address_of (addresses_at places (addresses_from pairs s.present p 0 n))) script i) count-is);
         },
         refl,
+        refl,
       )
 
-  -- whichever the memory is in which it found its places
-  described-in : (s : ContextState) (before : Layout) → IsPreparedNow pairs s p → FoundPlaces pairs before p (places_of s.present p) → (d : IsDescribedNow pairs s script p) × (d.before ≡ before)
-  described-in s before now found = described-from s (record { before = before; empty = found.0; placed = found.1; stand = now.stand })
+  -- whichever the rule and the memory are by which it found its places
+  described-in : (s : ContextState) (rule : Rule) (before : Layout) → IsPreparedNow pairs s p → FoundPlaces rule pairs before p (places_of s.present p) → (d : IsDescribedNow pairs s script p) × (d.before ≡ before) × (d.rule ≡ rule)
+  described-in s rule before now found = described-from s (record { rule = rule; before = before; empty = found.0; placed = found.1; stand = now.stand })
 
 -- after any list of steps, in the memory of the last preparation before which it wasn't present
 pub present-described : (script : DescribedScript) (k : LinkedContainer) (pairs : List Pair) (choices : Choices) (steps : List Step) (s : ContextState) (p : ℕ) → IsLinked script k → (pair_of s.pairs p).bytes ≡ k.bytes → (run : Runs (made_state pairs choices) steps s)
-    → is_present s.present p ≡ true → (d : IsDescribedNow s.pairs s script p) × WasPlaced steps (made_state pairs choices) s run p d.before
+    → is_present s.present p ≡ true → (d : IsDescribedNow s.pairs s script p) × WasPlaced steps (made_state pairs choices) s run p d.before d.rule
 present-described script k pairs choices steps s p linked holds run is =
     let was = was-found pairs choices p steps s run is in
-    let d = described-in script k linked s.pairs p holds s was.before (run-now pairs choices steps s p run is) was.found in (d.0, subst (WasPlaced steps (made_state pairs choices) s run p) (sym d.1) was.was)
+    let d = described-in script k linked s.pairs p holds s was.rule was.before (run-now pairs choices steps s p run is) was.found in
+    (d.0, subst (WasPlaced steps (made_state pairs choices) s run p d.0.before) (sym d.2) (subst (λ before. WasPlaced steps (made_state pairs choices) s run p before was.rule) (sym d.1) was.was))
 
 -- after a preparation of a closure that has it, in that of this preparation, if it wasn't present
-pub closure-described : (script : DescribedScript) (k : LinkedContainer) (pairs : List Pair) (choices : Choices) (steps : List Step) (s t : ContextState) (name : List ℕ) (number p : ℕ) → IsLinked script k → (pair_of t.pairs p).bytes ≡ k.bytes → Runs (made_state pairs choices) steps s
-    → (step : Prepares s name number t) → Contains step.closure.closed.order p → (is_present t.present p ≡ true) × (d : IsDescribedNow t.pairs t script p) × IsPlacedOrKept s t p d.before
-closure-described script k pairs choices steps s t name number p linked holds run step there = by (is_present s.present p) refl
+pub closure-described : (rule : Rule) (script : DescribedScript) (k : LinkedContainer) (pairs : List Pair) (choices : Choices) (steps : List Step) (s t : ContextState) (name : List ℕ) (number p : ℕ) → IsLinked script k → (pair_of t.pairs p).bytes ≡ k.bytes → Runs (made_state pairs choices) steps s
+    → (step : PreparesBy rule s name number t) → Contains step.closure.closed.order p → (is_present t.present p ≡ true) × (d : IsDescribedNow t.pairs t script p) × IsPlacedOrKept rule s t p d.before d.rule
+closure-described rule script k pairs choices steps s t name number p linked holds run step there = by (is_present s.present p) refl
   where
     now : (is_present t.present p ≡ true) × IsPreparedNow t.pairs t p
     now = run-prepares pairs choices steps s t name number p run step there
 
-    by : (b : Bool) → is_present s.present p ≡ b → (is_present t.present p ≡ true) × (d : IsDescribedNow t.pairs t script p) × IsPlacedOrKept s t p d.before
-    by true was = (now.0, (described-from script k linked t.pairs p holds t now.1).0, inr (still s t name number p step was))
+    by : (b : Bool) → is_present s.present p ≡ b → (is_present t.present p ≡ true) × (d : IsDescribedNow t.pairs t script p) × IsPlacedOrKept rule s t p d.before d.rule
+    by true was = (now.0, (described-from script k linked t.pairs p holds t now.1).0, inr (still rule s t name number p step was))
     by false absent =
-        let new = begun s t name number p step absent now.0 in
-        let d = described-in script k linked t.pairs p holds t new.before now.1 new.found in (now.0, d.0, inl (subst (IsPlacedAnew s t p) (sym d.1) new.anew))
+        let new = begun rule s t name number p step absent now.0 in
+        let d = described-in script k linked t.pairs p holds t new.own new.before now.1 new.found in
+        (now.0, d.0, inl (subst (IsPlacedAnew rule s t p d.0.before) (sym d.2) (subst (λ before. IsPlacedAnew rule s t p before new.own) (sym d.1) new.anew)))
 
 -- such a fragment is read, and neither an image nor a relocation header of it is refused
 pub linked-read : (script : DescribedScript) (k : LinkedContainer) (pairs : List Pair) (p : ℕ) → IsLinked script k → (pair_of pairs p).bytes ≡ k.bytes → (f : Fragment) × (fragment_of pairs p ≡ Ok f)
@@ -117,11 +121,11 @@ linked-filled script k pairs p linked holds =
     ap (λ o. option_and_then (λ (c : Contained). first_image_refusal c c.header.instantiated_section_count) o) (container-is script k linked pairs p holds)
     ∙ images_sound script k linked f.container f.loader (read_as_linked script k linked pairs p holds).of
 
-pub linked-relocated : (script : DescribedScript) (k : LinkedContainer) (pairs : List Pair) (p : ℕ) (all : List Present) (before empty : Layout) (places : List Place) → IsLinked script k → (pair_of pairs p).bytes ≡ k.bytes → ArePlaced before (extents_in pairs p) places empty
+pub linked-relocated : (rule : Rule) (script : DescribedScript) (k : LinkedContainer) (pairs : List Pair) (p : ℕ) (all : List Present) (before empty : Layout) (places : List Place) → IsLinked script k → (pair_of pairs p).bytes ≡ k.bytes → ArePlacedBy rule before (extents_in pairs p) places empty
     → reloc_refusal_in pairs (addresses_of pairs all (record { position = p; places = places })) p ≡ None
-linked-relocated script k pairs p all before empty places linked holds placed =
+linked-relocated rule script k pairs p all before empty places linked holds placed =
     let f = read_fragment script k linked pairs p in
     let a = addresses_at places (addresses_from pairs all p 0 (import_count pairs p)) in
     ap (λ o. option_and_then (λ (c : Contained). option_and_then (λ (l : Loaded). first_reloc_refusal c l a) (loader_at pairs p)) o) (container-is script k linked pairs p holds)
     ∙ ap (λ o. option_and_then (λ (l : Loaded). first_reloc_refusal f.container l a) o) (loader-is script k linked pairs p holds)
-    ∙ headers_sound script k linked f.container f.loader (read_as_linked script k linked pairs p holds).of a (addressed script k linked pairs p holds all before empty places placed)
+    ∙ headers_sound script k linked f.container f.loader (read_as_linked script k linked pairs p holds).of a (addressed script k linked pairs p holds rule all before empty places placed)

@@ -1,13 +1,11 @@
 -- What the readers of a context return for a fragment that has the described memory.
-use Rattle.std.proofs.Common.{◌≡◌, ℕ, zero, suc, ◌+◌, ◌<◌, ◌≤◌, ◌==◌, List, [], ◌∷◌, ◌++◌, Bool, Option, None, Some, Ok, Contains, cond, false, get_or, length, option_map, true, refl, sym, ap, ap₂, subst, ◌∙◌, arith}
-use Rattle.std.specs.List.{AllByRecursion, slice_get}
+use Rattle.std.proofs.Common.{◌≡◌, ℕ, zero, suc, ◌+◌, ◌<◌, ◌≤◌, List, Option, None, Some, Ok, Contains, get_or, length, option_map, refl, sym, ap, subst, ◌∙◌, arith}
+use Rattle.std.specs.List.{slice_get}
 use Rattle.std.specs.Option.{option_and_then}
 use Rattle.std.specs.Result.{result_unwrap_or}
-use Rattle.std.proofs.lemmas.Bool.{eq-eqb, ne_eqb}
 use Rattle.std.proofs.lemmas.List.{get_or-map, length-map}
 use Rattle.std.proofs.lemmas.List.Elements.{Contains-push}
 use Rattle.std.proofs.lemmas.Option.{slice_get-get_or, slice_get_past}
-use Rattle.pef_words.proofs.Laws.Lists.{all-append, all-weaker}
 use Rattle.cfm_closure.specs.Promises.{LiesInside}
 use Rattle.cfm_closure.specs.Stores.{Pair, place_of}
 use Rattle.cfm_closure.specs.Targets.{target_of}
@@ -15,19 +13,18 @@ use Rattle.cfm_closure.specs.Fragments.{import_count}
 use Rattle.cfm_closure.specs.declared.targets.Target.{Target}
 use Rattle.cfm_closure.specs.declared.targets.Target.TheVariants.{Absolute, At}
 use Rattle.cfm_closure.proofs.Laws.{closed-complete, closed-root, closed-target, place_of-below, target-inside}
-use Rattle.cfm_memory.specs.Extents.{Stand, place_at}
+use Rattle.cfm_memory.specs.Extents.{Rule, Stand, place_at}
 use Rattle.cfm_memory.specs.Instances.{Layout}
 use Rattle.cfm_memory.specs.declared.place.Place.{Place}
 use Rattle.cfm_memory.proofs.Laws.{length-placed}
 use Rattle.cfm_prepare.specs.Addresses.{addresses_from, import_address, section_of, target_address}
-use Rattle.cfm_prepare.specs.Contexts.{ContextState, Open, made_state, open_of, open_without, opened}
+use Rattle.cfm_prepare.specs.Contexts.{ContextState, Open}
 use Rattle.cfm_prepare.specs.Fragments.{Present, places_of, present_of}
 use Rattle.cfm_prepare.specs.Now.{IsPreparedNow}
 use Rattle.cfm_prepare.specs.Prepared.{addresses_at}
-use Rattle.cfm_prepare.specs.Runs.{Runs, Step, closed, freed, prepared, reserved, stored, taken_out}
 use Rattle.cfm_prepare.specs.Sections.{held_at, section_present}
-use Rattle.cfm_prepare.specs.Steps.{Closes, Prepares}
-use Rattle.cfm_prepare.proofs.Laws.{container-of, length-there, run-prepares}
+use Rattle.cfm_prepare.specs.Steps.{PreparesBy}
+use Rattle.cfm_prepare.proofs.Laws.{container-of, length-there, run-opened, run-prepares}
 use Rattle.pef_reloc.specs.Applied.{address_of}
 use Rattle.pef_reloc.specs.declared.fixup.Base.{Base}
 use Rattle.pef_reloc.specs.declared.fixup.Base.TheVariants.{Import, Section}
@@ -55,7 +52,7 @@ import-at pairs all p from (suc n) (suc j) under =
     import-at pairs all p (from + 1) n j (omega arith) ∙ ap (import_address pairs all p) e
 
 -- the fragments of a closure that was prepared
-module _ (s t : ContextState) (name : List ℕ) (number : ℕ) (reached : IsReached s) (step : Prepares s name number t) where
+module _ (rule : Rule) (s t : ContextState) (name : List ℕ) (number : ℕ) (reached : IsReached s) (step : PreparesBy rule s name number t) where
   abbrev order : List ℕ
   order = step.closure.closed.order
 
@@ -70,7 +67,7 @@ module _ (s t : ContextState) (name : List ℕ) (number : ℕ) (reached : IsReac
   target-read (Some (At q section offset)) inside =
       let now = now-of q inside.member in
       let c = container-of s.pairs q inside.loader inside.read in
-      let count : length (places_of t.present q) ≡ c.0.header.instantiated_section_count = length-there s.pairs q c.0 now.before now.empty (places_of t.present q) c.1 now.placed in
+      let count : length (places_of t.present q) ≡ c.0.header.instantiated_section_count = length-there now.rule s.pairs q c.0 now.before now.empty (places_of t.present q) c.1 now.placed in
       let size = c.2 in
       let below = inside.below in
       let under : section < length (places_of t.present q) = omega arith in (
@@ -94,7 +91,7 @@ module _ (s t : ContextState) (name : List ℕ) (number : ℕ) (reached : IsReac
 
   module _ (p : ℕ) (script : DescribedScript) (linked : HasLinked s.pairs p script) (there : Contains order p) where
     described : IsDescribedNow t.pairs t script p
-    described = (prepared-present script s t name number p reached linked step there).0.memory
+    described = (prepared-present rule script s t name number p reached linked step there).0.memory
 
     abbrev places : List Place
     places = places_of t.present p
@@ -103,7 +100,7 @@ module _ (s t : ContextState) (name : List ℕ) (number : ℕ) (reached : IsReac
     addresses = address_of (addresses_at places (addresses_from t.pairs t.present p 0 (length script.imports)))
 
     count-places : length places ≡ length script.sections
-    count-places = length-placed described.before (described_extents script) places described.empty described.placed ∙ length-map script.sections described_extent
+    count-places = length-placed described.rule described.before (described_extents script) places described.empty described.placed ∙ length-map script.sections described_extent
 
     read-section : (k : ℕ) → k < length script.sections → fragment_reader t p k ≡ Some (addresses (Section k), described_at addresses script k)
     read-section k below =
@@ -128,67 +125,21 @@ module _ (s t : ContextState) (name : List ℕ) (number : ℕ) (reached : IsReac
     reads : ReadsDescribed t p (fragment_reader t p) script
     reads = record { address = addresses; sections = read-section; past = read-past; imports = read-import }
 
-pub reads-fragment : (text : List ℕ) (s t : ContextState) (name : List ℕ) (number p : ℕ) → IsReached s → (has : HasLinkedText s.pairs p text) → (step : Prepares s name number t) → Contains step.closure.closed.order p → ReadsDescribed t p (fragment_reader t p) has.script
-reads-fragment text s t name number p reached has step there = reads s t name number reached step p has.script has.linked there
-
--- open connections have numbers that were given
-abbrev AreGiven : ContextState → Type 0
-AreGiven s = AllByRecursion (λ (o : Open). o.number < s.given) s.connections
-
-all-without : (P : Open → Type 0) (os : List Open) (number : ℕ) → AllByRecursion P os → AllByRecursion P (open_without os number)
-all-without P [] number all = tt
-all-without P (o ∷ os) number all = by (o.number == number) (all-without P os number all.1)
-  where
-    by : (b : Bool) → AllByRecursion P (open_without os number) → AllByRecursion P (cond b os (o ∷ open_without os number))
-    by true rest = all.1
-    by false rest = (all.0, rest)
-
-given-prepare : (s t : ContextState) (name : List ℕ) (number : ℕ) → AreGiven s → Prepares s name number t → AreGiven t
-given-prepare s t name number given step =
-    let B : Open → Type 0 = λ o. o.number < s.given in
-    let G : Open → Type 0 = λ o. o.number < t.given in
-    let o : Open = opened s step.closure.has.root step.closure.closed in
-    let one = step.given in
-    let more : (x : Open) → x.number < s.given → x.number < t.given = λ x less. omega (arith, less, one) in
-    let new : s.given < t.given = omega (arith, one) in
-    subst (AllByRecursion G) (sym step.connections) (all-append G s.connections (o ∷ []) (all-weaker B G s.connections more given) (new, tt))
-
-given-close : (s t : ContextState) (number : ℕ) → AreGiven s → Closes s number t → AreGiven t
-given-close s t number given step =
-    let G : Open → Type 0 = λ o. o.number < t.given in
-    let same : AllByRecursion G s.connections = subst (λ n. AllByRecursion (λ (o : Open). o.number < n) s.connections) (sym step.given) given in
-    subst (AllByRecursion G) (sym step.connections) (all-without G s.connections number same)
-
-given-all : (steps : List Step) (s t : ContextState) → AreGiven s → Runs s steps t → AreGiven t
-given-all [] s t given run = subst AreGiven (sym run) given
-given-all (prepared name number ∷ steps) s t given run = given-all steps run.0 t (given-prepare s run.0 name number given run.1) run.2
-given-all (closed number ∷ steps) s t given run = given-all steps run.0 t (given-close s run.0 number given run.1) run.2
-given-all (stored name bytes ∷ steps) s t given run = given-all steps run.0 t (subst AreGiven (sym run.1.is) given) run.2
-given-all (taken_out name ∷ steps) s t given run = given-all steps run.0 t (subst AreGiven (sym run.1.is) given) run.2
-given-all (reserved address size ∷ steps) s t given run = given-all steps run.0 t (subst AreGiven (sym run.1.is) given) run.2
-given-all (freed address size ∷ steps) s t given run = given-all steps run.0 t (subst AreGiven (sym run.1.is) given) run.2
-
--- so a new number is found, after all earlier ones
-open-last : (os : List Open) (o : Open) (n : ℕ) → AllByRecursion (λ (x : Open). x.number < n) os → o.number ≡ n → open_of (os ++ o ∷ []) n ≡ Some o
-open-last [] o n given same = ap (λ b. cond b (Some o) None) (eq-eqb o.number n same)
-open-last (x ∷ os) o n given same =
-    let below = given.0 in
-    ap (λ b. cond b (Some x) (open_of (os ++ o ∷ []) n)) (ne_eqb x.number n (λ e. absurd (omega arith))) ∙ open-last os o n given.1 same
+pub reads-fragment : (text : List ℕ) (s t : ContextState) (rule : Rule) (name : List ℕ) (number p : ℕ) → IsReached s → (has : HasLinkedText s.pairs p text) → (step : PreparesBy rule s name number t) → Contains step.closure.closed.order p → ReadsDescribed t p (fragment_reader t p) has.script
+reads-fragment text s t rule name number p reached has step there = reads rule s t name number reached step p has.script has.linked there
 
 -- the root of a connection is a fragment of its closure
-pub reads-root : (text : List ℕ) (s t : ContextState) (name : List ℕ) (number p : ℕ) → IsReached s → (has : HasLinkedText s.pairs p text) → Prepares s name number t → place_of s.pairs name ≡ Some p → ReadsDescribed t p (root_reader t number) has.script
-reads-root text s t name number p reached has step place =
+pub reads-root : (text : List ℕ) (s t : ContextState) (rule : Rule) (name : List ℕ) (number p : ℕ) → IsReached s → (has : HasLinkedText s.pairs p text) → PreparesBy rule s name number t → place_of s.pairs name ≡ Some p → ReadsDescribed t p (root_reader t number) has.script
+reads-root text s t rule name number p reached has step place =
     let root = step.closure.has.root in
     let found : place_of s.pairs name ≡ Some root = step.closure.has.is in
     let same : root ≡ p = cc in
     let ends = closed-root s.pairs root step.closure.closed (place_of-below s.pairs name root found) step.closure.is in
     let there : Contains step.closure.closed.order p = subst (Contains step.closure.closed.order) same (subst (λ order. Contains order root) (sym ends.1) (Contains-push ends.0 root)) in
-    let o : Open = opened s root step.closure.closed in
-    let given : AreGiven s = given-all reached.steps (made_state reached.pairs reached.choices) s tt reached.run in
-    let open_is : open_of t.connections number ≡ Some o = ap₂ open_of step.connections step.number ∙ open-last s.connections o s.given given refl in
+    let open_is = run-opened reached.pairs reached.choices reached.steps s t name number reached.run step in
     let at : (k : ℕ) → root_reader t number k ≡ fragment_reader t p k =
     λ k. (ap (option_and_then (λ (o : Open). section_present t.memory t.present o.root k)) open_is ∙ ap (λ q. section_present t.memory t.present q k) same) in
-    let r = reads s t name number reached step p has.script has.linked there in
+    let r = reads rule s t name number reached step p has.script has.linked there in
     record {
       address = r.address;
       sections = λ k under. at k ∙ r.sections k under;

@@ -8,17 +8,18 @@ use Rattle.cfm_closure.specs.declared.fault.BindFault.{BindFault}
 use Rattle.cfm_closure.specs.declared.fault.BindFault.TheVariants as bind
 use Rattle.cfm_closure.specs.Closures.{Closed, closed_of}
 use Rattle.cfm_closure.specs.Promises.{IsOfUnread}
+use Rattle.cfm_memory.specs.Extents.{Rule}
 use Rattle.cfm_memory.specs.Instances.{Layout}
 use Rattle.cfm_prepare.specs.Addresses.{addresses_of}
 use Rattle.cfm_prepare.specs.Fragments.{Present, image_refusal_in, positions, reloc_refusal_in}
-use Rattle.cfm_prepare.specs.Placing.{LacksRoom}
-use Rattle.cfm_prepare.specs.Refusals.{HasBadImage, HasBadProgram}
+use Rattle.cfm_prepare.specs.Placing.{LacksPlaceBy}
+use Rattle.cfm_prepare.specs.Refusals.{HasBadImageBy, HasBadProgramBy}
 use Rattle.cfm_prepare.specs.declared.fragment_fault.FragmentFault.TheVariants as fragment
-use Rattle.cfm_prepare.proofs.Laws.{HasRefusedHeader, HasRefusedImage, bad-image, bad-program, lacks-room, not-past}
+use Rattle.cfm_prepare.proofs.Laws.{HasRefusedHeader, HasRefusedImage, bad-image, bad-program, lacks-room, not-past, same-closed}
 use Rattle.cfm_prepare.specs.Contexts.{ContextState}
 use Rattle.cfm_prepare.specs.Faults.{fault_number}
 use Rattle.cfm_prepare.specs.Bounds.{PassesAt, bytes_in, steps_in}
-use Rattle.cfm_prepare.specs.Steps.{HasClosure, HasRoot, IsWithin, MayNotPrepare, new_of}
+use Rattle.cfm_prepare.specs.Steps.{HasClosure, HasRoot, IsWithin, MayNotPrepareBy, new_of}
 use Rattle.cfm_prepare.specs.declared.fault.PrepareFault.{PrepareFault}
 use Rattle.cfm_prepare.specs.declared.fault.PrepareFault.TheVariants as fault
 use Rattle.pef_format.specs.declared.place.Place.{Place}
@@ -26,7 +27,7 @@ use Rattle.pef_loader.specs.declared.fault.LoaderFault.{LoaderFault}
 use Rattle.cfm_prepare.specs.declared.image_fault.ImageFault.{ImageFault}
 use Rattle.pef_loader.specs.declared.program_fault.ProgramFault.{ProgramFault}
 use Rattle.pef_views.specs.declared.fault.ViewFault.{ViewFault}
-use Rattle.pef_headline.specs.Headline.{IsForeign, OthersAreSound}
+use Rattle.pef_headline.specs.Headline.{IsForeign, OthersAreSoundBy}
 use Rattle.pef_headline.specs.Others.{HasForeign, NamesForeign}
 use Rattle.pef_headline.proofs.NowLemmas.{linked-filled, linked-read, linked-relocated}
 
@@ -40,45 +41,35 @@ image-foreign pairs ps name r script linked =
 header-foreign : (pairs : List Pair) (all fs : List Present) (name : List ℕ) (r : HasRefusedHeader pairs all fs name) → IsForeign pairs r.one.position
 header-foreign pairs all fs name r script linked =
     let none : reloc_refusal_in pairs (addresses_of pairs all r.one) r.one.position ≡ None =
-    linked-relocated script linked.container pairs r.one.position all r.before r.after r.one.places linked.linked linked.bytes r.placed in
+    linked-relocated r.rule script linked.container pairs r.one.position all r.before r.after r.one.places linked.linked linked.bytes r.placed in
     let some : reloc_refusal_in pairs (addresses_of pairs all r.one) r.one.position ≡ Some r.fault = r.refused in
     absurd (cc)
 
-pub refused-image : (pairs : List Pair) (m : Layout) (new : List ℕ) (name : List ℕ) (k : ImageFault) → HasBadImage pairs m new name k → HasForeign pairs new name
+pub refused-image : {rule : Rule} (pairs : List Pair) (m : Layout) (new : List ℕ) (name : List ℕ) (k : ImageFault) → HasBadImageBy rule pairs m new name k → HasForeign pairs new name
 refused-image pairs m new name k bad =
     let r = bad-image pairs bad.fresh name k bad.first in
     subst (λ ps. HasForeign pairs ps name) bad.are.are (record { position = r.position; member = r.member; is = r.is; foreign = image-foreign pairs (positions bad.fresh) name r })
 
-pub refused-program : (pairs : List Pair) (there : List Present) (m : Layout) (new : List ℕ) (name : List ℕ) (k : ProgramFault) → HasBadProgram pairs there m new name k → HasForeign pairs new name
-refused-program pairs there m new name k bad =
-    let r = bad-program pairs (there ++ bad.fresh) m bad.are.empty bad.fresh name k bad.are.placed bad.first in
+pub refused-program : {rule : Rule} (pairs : List Pair) (there : List Present) (m : Layout) (new : List ℕ) (name : List ℕ) (k : ProgramFault) → HasBadProgramBy rule pairs there m new name k → HasForeign pairs new name
+refused-program {rule} pairs there m new name k bad =
+    let r = bad-program rule pairs (there ++ bad.fresh) m bad.are.empty bad.fresh name k bad.are.placed bad.first in
     subst (λ ps. HasForeign pairs ps name) bad.are.are (record { position = r.one.position; member = r.position; is = r.is; foreign = header-foreign pairs (there ++ bad.fresh) bad.fresh name r })
 
 -- so if the others are sound, none is refused
-pub no-image : (s : ContextState) (c : Closed) (name : List ℕ) (k : ImageFault) → OthersAreSound s c → HasBadImage s.pairs s.memory (new_of s c) name k → ⊥
-no-image s c name k sound bad =
+pub no-image : (rule : Rule) (s : ContextState) (c : Closed) (name : List ℕ) (k : ImageFault) → OthersAreSoundBy rule s c → HasBadImageBy rule s.pairs s.memory (new_of s c) name k → ⊥
+no-image rule s c name k sound bad =
     let r = bad-image s.pairs bad.fresh name k bad.first in
     let none : image_refusal_in s.pairs r.position ≡ None = sound.images r.position (subst (λ ps. Contains ps r.position) bad.are.are r.member) (image-foreign s.pairs (positions bad.fresh) name r) in
     let some : image_refusal_in s.pairs r.position ≡ Some r.fault = r.refused in
     absurd (cc)
 
-pub no-header : (s : ContextState) (c : Closed) (name : List ℕ) (k : ProgramFault) → OthersAreSound s c → HasBadProgram s.pairs s.present s.memory (new_of s c) name k → ⊥
-no-header s c name k sound bad =
+pub no-header : (rule : Rule) (s : ContextState) (c : Closed) (name : List ℕ) (k : ProgramFault) → OthersAreSoundBy rule s c → HasBadProgramBy rule s.pairs s.present s.memory (new_of s c) name k → ⊥
+no-header rule s c name k sound bad =
     let all = s.present ++ bad.fresh in
-    let r = bad-program s.pairs all s.memory bad.are.empty bad.fresh name k bad.are.placed bad.first in
+    let r = bad-program rule s.pairs all s.memory bad.are.empty bad.fresh name k bad.are.placed bad.first in
     let none : reloc_refusal_in s.pairs (addresses_of s.pairs all r.one) r.one.position ≡ None = sound.headers bad.fresh r.one bad.are r.member (header-foreign s.pairs all bad.fresh name r) in
     let some : reloc_refusal_in s.pairs (addresses_of s.pairs all r.one) r.one.position ≡ Some r.fault = r.refused in
     absurd (cc)
-
--- a fragment has one closure
-pub same-closed : (s : ContextState) (name : List ℕ) (a b : HasClosure s name) → a.closed ≡ b.closed
-same-closed s name a b =
-    let here : place_of s.pairs name ≡ Some a.has.root = a.has.is in
-    let there : place_of s.pairs name ≡ Some b.has.root = b.has.is in
-    let roots : a.has.root ≡ b.has.root = cc in
-    let one : closed_of s.pairs a.has.root ≡ Ok a.closed = a.is in
-    let other : closed_of s.pairs a.has.root ≡ Ok b.closed = ap (closed_of s.pairs) roots ∙ b.is in
-    cc
 
 -- if a fragment has a closure, it isn't refused for having none
 bound : (s : ContextState) (name : List ℕ) (closure : HasClosure s name) (f : BindFault) (has : HasRoot s name) → FailsAs f (closed_of s.pairs has.root) → binds.fault_number f ≡ 99
@@ -103,29 +94,29 @@ bound s name closure f has fails = by f (subst (FailsAs f) (ap (closed_of s.pair
 
 -- if its libraries resolve, its sections find room and the others are sound, a root is refused only for a failed
 -- allocation
-pub refused-bound : (s : ContextState) (name : List ℕ) (closure : HasClosure s name) (f : PrepareFault) → IsWithin s (new_of s closure.closed) → ((other : List ℕ) → LacksRoom s.pairs s.memory (new_of s closure.closed) other → ⊥) → OthersAreSound s closure.closed → MayNotPrepare s name f → fault_number f ≡ 99
-refused-bound s name closure fault.TooManyConnections within rooms sound why = absurd (omega (arith, why, closure.has.left))
-refused-bound s name closure fault.RootMissing within rooms sound why = let there : place_of s.pairs name ≡ Some closure.has.root = closure.has.is in let none : place_of s.pairs name ≡ None = why.1 in absurd (cc)
-refused-bound s name closure (fault.Bind f) within rooms sound why = bound s name closure f why.0 why.1
-refused-bound s name closure (fault.TooManyBytes f) within rooms sound why =
+pub refused-bound : (rule : Rule) (s : ContextState) (name : List ℕ) (closure : HasClosure s name) (f : PrepareFault) → IsWithin s (new_of s closure.closed) → ((other : List ℕ) → LacksPlaceBy rule s.pairs s.memory (new_of s closure.closed) other → ⊥) → OthersAreSoundBy rule s closure.closed → MayNotPrepareBy rule s name f → fault_number f ≡ 99
+refused-bound rule s name closure fault.TooManyConnections within rooms sound why = absurd (omega (arith, why, closure.has.left))
+refused-bound rule s name closure fault.RootMissing within rooms sound why = let there : place_of s.pairs name ≡ Some closure.has.root = closure.has.is in let none : place_of s.pairs name ≡ None = why.1 in absurd (cc)
+refused-bound rule s name closure (fault.Bind f) within rooms sound why = bound s name closure f why.0 why.1
+refused-bound rule s name closure (fault.TooManyBytes f) within rooms sound why =
     let same = same-closed s name why.closure closure in
     let past = subst (λ (c : Closed). PassesAt s.bounds.bytes (bytes_in s.pairs s.memory.granule) (new_of s c) why.position) same why.passes in
     absurd (not-past s.bounds.bytes (bytes_in s.pairs s.memory.granule) (new_of s closure.closed) why.position within.bytes past)
-refused-bound s name closure (fault.TooManyStepsInAll f) within rooms sound why =
+refused-bound rule s name closure (fault.TooManyStepsInAll f) within rooms sound why =
     let same = same-closed s name why.closure closure in
     let past = subst (λ (c : Closed). PassesAt s.bounds.steps (steps_in s.pairs) (new_of s c) why.position) same why.passes in
     absurd (not-past s.bounds.steps (steps_in s.pairs) (new_of s closure.closed) why.position within.steps past)
-refused-bound s name closure (fault.Fragment (fragment.NoRoom f place)) within rooms sound why =
-    let lacks = lacks-room s.pairs s.memory (new_of s why.closure.closed) f.now place why.why in
-    absurd (rooms f.now (subst (λ (c : Closed). LacksRoom s.pairs s.memory (new_of s c) f.now) (same-closed s name why.closure closure) lacks))
-refused-bound s name closure (fault.Fragment (fragment.Pack f k place)) within rooms sound why =
+refused-bound rule s name closure (fault.Fragment (fragment.NoRoom f place)) within rooms sound why =
+    let lacks = lacks-room rule s.pairs s.memory (new_of s why.closure.closed) f.now place why.why in
+    absurd (rooms f.now (subst (λ (c : Closed). LacksPlaceBy rule s.pairs s.memory (new_of s c) f.now) (same-closed s name why.closure closure) lacks))
+refused-bound rule s name closure (fault.Fragment (fragment.Pack f k place)) within rooms sound why =
     let image : ImageFault = record { fault = k; place = place } in
-    absurd (no-image s closure.closed f.now image sound (subst (λ (c : Closed). HasBadImage s.pairs s.memory (new_of s c) f.now image) (same-closed s name why.closure closure) why.why))
-refused-bound s name closure (fault.Fragment (fragment.Reloc f k section place)) within rooms sound why =
+    absurd (no-image rule s closure.closed f.now image sound (subst (λ (c : Closed). HasBadImageBy rule s.pairs s.memory (new_of s c) f.now image) (same-closed s name why.closure closure) why.why))
+refused-bound rule s name closure (fault.Fragment (fragment.Reloc f k section place)) within rooms sound why =
     let program : ProgramFault = record { fault = k; section = section; place = place } in
-    absurd (no-header s closure.closed f.now program sound (subst (λ (c : Closed). HasBadProgram s.pairs s.present s.memory (new_of s c) f.now program) (same-closed s name why.closure closure) why.why))
-refused-bound s name closure (fault.Fragment fragment.OutOfMemory) within rooms sound why = refl
-refused-bound s name closure fault.OutOfMemory within rooms sound why = refl
+    absurd (no-header rule s closure.closed f.now program sound (subst (λ (c : Closed). HasBadProgramBy rule s.pairs s.present s.memory (new_of s c) f.now program) (same-closed s name why.closure closure) why.why))
+refused-bound rule s name closure (fault.Fragment fragment.OutOfMemory) within rooms sound why = refl
+refused-bound rule s name closure fault.OutOfMemory within rooms sound why = refl
 
 -- a fragment that isn't read isn't linked, and it is the one that its name means
 unread : (pairs : List Pair) (root : ℕ) (asked name : List ℕ) (r : BindRefusal) → place_of pairs asked ≡ Some root → IsOfUnread pairs root name r → NamesForeign pairs name

@@ -1,10 +1,10 @@
 -- An import means the symbol that the fragment of its library exports under its name.
-use Rattle.std.proofs.Common.{◌≡◌, ℕ, zero, suc, ◌==◌, ◌<◌, Bool, true, false, List, [], ◌∷◌, Option, None, Some, Ok, Err, Contains, cond, option_map, refl, sym, ap, subst, ◌∙◌, inl, inr, arith}
+use Rattle.std.proofs.Common.{◌≡◌, ℕ, zero, suc, ◌==◌, ◌<◌, Bool, true, false, List, [], ◌∷◌, Option, None, Some, Ok, Err, Contains, cond, option_map, refl, sym, ap, subst, ◌∙◌}
 use Rattle.std.specs.Prelude.{Result, nat_lt}
 use Rattle.std.specs.Option.{option_and_then, option_map_or}
 use Rattle.std.specs.Result.{result_ok, result_unwrap_or}
 use Rattle.std.proofs.lemmas.Bool.{ltb-true}
-use Rattle.std.proofs.lemmas.Bool.Decides.{eqb_tells}
+use Rattle.cfm_prepare.proofs.Laws.{has-at, has-contains}
 use Rattle.std.proofs.lemmas.List.Elements.{Contains-push}
 use Rattle.std.proofs.lemmas.Option.{same_Some}
 use Rattle.cfm_closure.specs.Closures.{Closed}
@@ -51,23 +51,6 @@ told : (a b : Bool) (x y : ImportTarget) → cond a (cond b (Some x) None) None 
 told true true x y is = (refl, refl, same_Some x y is)
 told true false x y is = absurd (cc)
 told false b x y is = absurd (cc)
-
--- a number in a list is one that the list has
-has-in : (ps : List ℕ) (p : ℕ) → Contains ps p → has ps p ≡ true
-has-in [] p there = absurd (let low = there.1 in omega arith)
-has-in (q ∷ qs) p (zero, low, is) = elim (eqb_tells q p) [ inl same ↦ rw same.0 refl | inr other ↦ (let same : q ≡ p = is in absurd (other.1 same)) ]
-has-in (q ∷ qs) p (suc k, low, is) = elim (eqb_tells q p) [ inl same ↦ rw same.0 refl | inr other ↦ rw other.0 (has-in qs p (k, omega (arith, low), is)) ]
-
--- .. and a number that it has is in it
-contains-next : (q p : ℕ) (qs : List ℕ) → Contains qs p → Contains (q ∷ qs) p
-contains-next q p qs there = (suc there.0, omega (arith, there.1), there.2)
-
-in-has : (ps : List ℕ) (p : ℕ) → has ps p ≡ true → Contains ps p
-in-has [] p is = absurd (cc)
-in-has (q ∷ qs) p is = elim (eqb_tells q p) [
-  | inl same ↦ (0, omega arith, same.1)
-  | inr other ↦ contains-next q p qs (in-has qs p (ap (λ b. cond b true (has qs p)) (sym other.0) ∙ is))
-]
 
 module _ (pairs : List Pair) where
   -- a result stays if more hops are allowed
@@ -170,17 +153,17 @@ module _ (pairs : List Pair) (order : List ℕ) (complete : IsComplete pairs ord
     lacking r false hops = absurd (target-unrefused pairs p j t r is hops)
 
     abbrev address_in : ℕ → Export → ℕ
-    address_in q x = export_address pairs all q (value_of x.section x.value)
+    address_in q x = export_address pairs all q (value_of x.fields.section x.fields.value)
 
     -- by the export with its name, if there is one
     by-name : (q : ℕ) (l : Loaded) (here library : List ℕ) (place : Place) (n : Option ℕ) → hop pairs p j ≡ hop_to here library place import q (option_and_then (λ e. option_map (λ x. (e, x)) (export_of l e)) n)
         → HasAddressOf import (option_map (address_in q) (option_and_then (export_of l) n)) (meaning all t)
-    by-name q l here library place None hops = lacking (symbol_missing here library import.name place) import.weak hops
+    by-name q l here library place None hops = lacking (symbol_missing here library import.name place) import.fields.weak hops
     by-name q l here library place (Some e) hops = by (export_of l e) hops
       where
         by : (o : Option Export) → hop pairs p j ≡ hop_to here library place import q (option_map (λ x. (e, x)) o) → HasAddressOf import (option_map (address_in q) o) (meaning all t)
-        by None hops = lacking (symbol_missing here library import.name place) import.weak hops
-        by (Some x) hops = by-value q e (value_of x.section x.value) hops
+        by None hops = lacking (symbol_missing here library import.name place) import.fields.weak hops
+        by (Some x) hops = by-value q e (value_of x.fields.section x.fields.value) hops
 
     by-library : (q : ℕ) → Contains order q → library_at pairs p import.library ≡ Some q → HasAddressOf import (symbol_at pairs all q import.name) (meaning all t)
     by-library q there led =
@@ -218,15 +201,15 @@ module _ (pairs : List Pair) (all : List Present) (o : Open) (still : IsStill pa
 
   symbol-here : (q : ℕ) (name : List ℕ) → Contains o.closed.order q → symbol_at o.closed.pairs all q name ≡ symbol_at pairs all q name
   symbol-here q name there =
-      ap (λ o'. option_map (λ (x : Export). export_address o.closed.pairs all q (value_of x.section x.value)) (option_and_then (λ (l : Loaded). option_and_then (export_of l) (named_of l name)) o')) (loader-still q there)
+      ap (λ o'. option_map (λ (x : Export). export_address o.closed.pairs all q (value_of x.fields.section x.fields.value)) (option_and_then (λ (l : Loaded). option_and_then (export_of l) (named_of l name)) o')) (loader-still q there)
       ∙ by (option_and_then (λ (l : Loaded). option_and_then (export_of l) (named_of l name)) (loader_at pairs q))
     where
-      by : (e : Option Export) → option_map (λ (x : Export). export_address o.closed.pairs all q (value_of x.section x.value)) e ≡ option_map (λ (x : Export). export_address pairs all q (value_of x.section x.value)) e
+      by : (e : Option Export) → option_map (λ (x : Export). export_address o.closed.pairs all q (value_of x.fields.section x.fields.value)) e ≡ option_map (λ (x : Export). export_address pairs all q (value_of x.fields.section x.fields.value)) e
       by None = refl
-      by (Some x) = ap Some (address-still q there (value_of x.section x.value))
+      by (Some x) = ap Some (address-still q there (value_of x.fields.section x.fields.value))
 
   symbol-still : (q : ℕ) (name : List ℕ) → Contains o.closed.order q → symbol_of all o q name ≡ symbol_at pairs all q name
-  symbol-still q name there = ap (λ b. cond b (symbol_at o.closed.pairs all q name) None) (has-in o.closed.order q there) ∙ symbol-here q name there
+  symbol-still q name there = ap (λ b. cond b (symbol_at o.closed.pairs all q name) None) (has-at o.closed.order q there) ∙ symbol-here q name there
 
   root-inside : Contains o.closed.order o.root
   root-inside =
@@ -249,7 +232,7 @@ pub symbols-mean : AreReached → (s : ContextState) (o : Open) (p j : ℕ) (imp
 symbols-mean closed s o p j import meant is at given =
     let still = still-open closed s o is in
     let parts = told (has o.closed.order p) (nat_lt j (import_count o.closed.pairs p)) (meaning_at o.closed.pairs s.present p j) meant given in
-    let there = in-has o.closed.order p parts.0 in
+    let there = has-contains o.closed.order p parts.0 in
     let c = now s.pairs s.present o still in
     let complete = closed-complete s.pairs o.root c still.closed in
     let count : Option Loaded → Bool = λ l. nat_lt j (option_map_or (λ (l : Loaded). l.header.import_count) l 0) in

@@ -21,7 +21,7 @@ no_target = record { target = None; address = 0 }
 
 -- an import has the address that a symbol has. If there is no such symbol, it is weak and has no target
 abbrev pub HasAddressOf : Import → Option ℕ → ImportTarget → Type 0
-HasAddressOf import None meant = (import.weak ≡ true) × (meant ≡ no_target)
+HasAddressOf import None meant = (import.fields.weak ≡ true) × (meant ≡ no_target)
 HasAddressOf import (Some address) meant = meant.address ≡ address
 
 -- an import has no target if its library is absent. Otherwise the library is a fragment of the same closure, and the import

@@ -5,18 +5,19 @@ ghost use Rattle.cfm_closure.specs.Stores.{Pair, place_of};
 ghost use Rattle.cfm_closure.specs.Faults.{no_container, no_loader};
 ghost use Rattle.cfm_closure.specs.Closures.{closed_of};
 ghost use Rattle.cfm_closure.specs.Fragments.{import_at};
-ghost use Rattle.cfm_memory.specs.Extents.{ArePlaced};
+ghost use Rattle.cfm_memory.specs.Extents.{ArePlacedBy, Rule, at_given};
 ghost use Rattle.cfm_memory.specs.Instances.{Layout};
 ghost use Rattle.cfm_memory.specs.declared.place.Place.{Place as MemoryPlace};
 ghost use Rattle.cfm_prepare.specs.Addresses.{addresses_of};
 ghost use Rattle.cfm_prepare.specs.Fragments.{Present, extents_in, image_refusal_in, is_present, reloc_refusal_in};
-ghost use Rattle.cfm_prepare.specs.Refusals.{HasBadImage, HasBadProgram};
+ghost use Rattle.cfm_prepare.specs.Refusals.{HasBadImageBy, HasBadProgramBy};
 ghost use Rattle.cfm_prepare.specs.Contexts.{ContextState, Open, made_state};
 ghost use Rattle.cfm_prepare.specs.Options.{Choices};
 ghost use Rattle.cfm_prepare.specs.Readers.{import_target_of, symbol_address, symbol_of};
 ghost use Rattle.cfm_prepare.specs.Runs.{Runs, Step, Takes};
-ghost use Rattle.cfm_prepare.specs.Steps.{HasRoot, Prepares};
+ghost use Rattle.cfm_prepare.specs.Steps.{HasRoot, PreparesBy};
 ghost use Rattle.cfm_prepare.specs.declared.fault.PrepareFault.{PrepareFault};
+ghost use Rattle.cfm_prepare.specs.declared.place_fault.PlaceFault.{PlaceFault};
 ghost use Rattle.cfm_prepare.specs.declared.imports.ImportTarget.{ImportTarget};
 ghost use Rattle.pef_format.specs.Symbols.{Import};
 ghost use Rattle.pef_format.specs.declared.place.Place.{Place};
@@ -24,7 +25,7 @@ ghost use Rattle.pef_loader.specs.declared.fault.LoaderFault.{LoaderFault};
 ghost use Rattle.cfm_prepare.specs.declared.image_fault.ImageFault.{ImageFault};
 ghost use Rattle.pef_loader.specs.declared.program_fault.ProgramFault.{ProgramFault};
 ghost use Rattle.pef_script.specs.Script.{DescribedScript};
-ghost use Rattle.pef_headline.specs.Headline.{HasLeastPrograms, HasLinked, IsReached, LibrariesResolve, MayAnswer, OthersAreSound, PreparesAsDescribed, SectionsFindRoom, StaysAsDescribed};
+ghost use Rattle.pef_headline.specs.Headline.{AddressesHaveRoom, HasLeastPrograms, HasLinked, IsReached, LibrariesResolve, MayAnswer, MayAnswerAt, OthersAreSound, OthersAreSoundBy, PreparesAsDescribed, PreparesAtAsDescribed, SectionsFindPlaces, SectionsFindRoom, StaysAsDescribed};
 ghost use Rattle.pef_headline.specs.Imports.{HasImports};
 ghost use Rattle.pef_headline.specs.Memory.{HasLinkedText, ReadsDescribed, fragment_reader, root_reader};
 ghost use Rattle.pef_headline.specs.Others.{HasForeign, NamesForeign};
@@ -49,36 +50,42 @@ use cfm_prepare::theorems::present_fragments;
 /// usually it bounds neither. None of these that wasn't linked has an image or a relocation header that is
 /// refused.
 ///
+/// `prepares_at`: so it is if the root is prepared at addresses for its sections. The condition that they find room is then
+/// that there is an address for each, and that each has room after the sections before it.
+///
 /// `present`: whenever the fragment in `p` is present, it has the described memory, under the addresses that its
 /// sections and its imports' targets have now. Its sections are where the last preparation before which it wasn't
-/// present placed them. So what `prepares` gives is kept as long as the fragment is present.
+/// present placed them: each at the lowest address with room, or at the one that was given for it. So what `prepares` gives is kept as long as the fragment is present.
 ///
 /// `least`, the second half: the linked bytes are read as a container with a loader section, which has a least
 /// relocation program for each section of the script.
 pub fn headline()
     ensures prepares { (script : DescribedScript) (s t : ContextState) (name : List ℕ) (p : ℕ) (answer : Result ℕ PrepareFault) → IsReached s → HasLinked s.pairs p script → (resolve : LibrariesResolve s name) → Contains resolve.closed.order p
         → SectionsFindRoom s resolve.closed → OthersAreSound s resolve.closed → MayAnswer s name answer t → PreparesAsDescribed s answer t p script }
+    ensures prepares_at { (script : DescribedScript) (s t : ContextState) (name addresses : List ℕ) (p : ℕ) (answer : Result ℕ PlaceFault) → IsReached s → HasLinked s.pairs p script → (resolve : LibrariesResolve s name) → Contains resolve.closed.order p
+        → AddressesHaveRoom s resolve.closed addresses → OthersAreSoundBy (at_given addresses) s resolve.closed → MayAnswerAt s name addresses answer t → PreparesAtAsDescribed s addresses answer t p script }
     ensures present { (script : DescribedScript) (s : ContextState) (p : ℕ) (reached : IsReached s) → HasLinked s.pairs p script → is_present s.present p ≡ true → StaysAsDescribed s reached p script }
     ensures least { (script : DescribedScript) (pairs : List Pair) (p : ℕ) (linked : HasLinked pairs p script) → HasLeastPrograms pairs p script linked }
 {}
 
-/// Each preparation that gives a connection meets the conditions of `prepares`, so the conditions require no more than
+/// Each preparation that gives a connection, by whichever rule its sections are placed, meets the conditions of `prepares` or
+/// of `prepares_at`, so the conditions require no more than
 /// it needs.
 pub fn conditions_are_met()
-    ensures { (s t : ContextState) (name : List ℕ) (number : ℕ) → Prepares s name number t → (resolve : LibrariesResolve s name) × SectionsFindRoom s resolve.closed × OthersAreSound s resolve.closed }
+    ensures { (rule : Rule) (s t : ContextState) (name : List ℕ) (number : ℕ) → PreparesBy rule s name number t → (resolve : LibrariesResolve s name) × SectionsFindPlaces rule s resolve.closed × OthersAreSoundBy rule s resolve.closed }
 {}
 
 /// The conditions are enough: if they are met, there is a state that the preparation gives, with the next connection.
 /// So, with `conditions_are_met`, a preparation can succeed exactly if they are met.
 pub fn enough_to_prepare()
-    ensures { (s : ContextState) (name : List ℕ) (resolve : LibrariesResolve s name) → SectionsFindRoom s resolve.closed → OthersAreSound s resolve.closed → (t : ContextState) × Prepares s name s.given t }
+    ensures { (rule : Rule) (s : ContextState) (name : List ℕ) (resolve : LibrariesResolve s name) → SectionsFindPlaces rule s resolve.closed → OthersAreSoundBy rule s resolve.closed → (t : ContextState) × PreparesBy rule s name s.given t }
 {}
 
 /// No image of a linked container is refused. Nor is a relocation header, if its sections have places, whichever
 /// fragments are present.
 pub fn linked_is_sound()
     ensures filled { (script : DescribedScript) (pairs : List Pair) (p : ℕ) → HasLinked pairs p script → image_refusal_in pairs p ≡ None }
-    ensures relocated { (script : DescribedScript) (pairs : List Pair) (all : List Present) (f : Present) (before after : Layout) → HasLinked pairs f.position script → ArePlaced before (extents_in pairs f.position) f.places after
+    ensures relocated { (script : DescribedScript) (pairs : List Pair) (all : List Present) (f : Present) (rule : Rule) (before after : Layout) → HasLinked pairs f.position script → ArePlacedBy rule before (extents_in pairs f.position) f.places after
         → reloc_refusal_in pairs (addresses_of pairs all f) f.position ≡ None }
 {}
 
@@ -86,8 +93,8 @@ pub fn linked_is_sound()
 /// wasn't linked from any script. If the bytes of a fragment aren't read, the refusal names a fragment of the store
 /// that wasn't linked from any script.
 pub fn refusals_are_of_others()
-    ensures image { (pairs : List Pair) (m : Layout) (new : List ℕ) (name : List ℕ) (k : ImageFault) → HasBadImage pairs m new name k → HasForeign pairs new name }
-    ensures program { (pairs : List Pair) (there : List Present) (m : Layout) (new : List ℕ) (name : List ℕ) (k : ProgramFault) → HasBadProgram pairs there m new name k → HasForeign pairs new name }
+    ensures image { (rule : Rule) (pairs : List Pair) (m : Layout) (new : List ℕ) (name : List ℕ) (k : ImageFault) → HasBadImageBy rule pairs m new name k → HasForeign pairs new name }
+    ensures program { (rule : Rule) (pairs : List Pair) (there : List Present) (m : Layout) (new : List ℕ) (name : List ℕ) (k : ProgramFault) → HasBadProgramBy rule pairs there m new name k → HasForeign pairs new name }
     ensures container { (s : ContextState) (asked name : List ℕ) (k : ViewFault) (has : HasRoot s asked) → closed_of s.pairs has.root ≡ Err (no_container name k) → NamesForeign s.pairs name }
     ensures loader { (s : ContextState) (asked name : List ℕ) (k : LoaderFault) (place : Place) (has : HasRoot s asked) → closed_of s.pairs has.root ≡ Err (no_loader name k place) → NamesForeign s.pairs name }
 {}
@@ -100,9 +107,9 @@ pub fn refusals_are_of_others()
 ///
 /// `root`: if the root itself is in `p`, `section` returns the same for the connection.
 pub fn script_to_memory()
-    ensures fragment { (text : List ℕ) (s t : ContextState) (name : List ℕ) (number p : ℕ) → IsReached s → (has : HasLinkedText s.pairs p text) → (step : Prepares s name number t) → Contains step.closure.closed.order p
+    ensures fragment { (text : List ℕ) (s t : ContextState) (rule : Rule) (name : List ℕ) (number p : ℕ) → IsReached s → (has : HasLinkedText s.pairs p text) → (step : PreparesBy rule s name number t) → Contains step.closure.closed.order p
         → ReadsDescribed t p (fragment_reader t p) has.script }
-    ensures root { (text : List ℕ) (s t : ContextState) (name : List ℕ) (number p : ℕ) → IsReached s → (has : HasLinkedText s.pairs p text) → Prepares s name number t → place_of s.pairs name ≡ Some p
+    ensures root { (text : List ℕ) (s t : ContextState) (rule : Rule) (name : List ℕ) (number p : ℕ) → IsReached s → (has : HasLinkedText s.pairs p text) → PreparesBy rule s name number t → place_of s.pairs name ≡ Some p
         → ReadsDescribed t p (root_reader t number) has.script }
 {}
 

@@ -3,6 +3,7 @@ use Rattle.std.specs.Prelude.{◌≡◌, ◌≢◌, ◌⊎◌, ℕ, ◌<◌, ◌
 use Rattle.std.specs.Option.{option_and_then}
 use Rattle.pef_loader.specs.Library.{Library}
 use Rattle.pef_loader.specs.Loader.{library_of}
+use Rattle.cfm_closure.specs.Additions.{free_for}
 use Rattle.cfm_closure.specs.Stores.{Pair}
 use Rattle.cfm_closure.specs.declared.cache.Cache.{Cache}
 use Rattle.cfm_closure.specs.declared.fragment.FragmentView.{FragmentView}
@@ -64,3 +65,7 @@ pub record AreCached (pairs : List Pair) (views : List (Option FragmentView)) (r
 
 abbrev pub IsCache : List Pair → Cache → Type 0
 IsCache pairs c = AreCached pairs c.views c.rows
+
+-- where a new pair with a name may go: to the end, or into the place for it
+abbrev pub MayTake : List Pair → List ℕ → Option ℕ → Type 0
+MayTake pairs name o = (o ≡ None) ⊎ (o ≡ free_for pairs name)

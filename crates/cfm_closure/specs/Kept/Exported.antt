@@ -11,7 +11,7 @@ pub record Means (l : Loaded) (name : List ℕ) (value : ExportValue) : Type 0 w
   pub named : named_of l name ≡ Some index
   pub export : Export
   pub row : export_of l index ≡ Some export
-  pub is : value ≡ value_of export.section export.value
+  pub is : value ≡ value_of export.fields.section export.fields.value
   pub inside : IsTrue (is_there l.header l.sections value)
 
 -- .. if there is one

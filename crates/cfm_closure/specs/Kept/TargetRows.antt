@@ -1,7 +1,7 @@
 -- The targets of a fragment's imports, of one closure or shared by several.
 use Rattle.cfm_closure.specs.declared.targets.TargetRow.{TargetRow}
 use Rattle.cfm_closure.specs.declared.targets.TargetRow.TheVariants.{Own, Shared}
-use Rattle.cfm_closure.specs.Kept.Found.{all_meant}
+use Rattle.cfm_closure.specs.Kept.Resolutions.{all_meant}
 use Rattle.cfm_closure.specs.Kept.Targets.{AllKnown, Row}
 
 -- the targets

@@ -1,5 +1,5 @@
 -- How open connections are kept: in slots, in the order of their numbers. A closed one may have a slot for a while.
-use Rattle.std.specs.Prelude.{◌≡◌, ℕ, ◌+◌, ◌≤◌, ◌<◌, true, List, [], ◌∷◌, Option, None, Some, length, slice_index_or}
+use Rattle.std.specs.Prelude.{◌≡◌, ℕ, ◌+◌, ◌≤◌, ◌<◌, true, List, [], ◌∷◌, Option, None, Some, if◌then◌else◌, length, slice_index_or}
 use Rattle.cfm_closure.specs.Closures.{Closed}
 use Rattle.cfm_prepare.specs.Contexts.{Open}
 use Rattle.cfm_prepare.specs.Lists.{has}
@@ -21,6 +21,11 @@ open_and (Some o) others = o ∷ others
 abbrev pub open_in : List Slot → List Open
 open_in [] = []
 open_in (s ∷ slots) = open_and s.connected (open_in slots)
+
+-- the connection of a slot, if its closure has a fragment
+abbrev pub having_in : Option Open → ℕ → Option Open
+having_in None p = None
+having_in (Some o) p = if has o.closed.order p then Some o else None
 
 -- a connection has the number of its slot
 abbrev pub HasNumber : Option Open → ℕ → Type 0

@@ -1,6 +1,6 @@
 -- The invariant of present fragments: their sections are in memory, each at an address of its own.
-use Rattle.std.specs.Prelude.{◌≡◌, ◌≢◌, ℕ, ◌<◌, false, true, List, [], ◌∷◌, length, ◌++◌, Result, Ok, Err, Option, None, Some, if◌then◌else◌}
-use Rattle.cfm_memory.specs.Extents.{AreApart, AreHeld, given_back, place_at}
+use Rattle.std.specs.Prelude.{◌≡◌, ◌≢◌, ℕ, ◌+◌, ◌<◌, false, true, List, [], ◌∷◌, length, ◌++◌, Result, Ok, Err, Option, None, Some, if◌then◌else◌}
+use Rattle.cfm_memory.specs.Extents.{AreApart, AreHeld, Rule, given_back, place_at}
 use Rattle.cfm_memory.specs.Instances.{Layout}
 use Rattle.cfm_memory.specs.declared.place.Place.{Place}
 use Rattle.cfm_prepare.specs.declared.image_fault.ImageFault.{ImageFault}
@@ -8,7 +8,7 @@ use Rattle.pef_loader.specs.declared.program_fault.ProgramFault.{ProgramFault}
 use Rattle.cfm_closure.specs.Stores.{Pair, pair_of}
 use Rattle.cfm_prepare.specs.Fragments.{Present, all_given_back, is_present, positions, present_at, present_of}
 use Rattle.cfm_prepare.specs.Lists.{IsOnce, has}
-use Rattle.cfm_prepare.specs.Placing.{AllPlaced, Fits, HasNoRoomAt}
+use Rattle.cfm_prepare.specs.Placing.{AllPlacedBy, Fits, HasNoPlaceAt}
 use Rattle.cfm_prepare.specs.declared.fragment_fault.FragmentFault.{FragmentFault}
 use Rattle.cfm_prepare.specs.declared.fragment_fault.FragmentFault.TheVariants as fault
 
@@ -51,12 +51,17 @@ pub record ChangesIn (m : Layout) (fs : List Present) (after : Layout) : Type 0 
   pub others : all_given_back after fs ≡ all_given_back m fs
   pub held : AllHeld m fs → AllHeld after fs
 
--- fragments with new positions were placed after those that exist
-pub record HavePlaced (pairs : List Pair) (m : Layout) (there : List Present) (new : List ℕ) (now : List Present) (after : Layout) : Type 0 where
+-- how many sections some fragments have in memory
+abbrev pub place_count : List Present → ℕ
+place_count [] = 0
+place_count (f ∷ fs) = length f.places + place_count fs
+
+-- fragments with new positions were placed by a rule after those that exist
+pub record HavePlaced (rule : Rule) (pairs : List Pair) (m : Layout) (there : List Present) (new : List ℕ) (now : List Present) (after : Layout) : Type 0 where
   pub fresh : List Present
   pub behind : now ≡ there ++ fresh
   pub are : positions fresh ≡ new
-  pub placed : AllPlaced pairs m fresh after
+  pub placed : AllPlacedBy rule pairs m fresh after
 
 -- the fragments with some positions, with the places that they have among all
 abbrev pub found_in : List Present → List ℕ → List Present
@@ -85,12 +90,12 @@ abbrev pub others_of : List ℕ → List Present → List Present
 others_of ps [] = []
 others_of ps (f ∷ fs) = if has ps f.position then others_of ps fs else f ∷ others_of ps fs
 
--- why a fragment isn't placed
-abbrev pub IsNotPlaced : List Pair → ℕ → Layout → FragmentFault → Type 0
-IsNotPlaced pairs p m (fault.NoRoom f place) = HasNoRoomAt pairs m p place × (f.now ≡ (pair_of pairs p).name)
-IsNotPlaced pairs p m (fault.Pack f k place) = ⊥
-IsNotPlaced pairs p m (fault.Reloc f k section place) = ⊥
-IsNotPlaced pairs p m fault.OutOfMemory = Unit {0}
+-- why a fragment isn't placed by a rule
+abbrev pub IsNotPlaced : Rule → List Pair → ℕ → Layout → FragmentFault → Type 0
+IsNotPlaced rule pairs p m (fault.NoRoom f place) = HasNoPlaceAt rule pairs m p place × (f.now ≡ (pair_of pairs p).name)
+IsNotPlaced rule pairs p m (fault.Pack f k place) = ⊥
+IsNotPlaced rule pairs p m (fault.Reloc f k section place) = ⊥
+IsNotPlaced rule pairs p m fault.OutOfMemory = Unit {0}
 
 -- the result of filling: the first refusal of an image, or none
 abbrev pub FillsUpTo : {A : Type 0} → Result A FragmentFault → Option (List ℕ × ImageFault) → Type 0

@@ -1,17 +1,24 @@
 -- Why sections find no places.
 use Rattle.std.specs.Prelude.{◌≡◌, ℕ, List}
-use Rattle.cfm_memory.specs.Extents.{Extent, HasNoRoomFor}
+use Rattle.cfm_memory.specs.Extents.{Extent, HasNoPlaceBy, Rule}
 use Rattle.cfm_memory.specs.Instances.{Layout}
-use Rattle.cfm_prepare.specs.Placing.{LacksRoomFor}
+use Rattle.cfm_memory.specs.declared.place.MemoryFault.{MemoryFault}
+use Rattle.cfm_memory.specs.declared.place.MemoryFault.TheVariants as memory
+use Rattle.cfm_prepare.specs.Placing.{LacksPlaceFor}
 use Rattle.cfm_prepare.specs.declared.places.Unplaced.{Unplaced}
 use Rattle.cfm_prepare.specs.declared.places.Unplaced.TheVariants.{NoRoom, OutOfMemory}
 
--- section k isn't placed
-abbrev pub MayRefuseFor : Layout → Extent → ℕ → Unplaced → Type 0
-MayRefuseFor m e k (NoRoom section) = (section ≡ k) × HasNoRoomFor m e
-MayRefuseFor m e k OutOfMemory = Unit {0}
+-- the first extent isn't placed by a rule
+abbrev pub MayRefuseBy : Rule → Layout → Extent → MemoryFault → Type 0
+MayRefuseBy rule m e memory.NoRoom = HasNoPlaceBy rule m e
+MayRefuseBy rule m e memory.OutOfMemory = Unit {0}
 
--- some sections aren't placed
-abbrev pub MayNotPlaceAll : Unplaced → Layout → List Extent → Type 0
-MayNotPlaceAll (NoRoom section) m extents = LacksRoomFor m extents section
-MayNotPlaceAll OutOfMemory m extents = Unit {0}
+-- section k isn't placed by a rule
+abbrev pub MayRefuseFor : Rule → Layout → Extent → ℕ → Unplaced → Type 0
+MayRefuseFor rule m e k (NoRoom section) = (section ≡ k) × HasNoPlaceBy rule m e
+MayRefuseFor rule m e k OutOfMemory = Unit {0}
+
+-- some sections aren't placed by a rule
+abbrev pub MayNotPlaceAll : Unplaced → Rule → Layout → List Extent → Type 0
+MayNotPlaceAll (NoRoom section) rule m extents = LacksPlaceFor rule m extents section
+MayNotPlaceAll OutOfMemory rule m extents = Unit {0}

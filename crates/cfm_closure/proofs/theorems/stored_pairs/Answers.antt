@@ -1,11 +1,13 @@
-use Rattle.cfm_closure.proofs.StoreLemmas.{closed-new, fragment-new, new-end, place_of-new, target-new}
+use Rattle.cfm_closure.specs.Additions.{free_for, with_put}
+use Rattle.cfm_closure.proofs.StoreLemmas.{closed-placed, fragment-new, free-place, new-end, place_of-new, target-placed}
 use Rattle.cfm_closure.proofs.theorems.stored_pairs.Goals as goal
 
 pub returns : goal.returns
+unfolding with_put
 returns c = record {
   fragment = fragment-new;
   place = place_of-new;
   end = new-end;
-  closure = closed-new;
-  target = target-new;
+  closure = λ pairs n. closed-placed pairs n (free_for pairs n.name) (free-place pairs n);
+  target = λ pairs n. target-placed pairs n (free_for pairs n.name) (free-place pairs n);
 }

@@ -1,11 +1,14 @@
 -- The next library entry is refused, has a fragment that wasn't visited, or is passed by.
-use Rattle.std.proofs.Common.{◌≡◌, ◌<◌, ◌∙◌, Ok, length, refl, sym, ap, subst, arith}
+use Rattle.std.proofs.Common.{◌≡◌, ◌-◌, ◌<◌, ◌∙◌, Ok, inl, inr, length, refl, sym, ap, subst, arith}
+use Rattle.std.proofs.Math.Nat.{eq-or-lt_of_le}
 use Rattle.std.proofs.lemmas.Result.{err_from_is_err_and}
 use Rattle.pef_loader.specs.Loader.{library_of}
 use Rattle.pef_loader.specs.Views.{library_seen}
 use Rattle.cfm_closure.specs.Faults.{FailsAs}
 use Rattle.cfm_closure.specs.Libraries.{bound}
-use Rattle.cfm_closure.specs.Kept.Paths.{count_of}
+use Rattle.cfm_closure.specs.Kept.Paths.{count_of, visit}
+use Rattle.cfm_closure.specs.Walk.{joining, walks_from}
+use Rattle.pef_words.specs.Results.{◌>>=◌}
 use Rattle.cfm_closure.specs.Views.{fragment_seen}
 use Rattle.cfm_closure.proofs.PathLemmas.{Fails-also}
 use Rattle.cfm_closure.proofs.FrameLemmas.{frame-more, frame-passed, frame-refused, frame-unmet, unmet-below, unmet-unmarked}
@@ -68,3 +71,19 @@ loop-library-preserved c =
           ∙ frame-passed c.args.store.now c.loop-library.fragments f inv.read inv.frame (library_seen c.in-Some.library) is under
           c.in_ok-bound.bound c.push.new.self answer c.in_ok-push.ensures (record { marked = c.args.marked.now; order = order }) c.requires.marks (sym c.in-None.ensures);
     }
+
+pub returns-clause-next : goal.returns-clause-next
+returns-clause-next c =
+    let f = c.loop-library.frame in
+    let over : length f.libraries < count_of f → ⊥ = λ under. absurd (let some = c.in_default.ensures.there.1 (let e = c.len.ensures in omega arith) in cc) in
+    let all : length f.libraries ≡ count_of f = elim (eq-or-lt_of_le c.loop-library.invariant.frame.few) [
+      | inl same ↦ same
+      | inr under ↦ absurd (over under)
+    ] in
+    let none : count_of f - length f.libraries ≡ 0 = omega (arith, all) in
+    λ order. (
+      c.loop-library.invariant.rest order
+          ∙ ap (λ n. walks_from (visit c.args.store.now) c.args.store.now f.p (length f.libraries) n (record { marked = c.args.marked.now; order = order }) >>= (λ s. Ok (joining f.p s))) none
+          ∙ ap (λ p. Ok (joining p (record { marked = c.args.marked.now; order = order }))) c.loop-library.invariant.same.p,
+      all,
+    )

@@ -2,4 +2,4 @@ use Rattle.pef_headline.proofs.RefusedLemmas.{refused-container, refused-image, 
 use Rattle.pef_headline.proofs.theorems.refusals_are_of_others.Goals as goal
 
 pub returns : goal.returns
-returns c = record { image = refused-image; program = refused-program; container = refused-container; loader = refused-loader }
+returns c = record { image = λ rule pairs m new name k. refused-image pairs m new name k; program = λ rule pairs there m new name k. refused-program pairs there m new name k; container = refused-container; loader = refused-loader }

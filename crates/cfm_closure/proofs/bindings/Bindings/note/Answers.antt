@@ -1,7 +1,7 @@
 -- The row of the fragment has the target.
 use Rattle.std.proofs.Common.{map}
 use Rattle.cfm_closure.specs.Seen.{place_seen}
-use Rattle.cfm_closure.specs.Kept.Found.{meant}
+use Rattle.cfm_closure.specs.Kept.Resolutions.{meant}
 use Rattle.cfm_closure.proofs.NoteLemmas.{are-noted, keeps-noted, known-in, same-noted}
 use Rattle.cfm_closure.proofs.bindings.Bindings.note.Goals as goal
 
@@ -11,21 +11,21 @@ invariant_of-self c =
     let import = rw (← c.self.view_is) at c.requires.import in
     let right = rw (← c.self.view_is) at c.requires.right in
     are-noted (map place_seen c.self.inside.pairs.items) c.self.inside.fragments c.self.inside.order.items c.self.invariant c.args.p there
-    c.value_mut-fragment.result.now c.value_mut-fragment.ensures.value c.args.j (meant c.args.found) import c.note.new.self c.note.ensures right
+    c.value_mut-fragment.result.now c.value_mut-fragment.ensures.value c.args.j (meant c.args.resolution) import c.note.new.self c.note.ensures right
 
 pub returns-clause-keeps : goal.returns-clause-keeps
 returns-clause-keeps c =
     let there = rw (← c.self.view_is) at c.requires.place in
     let import = rw (← c.self.view_is) at c.requires.import in
     rw (← c.self.view_is) (keeps-noted (map place_seen c.self.inside.pairs.items) c.self.inside.fragments c.self.inside.order.items c.self.invariant c.args.p there
-    c.value_mut-fragment.result.now c.value_mut-fragment.ensures.value c.args.j (meant c.args.found) import c.note.new.self c.note.ensures)
+    c.value_mut-fragment.result.now c.value_mut-fragment.ensures.value c.args.j (meant c.args.resolution) import c.note.new.self c.note.ensures)
 
 pub returns-clause-known : goal.returns-clause-known
 returns-clause-known c =
     let there = rw (← c.self.view_is) at c.requires.place in
     let import = rw (← c.self.view_is) at c.requires.import in
     known-in (map place_seen c.self.inside.pairs.items) c.self.inside.fragments c.self.inside.order.items c.self.invariant c.args.p there
-    c.value_mut-fragment.result.now c.value_mut-fragment.ensures.value c.args.j (meant c.args.found) import c.note.new.self c.note.ensures
+    c.value_mut-fragment.result.now c.value_mut-fragment.ensures.value c.args.j (meant c.args.resolution) import c.note.new.self c.note.ensures
 
 -- a target that is known is this one
 pub note-requires-clause-right : goal.note-requires-clause-right
@@ -33,4 +33,4 @@ note-requires-clause-right c =
     let there = rw (← c.self.view_is) at c.requires.place in
     let right = rw (← c.self.view_is) at c.requires.right in
     same-noted (map place_seen c.self.inside.pairs.items) c.self.inside.fragments c.self.inside.order.items c.self.invariant c.args.p there
-    c.value_mut-fragment.result.now c.value_mut-fragment.ensures.value c.args.j (meant c.args.found) right
+    c.value_mut-fragment.result.now c.value_mut-fragment.ensures.value c.args.j (meant c.args.resolution) right

@@ -2,7 +2,6 @@
 use Rattle.std.proofs.Common.{map, ap, sym, subst, ◌∙◌, rules}
 use Rattle.cfm_closure.specs.Seen.{place_seen}
 use Rattle.cfm_closure.specs.Kept.Bindings.{AreBindings}
-use Rattle.cfm_closure.proofs.CacheLemmas.{cache_of}
 use Rattle.cfm_closure.proofs.OrderFacts.{order-complete}
 use Rattle.cfm_closure.proofs.bindings.Bindings.of.Goals as goal
 
@@ -24,19 +23,10 @@ pub returns-clause-answer : goal.returns-clause-answer
 returns-clause-answer c = search rules
 
 pub returns-in_err-walked-clause-cache : goal.returns-in_err-walked-clause-cache
-returns-in_err-walked-clause-cache c =
-    let views = c.visit_all-walked.ensures.views in
-    rw c.put_views.ensures.views
-    (cache_of c.args.store.now c.take_views.new.self.views c.take_views.new.self.rows c.in_ok-views.ensures.cache c.visit_all-walked.new.self.fragments c.put_views.new.self.rows views.size views.read c.put_views.ensures.rows)
+returns-in_err-walked-clause-cache c = c.put_views.ensures.cache c.args.store.now c.visit_all-walked.ensures.views c.in_ok-views.ensures.cache
 
 pub returns-in_err-pairs-clause-cache : goal.returns-in_err-pairs-clause-cache
-returns-in_err-pairs-clause-cache c =
-    let views = c.visit_all-walked.ensures.views in
-    rw c.put_views.ensures.views
-    (cache_of c.args.store.now c.take_views.new.self.views c.take_views.new.self.rows c.in_ok-views.ensures.cache c.visit_all-walked.new.self.fragments c.put_views.new.self.rows views.size views.read c.put_views.ensures.rows)
+returns-in_err-pairs-clause-cache c = c.put_views.ensures.cache c.args.store.now c.visit_all-walked.ensures.views c.in_ok-views.ensures.cache
 
 pub returns-clause-cache : goal.returns-clause-cache
-returns-clause-cache c =
-    let views = c.visit_all-walked.ensures.views in
-    rw c.put_views.ensures.views
-    (cache_of c.args.store.now c.take_views.new.self.views c.take_views.new.self.rows c.in_ok-views.ensures.cache c.visit_all-walked.new.self.fragments c.put_views.new.self.rows views.size views.read c.put_views.ensures.rows)
+returns-clause-cache c = c.put_views.ensures.cache c.args.store.now c.visit_all-walked.ensures.views c.in_ok-views.ensures.cache

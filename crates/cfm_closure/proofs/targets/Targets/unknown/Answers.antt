@@ -1,6 +1,6 @@
 -- No target is known.
 use Rattle.std.proofs.Common.{◌≡◌, ◌∙◌, None, replicate, ap, rules}
-use Rattle.cfm_closure.specs.Kept.Found.{all_meant}
+use Rattle.cfm_closure.specs.Kept.Resolutions.{all_meant}
 use Rattle.cfm_closure.proofs.RowLemmas.{all_meant-none}
 use Rattle.cfm_closure.proofs.targets.Targets.unknown.Goals as goal
 

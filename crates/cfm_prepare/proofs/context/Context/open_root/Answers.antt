@@ -1,27 +1,22 @@
 -- The closure is that of the store. Its new fragments are prepared, or the first refusal is that of all.
-use Rattle.std.proofs.Common.{true, arith, ◌≡◌, ◌<◌, ◌+◌, ◌++◌, ◌∷◌, ℕ, List, [], length, Some, refl, sym, ap, subst, ◌∙◌}
+use Rattle.std.proofs.Common.{true, arith, ◌≡◌, ◌<◌, ◌+◌, ◌++◌, ◌∷◌, ℕ, List, [], length, Some, Ok, refl, sym, ap, subst, ◌∙◌}
 use Rattle.std.proofs.lemmas.List.{length-append}
 use Rattle.std.proofs.lemmas.Result.{err_from_is_err_and}
-use Rattle.cfm_closure.specs.Closures.{closed_of}
+use Rattle.cfm_closure.specs.Closures.{Closed, closed_of}
 use Rattle.cfm_closure.specs.Stores.{Pair, place_of}
 use Rattle.cfm_closure.specs.Faults.{FailsAs}
 use Rattle.cfm_closure.proofs.Laws.{closed-complete, closed-root, closed-store}
 use Rattle.cfm_prepare.specs.Lists.{IsOnce, has}
-use Rattle.cfm_prepare.specs.Fragments.{Present, new_among}
-use Rattle.cfm_prepare.specs.Placing.{ArePrepared}
-use Rattle.cfm_prepare.specs.Refusals.{MayNotPrepareNew}
+use Rattle.cfm_prepare.specs.Fragments.{new_among}
+use Rattle.cfm_prepare.specs.Placing.{ArePreparedBy, IsRuleFor}
+use Rattle.cfm_prepare.specs.Refusals.{MayNotPrepareNewBy}
 use Rattle.cfm_prepare.proofs.ListLemmas.{has-contains, once-from-pairs}
 use Rattle.cfm_prepare.proofs.FoundLemmas.{new-has, present-has}
 use Rattle.cfm_prepare.specs.Contexts.{ContextState, Open}
 use Rattle.cfm_prepare.specs.Kept.Users.{CountsMore, CountUsers}
-use Rattle.cfm_prepare.specs.Bounds.{AreWithin, bytes_in, steps_in}
-use Rattle.cfm_prepare.specs.Kept.Bounds.{IsPastBounds}
-use Rattle.cfm_prepare.specs.declared.fault.PrepareFault.{PrepareFault}
-use Rattle.cfm_prepare.specs.declared.fault.PrepareFault.TheVariants as fault
-use Rattle.cfm_prepare.specs.declared.options.Options.{Options}
-use Rattle.cfm_memory.specs.Instances.{Layout}
-use Rattle.cfm_prepare.specs.Steps.{HasClosure, HasRoot, IsRefusedLate, MayNotPrepare, new_of}
-use Rattle.cfm_prepare.proofs.OpenLemmas.{ends-contains, of-closure}
+use Rattle.cfm_prepare.specs.Steps.{HasRoot, IsRefusedLateBy, MayNotPrepareBy, new_of}
+use Rattle.cfm_prepare.specs.Kept.Rules.{rule_of}
+use Rattle.cfm_prepare.proofs.OpenLemmas.{ends-contains, of-closure, past-of, within-of}
 use Rattle.cfm_prepare.proofs.UsersLemmas.{entered-count, entered-used, same_users, users-few}
 use Rattle.cfm_prepare.proofs.context.Context.open_root.Goals as goal
 
@@ -32,30 +27,6 @@ returns-in_err-closure-clause-refused c = λ name is.
     let fails : FailsAs c.in_err-closure.field-0.0 (closed_of c.args.self.now.pairs c.args.root) = rw (← c.self.view_is) c.in_err-closure.ensures.answer in
     rw (p.1, p.2) (has, fails)
 
--- what was tested of a closure holds of the store
-within-of : (pairs store : List Pair) (there : List Present) (m : Layout) (options : Options) (order : List ℕ) → store ≡ pairs → AreWithin options.bytes (bytes_in store m.granule) (new_among there order) → AreWithin options.steps (steps_in store) (new_among there order)
-    → AreWithin options.bytes (bytes_in pairs m.granule) (new_among there order) × AreWithin options.steps (steps_in pairs) (new_among there order)
-within-of pairs store there m options order same bytes steps = (
-  subst (λ (ps : List Pair). AreWithin options.bytes (bytes_in ps m.granule) (new_among there order)) same bytes,
-  subst (λ (ps : List Pair). AreWithin options.steps (steps_in ps) (new_among there order)) same steps,
-)
-
--- so does why they take too much
-past-of : (s : ContextState) (name : List ℕ) (closure : HasClosure s name) (store : List Pair) (f : PrepareFault) → store ≡ s.pairs → IsPastBounds store s.memory.granule s.bounds (new_of s closure.closed) f → MayNotPrepare s name f
-past-of s name closure store fault.TooManyConnections same past = absurd past
-past-of s name closure store fault.RootMissing same past = absurd past
-past-of s name closure store (fault.Bind f) same past = absurd past
-past-of s name closure store (fault.TooManyBytes f) same past =
-    let Q : List Pair → Type 0 = λ ps. IsPastBounds ps s.memory.granule s.bounds (new_of s closure.closed) (fault.TooManyBytes f) in
-    let here = subst Q same past in
-    record { closure = closure; position = here.0; passes = here.1; is = here.2 }
-past-of s name closure store (fault.TooManyStepsInAll f) same past =
-    let Q : List Pair → Type 0 = λ ps. IsPastBounds ps s.memory.granule s.bounds (new_of s closure.closed) (fault.TooManyStepsInAll f) in
-    let here = subst Q same past in
-    record { closure = closure; bytes = here.0; position = here.1; passes = here.2; is = here.3 }
-past-of s name closure store (fault.Fragment f) same past = absurd past
-past-of s name closure store fault.OutOfMemory same past = absurd past
-
 pub returns-in_err-test_bounds-clause-refused : goal.returns-in_err-test_bounds-clause-refused
 returns-in_err-test_bounds-clause-refused c = λ name is.
     let p = err_from_is_err_and c.from_residual-in_err-test_bounds.result c.from_residual-in_err-test_bounds.ensures.1 in
@@ -63,7 +34,7 @@ returns-in_err-test_bounds-clause-refused c = λ name is.
     let of_store = closed-store c.self.inside.store c.args.root closed c.in_ok-closure.ensures.answer in
     let Q : ContextState → Type 0 = λ s. place_of s.pairs name ≡ Some c.args.root in
     let R : ContextState → Type 0 = λ s. s.given < s.bounds.connections in
-    let why : MayNotPrepare c.args.self.now name c.in_err-test_bounds.field-0.0 = rw (← c.self.view_is) (past-of _ name (record { has = record { left = subst R (sym c.self.view_is) c.requires.left; root = c.args.root; is = subst Q (sym c.self.view_is) is }; closed = closed; is = c.in_ok-closure.ensures.answer }) closed.pairs c.in_err-test_bounds.field-0.0 of_store c.in_err-test_bounds.ensures.refused) in
+    let why : MayNotPrepareBy (rule_of c.args.rule) c.args.self.now name c.in_err-test_bounds.field-0.0 = rw (← c.self.view_is) (past-of (rule_of c.args.rule) _ name (record { has = record { left = subst R (sym c.self.view_is) c.requires.left; root = c.args.root; is = subst Q (sym c.self.view_is) is }; closed = closed; is = c.in_ok-closure.ensures.answer }) closed.pairs c.in_err-test_bounds.field-0.0 of_store c.in_err-test_bounds.ensures.refused) in
     rw (p.1, p.2) why
 
 pub prepare-requires : goal.prepare-requires
@@ -78,12 +49,14 @@ returns-in_err-prepare-clause-refused c = λ name is.
     let of_store = closed-store c.self.inside.store c.args.root closed c.in_ok-closure.ensures.answer in
     let there = c.self.inside.fragments.present in
     let within = within-of c.self.inside.store closed.pairs there c.self.inside.fragments.memory c.self.inside.options closed.order of_store c.in_ok-test_bounds.ensures.bytes c.in_ok-test_bounds.ensures.steps in
-    let P : List Pair → Type 0 = λ ps. MayNotPrepareNew ps there c.self.inside.fragments.memory (new_among there closed.order) c.in_err-prepare.field-0.0 in
+    let P : List Pair → Type 0 = λ ps. MayNotPrepareNewBy (rule_of c.args.rule) ps there c.self.inside.fragments.memory (new_among there closed.order) c.in_err-prepare.field-0.0 in
     let Q : ContextState → Type 0 = λ s. place_of s.pairs name ≡ Some c.args.root in
     let R : ContextState → Type 0 = λ s. s.given < s.bounds.connections in
-    let late : IsRefusedLate c.args.self.now name c.in_err-prepare.field-0.0 = rw (← c.self.view_is) (record {
+    let C : ContextState → Type 0 = λ s. (k : Closed) → closed_of s.pairs c.args.root ≡ Ok k → IsRuleFor (rule_of c.args.rule) s.pairs (new_of s k) in
+    let late : IsRefusedLateBy (rule_of c.args.rule) c.args.self.now name c.in_err-prepare.field-0.0 = rw (← c.self.view_is) (record {
       closure = record { has = record { left = subst R (sym c.self.view_is) c.requires.left; root = c.args.root; is = subst Q (sym c.self.view_is) is }; closed = closed; is = c.in_ok-closure.ensures.answer };
       within = record { bytes = within.0; steps = within.1 };
+      counted = subst C (sym c.self.view_is) c.requires.counted closed c.in_ok-closure.ensures.answer;
       why = subst P of_store c.in_err-prepare.ensures.refused;
     }) in
     rw (p.1, p.2) late
@@ -134,12 +107,14 @@ returns-clause-prepared c = λ name is.
     let done = c.in_ok-prepare.ensures.prepared in
     let there = c.self.inside.fragments.present in
     let within = within-of c.self.inside.store closed.pairs there c.self.inside.fragments.memory c.self.inside.options closed.order of_store c.in_ok-test_bounds.ensures.bytes c.in_ok-test_bounds.ensures.steps in
-    let P : List Pair → Type 0 = λ ps. ArePrepared ps there c.self.inside.fragments.memory (new_among there closed.order) done.0 c.prepare.new.self.memory in
+    let P : List Pair → Type 0 = λ ps. ArePreparedBy (rule_of c.args.rule) ps there c.self.inside.fragments.memory (new_among there closed.order) done.0 c.prepare.new.self.memory in
     let Q : ContextState → Type 0 = λ s. place_of s.pairs name ≡ Some c.args.root in
     let R : ContextState → Type 0 = λ s. s.given < s.bounds.connections in
+    let C : ContextState → Type 0 = λ s. (k : Closed) → closed_of s.pairs c.args.root ≡ Ok k → IsRuleFor (rule_of c.args.rule) s.pairs (new_of s k) in
     rw (← c.self.view_is) (record {
       closure = record { has = record { left = subst R (sym c.self.view_is) c.requires.left; root = c.args.root; is = subst Q (sym c.self.view_is) is }; closed = closed; is = c.in_ok-closure.ensures.answer };
       within = record { bytes = within.0; steps = within.1 };
+      counted = subst C (sym c.self.view_is) c.requires.counted closed c.in_ok-closure.ensures.answer;
       fresh = done.0;
       prepared = subst P of_store done.2;
       number = number;

@@ -1,6 +1,5 @@
 -- The store alone changes.
-use Rattle.std.proofs.Common.{◌≡◌, List, ap, refl, sym}
-use Rattle.cfm_closure.specs.Additions.{without_pair}
+use Rattle.std.proofs.Common.{List, ap, sym}
 use Rattle.cfm_closure.specs.Stores.{Pair}
 use Rattle.cfm_prepare.specs.Contexts.{ContextState}
 use Rattle.cfm_prepare.specs.Made.{choices_of}

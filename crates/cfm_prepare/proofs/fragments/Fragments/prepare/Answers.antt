@@ -1,16 +1,11 @@
 -- The new fragments of the closure are of it, once, and absent.
-use Rattle.std.proofs.Common.{◌≡◌, ℕ, List, All, Contains, sym, ap, subst, ◌∙◌}
+use Rattle.std.proofs.Common.{◌≡◌, ℕ, List, sym, ap, subst, ◌∙◌}
 use Rattle.cfm_prepare.specs.Fragments.{Present, new_among}
 use Rattle.cfm_prepare.specs.Lists.{IsOnce}
 use Rattle.cfm_prepare.specs.Kept.Ready.{AreAbsent}
-use Rattle.cfm_prepare.proofs.BegunLemmas.{new-members}
+use Rattle.cfm_prepare.proofs.BegunLemmas.{are-members}
 use Rattle.cfm_prepare.proofs.FoundLemmas.{absent-new}
 use Rattle.cfm_prepare.proofs.fragments.Fragments.prepare.Goals as goal
-
-are-members : (there : List Present) (order whole new : List ℕ) → order ≡ whole → new ≡ new_among there order → All (λ p. Contains whole p) new
-are-members there order whole new order_is new_is =
-    let P : List ℕ → Type 0 = λ ps. All (λ p. Contains whole p) ps in
-    subst P (sym (new_is ∙ ap (new_among there) order_is)) (new-members there whole)
 
 are-absent : (there : List Present) (order whole new : List ℕ) → order ≡ whole → new ≡ new_among there order → IsOnce whole → AreAbsent there new
 are-absent there order whole new order_is new_is once =

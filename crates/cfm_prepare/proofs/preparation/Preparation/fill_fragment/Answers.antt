@@ -11,7 +11,7 @@ pub fill_sections-requires-clause-there : goal.fill_sections-requires-clause-the
 fill_sections-requires-clause-there c =
     let is : container_at c.args.self.now.closure.now.pairs c.args.position ≡ Some (contained c.container-container.result) = c.container-container.ensures in
     let fits = c.requires.laid.fits in
-    let len = length-there c.args.self.now.closure.now.pairs c.args.position (contained c.container-container.result) fits.before fits.after c.args.places.now is fits.placed in
+    let len = length-there fits.rule c.args.self.now.closure.now.pairs c.args.position (contained c.container-container.result) fits.before fits.after c.args.places.now is fits.placed in
     omega (arith, len)
 
 pub fill_sections-requires-clause-sizes : goal.fill_sections-requires-clause-sizes
@@ -19,7 +19,7 @@ fill_sections-requires-clause-sizes c =
     let container = contained c.container-container.result in
     let is : container_at c.args.self.now.closure.now.pairs c.args.position ≡ Some container = c.container-container.ensures in
     let fits = c.requires.laid.fits in
-    (size-fragment container fits.before fits.after c.args.places.now (placed-there c.args.self.now.closure.now.pairs c.args.position container fits.before fits.after c.args.places.now is fits.placed))
+    (size-fragment fits.rule container fits.before fits.after c.args.places.now (placed-there fits.rule c.args.self.now.closure.now.pairs c.args.position container fits.before fits.after c.args.places.now is fits.placed))
 
 pub returns-in-Ok-clause-refused : goal.returns-in-Ok-clause-refused
 returns-in-Ok-clause-refused c =
@@ -27,7 +27,7 @@ returns-in-Ok-clause-refused c =
     let p = c.args.position in
     let is : container_at c.args.self.now.closure.now.pairs p ≡ Some container = c.container-container.ensures in
     let fits = c.requires.laid.fits in
-    let len = length-there c.args.self.now.closure.now.pairs p container fits.before fits.after c.args.places.now is fits.placed in
+    let len = length-there fits.rule c.args.self.now.closure.now.pairs p container fits.before fits.after c.args.places.now is fits.placed in
     ap (λ o. named c.args.self.now.closure.now.pairs p o) (image-there c.args.self.now.closure.now.pairs p container (length c.args.places.now) is len ∙ sym c.in-Ok.ensures.refused)
 
 pub returns-in-Err-clause-refused : goal.returns-in-Err-clause-refused
@@ -36,6 +36,6 @@ returns-in-Err-clause-refused c =
     let p = c.args.position in
     let is : container_at c.args.self.now.closure.now.pairs p ≡ Some container = c.container-container.ensures in
     let fits = c.requires.laid.fits in
-    let len = length-there c.args.self.now.closure.now.pairs p container fits.before fits.after c.args.places.now is fits.placed in
+    let len = length-there fits.rule c.args.self.now.closure.now.pairs p container fits.before fits.after c.args.places.now is fits.placed in
     ap (λ o. named c.args.self.now.closure.now.pairs p o) (image-there c.args.self.now.closure.now.pairs p container (length c.args.places.now) is len ∙ sym c.in-Err.ensures.refused)
     ∙ ap (λ n. Some (n, c.in-Err.image)) (sym c.name.ensures)

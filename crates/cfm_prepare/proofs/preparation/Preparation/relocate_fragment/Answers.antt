@@ -28,7 +28,7 @@ relocate_sections-requires-clause-count c =
     let is : loader_at c.args.self.now.closure.now.pairs p ≡ Some loader = c.loader-loader.ensures in
     let t = container-of c.args.self.now.closure.now.pairs p loader is in
     let fits = c.requires.laid.fits in
-    t.2 ∙ sym (length-there c.args.self.now.closure.now.pairs p t.0 fits.before fits.after (places_of c.args.present.now.items c.args.position) t.1 fits.placed) ∙ ap length (sym c.places-places.ensures)
+    t.2 ∙ sym (length-there fits.rule c.args.self.now.closure.now.pairs p t.0 fits.before fits.after (places_of c.args.present.now.items c.args.position) t.1 fits.placed) ∙ ap length (sym c.places-places.ensures)
 
 pub returns-in-Ok-clause-relocated : goal.returns-in-Ok-clause-relocated
 returns-in-Ok-clause-relocated c =

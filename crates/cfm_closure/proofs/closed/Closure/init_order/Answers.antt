@@ -1,5 +1,0 @@
-use Rattle.std.proofs.Common.{rules}
-use Rattle.cfm_closure.proofs.closed.Closure.init_order.Goals as goal
-
-pub returns : goal.returns
-returns c = search rules

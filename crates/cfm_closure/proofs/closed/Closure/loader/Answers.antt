@@ -1,5 +1,0 @@
-use Rattle.std.proofs.Common.{refl}
-use Rattle.cfm_closure.proofs.closed.Closure.loader.Goals as goal
-
-pub returns : goal.returns
-returns c = rw (← c.self.view_is, c.fragment.ensures) refl
