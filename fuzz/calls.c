@@ -466,8 +466,14 @@ static void read_connection(struct pef_context *context, uint32_t connection)
             fails("pef_is_present", (uint32_t)order[i]);
         is_ok("pef_fragment_symbol", pef_fragment_symbol(context, connection, order[i], (const uint8_t *)"t", 1, &address));
         struct pef_target target = {0};
+        struct pef_fragment_export export = {.number = 0};
+        struct pef_location location = {.connection = 0};
+        is_ok("pef_fragment_import_named", pef_fragment_import_named(context, connection, order[i], (const uint8_t *)"t", 1, &written));
         for (size_t number = 0; number < 32; number++) {
             is_ok("pef_export_address", pef_export_address(context, connection, order[i], number, &address));
+            if (is_ok("pef_fragment_export", pef_fragment_export(context, connection, order[i], number, &export)) && export.target.address != address)
+                fails("pef_fragment_export", (uint32_t)number);
+            is_ok("pef_at", pef_at(context, export.target.address, &location));
             if (is_ok("pef_import_target", pef_import_target(context, connection, order[i], number, &target)) && target.kind > PEF_TARGET_IN_SECTION)
                 fails("pef_import_target", target.kind);
         }
@@ -504,6 +510,26 @@ static void ask(struct pef_context *context, const char *name)
     }
 }
 
+/* Prepares at addresses one after another, from that of a page on. Of many sections only the first have one. */
+static bool prepare_at(struct pef_context *context, const char *name, uint8_t page, uint32_t *connection)
+{
+    struct pef_names told = PEF_NO_NAMES;
+    struct pef_place where = {0};
+    struct pef_new_section rows[64];
+    uint32_t addresses[64];
+    size_t count = 0;
+    memset(rows, 0, sizeof rows);
+    if (!is_ok("pef_new_sections", pef_new_sections(context, (const uint8_t *)name, strlen(name), 0, rows, 64, &count, &told)))
+        return false;
+    uint64_t next = 0x10000 + page * 0x1000ull;
+    for (size_t i = 0; i < count; i++) {
+        next = (next + rows[i].alignment - 1) / rows[i].alignment * rows[i].alignment;
+        addresses[i] = (uint32_t)next;
+        next += rows[i].size;
+    }
+    return is_ok("pef_prepare_at", pef_prepare_at(context, (const uint8_t *)name, strlen(name), addresses, count, connection, &told, &where));
+}
+
 /* One call on a context: what it is, and two numbers for it. */
 static void call(struct pef_context *context, uint8_t what, uint8_t one, uint8_t other)
 {
@@ -531,6 +557,8 @@ static void call(struct pef_context *context, uint8_t what, uint8_t one, uint8_t
     case 4:
     case 5:
         ask(context, name);
+        if (other % 4 == 3 && prepare_at(context, name, other, &connection))
+            read_connection(context, connection);
         if (is_ok("pef_prepare", pef_prepare(context, (const uint8_t *)name, strlen(name), &connection, &told)))
             read_connection(context, connection);
         break;

@@ -18,7 +18,7 @@
  * - A context is used by one thread at a time; but several may read it at once by the calls whose names end in `_const`. A
  *   listing or a report is used by one thread at a time. Apart from that, several threads may make calls at once: the library has
  *   no state outside of contexts, listings and reports.
- * - A thread that makes calls has 64 KB of stack for them, and 96 KB for pef_report_open() and pef_report_open_container(). No call
+ * - A thread that makes calls has 64 KB of stack for them, and 112 KB for pef_report_open() and pef_report_open_container(). No call
  *   takes more, whatever it reads.
  * - No call is made from a signal handler.
  * - malloc, realloc and free are those of the C library, or others whose blocks are aligned to 16 bytes.
@@ -179,7 +179,7 @@ struct pef_bytes {
 /* Only this library returns these: the caller's buffer is too small; there is no such thing; the context isn't open; a
  * fragment of an open connection was prepared without the weak library that is added; the context has as many fragments as
  * it may; the granule is none; the options have another size; the fragment is present; a fragment of an open connection names
- * it as a library; a fragment has the name already. */
+ * it as a library; a fragment has the name already; there are more or fewer addresses than new sections. */
 #define PEF_ROOM_TOO_SMALL 200
 #define PEF_NOT_THERE 201
 #define PEF_NOT_OPEN 202
@@ -190,6 +190,7 @@ struct pef_bytes {
 #define PEF_STILL_PRESENT 207
 #define PEF_STILL_NAMED 208
 #define PEF_NAME_TAKEN 209
+#define PEF_WRONG_ADDRESS_COUNT 210
 
 /* How many fragments a context has at most at a time, and how many connections it gives if no other number was asked for, closed ones
  * included. */
@@ -612,6 +613,14 @@ uint32_t pef_fixups(const uint8_t *container, size_t container_length, size_t he
 uint32_t pef_export_named(const uint8_t *container, size_t container_length, const uint8_t *name, size_t name_length, size_t *number, struct pef_export *found);
 
 /*
+ * Reads the first import with this name into `*found`, and stores its number, which is that of pef_imports(), in `*number`.
+ *
+ * Returns PEF_NOT_THERE, if no import has the name. Each call reads the whole loader section, and then one import after the
+ * other, as they have no hash table.
+ */
+uint32_t pef_import_named(const uint8_t *container, size_t container_length, const uint8_t *name, size_t name_length, size_t *number, struct pef_import *found);
+
+/*
  * The calls below read a container that may be damaged, as far as it can be read, with the structs of the calls above. An error in
  * one part hides no other part; pef_findings() has the errors. They allocate nothing. If they don't return PEF_OK, they leave all
  * that they would write unchanged.
@@ -1030,6 +1039,41 @@ uint32_t pef_prepare(struct pef_context *context, const uint8_t *name, size_t na
 uint32_t pef_prepare_with_place(struct pef_context *context, const uint8_t *name, size_t name_length, uint32_t *connection, struct pef_names *names, struct pef_place *place);
 
 /*
+ * A section that a preparation would place: the number of its fragment, and its number in the fragment's container. `kind` and
+ * `share` are codes (PEF_KIND_.., PEF_SHARE_..). It takes `size` bytes, and its address has to be a multiple of `alignment`: both
+ * count in the granule of the context. A section of 4 GB less a few bytes takes 2^32 bytes.
+ */
+struct pef_new_section {
+    size_t fragment;
+    uint32_t section;
+    uint8_t kind;
+    uint8_t share;
+    uint64_t size;
+    uint64_t alignment;
+};
+
+/*
+ * Gives the sections that pef_prepare() would place for a name, in the order in which it places them: those from number `from` on in
+ * the first of `places`, and how many they were in `*count`, which is as many as there are from there on, or as there are places. The
+ * other places are left unchanged. If all that the fragment needs is present, there are none.
+ *
+ * Returns PEF_OK; or an error that pef_prepare() returns before it places anything (1 to 20, 60 to 66, 68 to 70, or 75), or
+ * PEF_OUT_OF_MEMORY. If it isn't PEF_OK, `*names` has the names that belong to it, and `places` and `*count` are unchanged. What was
+ * read is kept for later calls; otherwise the context is unchanged.
+ */
+uint32_t pef_new_sections(struct pef_context *context, const uint8_t *name, size_t name_length, size_t from, struct pef_new_section *places, size_t place_count, size_t *count, struct pef_names *names);
+
+/*
+ * Prepares as pef_prepare_with_place() does, but places the sections at these addresses: there is one for each section that
+ * pef_new_sections() gives, in its order. An address has to be a multiple of the section's alignment and 00010000 (hex) or above. The
+ * bytes that the section takes have to be free, and below the limit.
+ *
+ * Returns what pef_prepare_with_place() returns. PEF_WRONG_ADDRESS_COUNT, if there are more or fewer addresses than sections, comes
+ * after PEF_TOO_MANY_STEPS_IN_ALL and before PEF_NO_ROOM, which is for the first section that can't lie at its address.
+ */
+uint32_t pef_prepare_at(struct pef_context *context, const uint8_t *name, size_t name_length, const uint32_t *addresses, size_t address_count, uint32_t *connection, struct pef_names *names, struct pef_place *place);
+
+/*
  * Closes a connection. Fragments that no other open connection needs are no longer present. The number of the connection isn't
  * given again.
  *
@@ -1158,6 +1202,69 @@ uint32_t pef_import_target(struct pef_context *context, uint32_t connection, siz
 uint32_t pef_export_address(struct pef_context *context, uint32_t connection, size_t fragment, size_t number, uint32_t *address);
 
 /*
+ * Counts the exports of a fragment, whose numbers are from 0 on and are those of pef_exports(). This call and the next two
+ * use what the context keeps of a fragment, so they don't read the container again.
+ *
+ * Returns PEF_NOT_THERE, if the connection isn't open, or its closure lacks the fragment.
+ */
+uint32_t pef_fragment_exports(struct pef_context *context, uint32_t connection, size_t fragment, size_t *count);
+
+/*
+ * An export of a fragment: its name, its number, where it ends, and its class. `target.kind` is PEF_TARGET_IN_SECTION, also
+ * if the section is another fragment's; or PEF_TARGET_ABSOLUTE; or PEF_TARGET_MISSING if it passes on an import that is
+ * missing: its address is 0, and it isn't the number 0. If `is_reexport` is true, it passes on the import with the
+ * number `import_number` of its fragment. The name is a part of the container.
+ */
+struct pef_fragment_export {
+    struct pef_bytes name;
+    size_t number;
+    struct pef_target target;
+    size_t import_number;
+    uint8_t symbol_class;
+    bool is_reexport;
+};
+
+/*
+ * Read export `number` of a fragment, and a fragment's first export with a name. `target.address` is the address that
+ * pef_export_address() and pef_fragment_symbol() give.
+ *
+ * Return PEF_NOT_THERE past the last export or if none has the name, and if the connection isn't open, or its closure lacks
+ * the fragment.
+ */
+uint32_t pef_fragment_export(struct pef_context *context, uint32_t connection, size_t fragment, size_t number, struct pef_fragment_export *found);
+uint32_t pef_fragment_export_named(struct pef_context *context, uint32_t connection, size_t fragment, const uint8_t *name, size_t name_length, struct pef_fragment_export *found);
+
+/*
+ * Gives the number of a fragment's first import with a name, for pef_import_target(). It reads one import after the other.
+ *
+ * Returns PEF_NOT_THERE, if no import has the name, or the connection isn't open, or its closure lacks the fragment.
+ */
+uint32_t pef_fragment_import_named(struct pef_context *context, uint32_t connection, size_t fragment, const uint8_t *name, size_t name_length, size_t *number);
+
+/*
+ * Where an address is: the fragment, the number of its section, the offset there, and the nearest export. That is, of the
+ * fragment's exports in this section whose offset isn't greater, the one with the greatest offset, and the first in the table if
+ * several have it. If there is none, `has_nearest` is false, and `nearest` has an empty name and zeros. `connection` is the lowest
+ * number of an open connection whose closure has the fragment, for the calls that ask for one.
+ */
+struct pef_location {
+    size_t fragment;
+    size_t section;
+    uint32_t connection;
+    uint32_t offset;
+    bool has_nearest;
+    struct pef_fragment_export nearest;
+};
+
+/*
+ * Finds where an address is, as a debugger or the report of an error in a program has to. It reads the exports of one fragment,
+ * one after the other.
+ *
+ * Returns PEF_NOT_THERE, if the address is in no section of a fragment that is present.
+ */
+uint32_t pef_at(struct pef_context *context, uint32_t address, struct pef_location *location);
+
+/*
  * The same calls for a `const struct pef_context *`. They write nothing of the struct and nothing of the context, so any number of
  * threads may be in them at once, also with one context: a debugger's thread may read what another thread prepared. While one
  * is in them, no thread makes a call with this context whose name doesn't end in `_const`. What such a call changed has to be
@@ -1243,6 +1350,36 @@ static inline uint32_t pef_export_address_const(const struct pef_context *contex
 {
     struct pef_context copy = *context;
     return pef_export_address(&copy, connection, fragment, number, address);
+}
+
+static inline uint32_t pef_fragment_exports_const(const struct pef_context *context, uint32_t connection, size_t fragment, size_t *count)
+{
+    struct pef_context copy = *context;
+    return pef_fragment_exports(&copy, connection, fragment, count);
+}
+
+static inline uint32_t pef_fragment_export_const(const struct pef_context *context, uint32_t connection, size_t fragment, size_t number, struct pef_fragment_export *found)
+{
+    struct pef_context copy = *context;
+    return pef_fragment_export(&copy, connection, fragment, number, found);
+}
+
+static inline uint32_t pef_fragment_export_named_const(const struct pef_context *context, uint32_t connection, size_t fragment, const uint8_t *name, size_t name_length, struct pef_fragment_export *found)
+{
+    struct pef_context copy = *context;
+    return pef_fragment_export_named(&copy, connection, fragment, name, name_length, found);
+}
+
+static inline uint32_t pef_fragment_import_named_const(const struct pef_context *context, uint32_t connection, size_t fragment, const uint8_t *name, size_t name_length, size_t *number)
+{
+    struct pef_context copy = *context;
+    return pef_fragment_import_named(&copy, connection, fragment, name, name_length, number);
+}
+
+static inline uint32_t pef_at_const(const struct pef_context *context, uint32_t address, struct pef_location *location)
+{
+    struct pef_context copy = *context;
+    return pef_at(&copy, address, location);
 }
 
 #ifdef __cplusplus

@@ -37,7 +37,10 @@ using place = struct ::pef_place;
 using placed_section = struct ::pef_fragment_section;
 using entries = struct ::pef_entries;
 using target = struct ::pef_target;
+using placed_export = struct ::pef_fragment_export;
+using location = struct ::pef_location;
 using missing_library = struct ::pef_missing;
+using new_section = struct ::pef_new_section;
 using options = struct ::pef_options;
 using forks = struct ::pef_forks;
 using resource = struct ::pef_resource;
@@ -175,6 +178,10 @@ public:
         size_t number;
         return pef_export_named(contents_.data(), contents_.size(), name.data(), name.size(), &number, &found) == PEF_OK;
     }
+    bool find_import(bytes name, size_t &number, imported &found) const
+    {
+        return pef_import_named(contents_.data(), contents_.size(), name.data(), name.size(), &number, &found) == PEF_OK;
+    }
 
 private:
     bytes contents_;
@@ -307,14 +314,33 @@ public:
         }
         return rows;
     }
+    /* The sections that prepare() would place, in its order. Throws what it throws before it places anything. */
+    std::vector<new_section> new_sections(bytes name)
+    {
+        std::vector<new_section> rows;
+        for (size_t room = 64, count = room; count == room;) {
+            struct ::pef_names names = PEF_NO_NAMES;
+            size_t from = rows.size();
+            rows.resize(from + room);
+            uint32_t answer = pef_new_sections(&state_->it, name.data(), name.size(), from, rows.data() + from, room, &count, &names);
+            if (answer != PEF_OK)
+                throw error(answer, error::nowhere(), names);
+            rows.resize(from + count);
+        }
+        return rows;
+    }
     /* Throws what pef_prepare_with_place() reports, with its names and its place. */
     connection prepare(bytes name);
+    /* The same with an address for each of new_sections(). Throws 210, too, if there are more or fewer. */
+    connection prepare_at(bytes name, const std::vector<uint32_t> &addresses);
     bool is_present(bytes name) const
     {
         bool answer = false;
         check(pef_is_present_const(&state_->it, name.data(), name.size(), &answer));
         return answer;
     }
+    /* Where an address is, if it is in a section of a fragment that is present. */
+    bool at(uint32_t address, location &found) const { return pef_at_const(&state_->it, address, &found) == PEF_OK; }
 
 private:
     friend class connection;
@@ -377,6 +403,16 @@ public:
     }
     bool symbol(bytes name, uint32_t &address) const { return pef_fragment_symbol_const(it_, connection_, number_, name.data(), name.size(), &address) == PEF_OK; }
     bool import_target(size_t number, target &found) const { return pef_import_target_const(it_, connection_, number_, number, &found) == PEF_OK; }
+    /* How many exports it has, and one of them with where it ends, by its number and by its name. */
+    size_t export_count() const
+    {
+        size_t count = 0;
+        check(pef_fragment_exports_const(it_, connection_, number_, &count));
+        return count;
+    }
+    bool find(size_t number, placed_export &found) const { return pef_fragment_export_const(it_, connection_, number_, number, &found) == PEF_OK; }
+    bool find(bytes name, placed_export &found) const { return pef_fragment_export_named_const(it_, connection_, number_, name.data(), name.size(), &found) == PEF_OK; }
+    bool find_import(bytes name, size_t &number) const { return pef_fragment_import_named_const(it_, connection_, number_, name.data(), name.size(), &number) == PEF_OK; }
     bool export_address(size_t number, uint32_t &address) const { return pef_export_address_const(it_, connection_, number_, number, &address) == PEF_OK; }
 
 private:
@@ -439,6 +475,17 @@ inline connection context::prepare(bytes name)
     pef::place where = error::nowhere();
     uint32_t number = 0;
     uint32_t answer = pef_prepare_with_place(&state_->it, name.data(), name.size(), &number, &names, &where);
+    if (answer != PEF_OK)
+        throw error(answer, where, names);
+    return connection(state_, number);
+}
+
+inline connection context::prepare_at(bytes name, const std::vector<uint32_t> &addresses)
+{
+    struct ::pef_names names = PEF_NO_NAMES;
+    pef::place where = error::nowhere();
+    uint32_t number = 0;
+    uint32_t answer = pef_prepare_at(&state_->it, name.data(), name.size(), addresses.data(), addresses.size(), &number, &names, &where);
     if (answer != PEF_OK)
         throw error(answer, where, names);
     return connection(state_, number);

@@ -1,4 +1,4 @@
-"""Where sections are placed: limits, gaps, alignments and pages, reserved ranges, and much memory."""
+"""Where sections are placed: limits, gaps, alignments and pages, reserved ranges, addresses that are given, and much memory."""
 from data.bare import Section, container
 
 NO_ROOM = None
@@ -144,7 +144,92 @@ def much(pef, count, size, align):
         return [it.address for it in sections], zeros
 
 
+# Options, the sections of a fragment, addresses for them, and 0 or the error. There is a section of 16 bytes at 00010000, and a reserved
+# range from 00010100 to 00010110. The limit is 00018000 if the options don't say otherwise.
+GIVEN = [
+    ({}, [], [], 0),
+    ({}, [(1, 0)], [0x10010], 0),
+    ({}, [(1, 0)], [0x17FF0], 0),
+    # meets the section, isn't a multiple of the granule, lies below the first address, or passes the limit
+    ({}, [(1, 0)], [0x10000], 67),
+    ({}, [(1, 0)], [0x10018], 67),
+    ({}, [(1, 0)], [0xFFF0], 67),
+    ({}, [(1, 0)], [0], 67),
+    ({}, [(1, 0)], [0x18000], 67),
+    ({}, [(17, 0)], [0x17FF0], 67),
+    ({}, [(1, 0)], [0xFFFFFFF0], 67),
+    # its alignment
+    ({}, [(1, 12)], [0x11000], 0),
+    ({}, [(1, 12)], [0x10800], 67),
+    # the reserved range: it ends before it, begins after it, meets it
+    ({}, [(0x20, 0)], [0x100E0], 0),
+    ({}, [(0x21, 0)], [0x100E0], 67),
+    ({}, [(1, 0)], [0x10110], 0),
+    ({}, [(1, 0)], [0x10100], 67),
+    # later sections may be below, and none may meet one before it
+    ({}, [(16, 0), (16, 0)], [0x10040, 0x10030], 0),
+    ({}, [(16, 0), (17, 0)], [0x10040, 0x10030], 67),
+    ({}, [(0, 0), (0, 0)], [0x10040, 0x10040], 67),
+    # too few, too many
+    ({}, [(1, 0)], [], 210),
+    ({}, [(1, 0)], [0x10010, 0x10020], 210),
+    ({}, [(1, 0), (1, 0)], [0], 210),
+    ({}, [], [0x10010], 210),
+    # the bounds come first
+    ({"bytes": 31}, [(17, 0)], [], 75),
+    ({"bytes": 32}, [(17, 0)], [0x10010], 0),
+    # pages
+    ({"granule": 4096}, [(1, 0)], [0x11000], 0),
+    ({"granule": 4096}, [(1, 0)], [0x10800], 67),
+    ({"granule": 4096, "limit": 0x11FFF}, [(1, 0)], [0x11000], 67),
+]
+
+
+def given(pef, options, sections, addresses):
+    """0, and the sections that were new with where they are; or the error."""
+    with pef.Context(**{"limit": 0x18000, **options}) as context:
+        context.add("there", fragment(16, 0))
+        context.prepare("there")
+        if context.new_sections("there") != []:
+            return "new sections"
+        if options.get("granule", 16) == 16:
+            context.reserve(0x10100, 16)
+        context.add("it", container([Section(total=size, align=align) for size, align in sections]))
+        try:
+            placed = context.prepare_at("it", addresses).root.sections
+        except pef.PefError as error:
+            return error.number, context.is_present("it")
+        return 0, [(it.address, it.contents) for it in placed]
+
+
+def granted(options, sections, addresses, answer):
+    """What that gives."""
+    if answer:
+        return answer, False
+    return 0, [(address, bytes(size)) for address, (size, _) in zip(addresses, sections)]
+
+
+# The sizes and alignments of sections, what they take and their addresses are multiples of, with a granule of 16 and of 4096.
+NEEDS = [
+    ((0, 0), (16, 16), (4096, 4096)),
+    ((1, 4), (16, 16), (4096, 4096)),
+    ((17, 5), (32, 32), (4096, 4096)),
+    ((4097, 13), (4112, 8192), (8192, 8192)),
+    ((0xFFFFFFFF, 31), (0x100000000, 0x80000000), (0x100000000, 0x80000000)),
+]
+
+
+def needs(pef, granule):
+    with pef.Context(granule=granule) as context:
+        context.add("it", container([Section(total=size, align=align) for (size, align), _, _ in NEEDS]))
+        return [(it.fragment, it.number, it.size, it.alignment) for it in context.new_sections("it")]
+
+
 def checks(pef):
+    for row, (options, sections, addresses, answer) in enumerate(GIVEN):
+        yield f"sections at given addresses, row {row}", given(pef, options, sections, addresses), granted(options, sections, addresses, answer)
+    for which, granule in ((1, 16), (2, 4096)):
+        yield f"what sections need with a granule of {granule}", needs(pef, granule), [("it", number, *row[which]) for number, row in enumerate(NEEDS)]
     for options, steps in ROWS:
         yield f"sections with {options}", placed(pef, options, steps), [address for _, _, address in steps]
     for granule, good in GRANULES:

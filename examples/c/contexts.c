@@ -24,7 +24,11 @@ static void expect_not_open(struct pef_context *context)
     struct pef_fragment_section section = {0};
     struct pef_entries entries = {0};
     struct pef_target target = {.kind = 7};
+    struct pef_fragment_export export = {.number = 7};
+    struct pef_location location = {.connection = 7};
     struct pef_missing missing = {.fragment = 7};
+    struct pef_new_section new_section = {.fragment = 7};
+    struct pef_place place = {.row = 7};
     uint32_t connection = 7, address = 7;
     size_t order[1] = {7}, count = 7;
     uint8_t room[1] = {7};
@@ -46,10 +50,17 @@ static void expect_not_open(struct pef_context *context)
     expect(pef_reserve(context, 0, 1) == PEF_NOT_OPEN, "pef_reserve on a closed context");
     expect(pef_unreserve(context, 0, 1) == PEF_NOT_OPEN, "pef_unreserve on a closed context");
     expect(pef_missing(context, room, 1, 0, &missing, 1, &count, &names) == PEF_NOT_OPEN && missing.fragment == 7, "pef_missing on a closed context");
+    expect(pef_new_sections(context, room, 1, 0, &new_section, 1, &count, &names) == PEF_NOT_OPEN && new_section.fragment == 7, "pef_new_sections on a closed context");
+    expect(pef_prepare_at(context, room, 1, NULL, 0, &connection, &names, &place) == PEF_NOT_OPEN && place.row == 7, "pef_prepare_at on a closed context");
     expect(pef_new_fragments(context, 0, order, 1, &count) == PEF_NOT_OPEN, "pef_new_fragments on a closed context");
     expect(pef_released_by(context, 0, order, 1, &count) == PEF_NOT_OPEN, "pef_released_by on a closed context");
     expect(pef_import_target(context, 0, 0, 0, &target) == PEF_NOT_OPEN, "pef_import_target on a closed context");
     expect(pef_export_address(context, 0, 0, 0, &address) == PEF_NOT_OPEN, "pef_export_address on a closed context");
+    expect(pef_fragment_exports(context, 0, 0, &count) == PEF_NOT_OPEN, "pef_fragment_exports on a closed context");
+    expect(pef_fragment_export(context, 0, 0, 0, &export) == PEF_NOT_OPEN, "pef_fragment_export on a closed context");
+    expect(pef_fragment_export_named(context, 0, 0, room, 1, &export) == PEF_NOT_OPEN && export.number == 7, "pef_fragment_export_named on a closed context");
+    expect(pef_fragment_import_named(context, 0, 0, room, 1, &count) == PEF_NOT_OPEN, "pef_fragment_import_named on a closed context");
+    expect(pef_at(context, 0, &location) == PEF_NOT_OPEN && location.connection == 7, "pef_at on a closed context");
     expect(connection == 7 && address == 7 && order[0] == 7 && count == 7 && room[0] == 7 && target.kind == 7, "a closed context writes");
     pef_free(context);
 }
@@ -99,6 +110,7 @@ static void expect_meanings(struct pef_context *context, uint32_t connection, si
     struct pef_export row = {.name = PEF_NO_BYTES};
     struct pef_target target = {.kind = 7};
     struct pef_loader loader = {0};
+    struct pef_fragment_export export = {.number = 7};
     size_t count = 0, first = 0;
     uint32_t address = 0, by_name = 1;
     expect(pef_loader(it.at, it.length, &loader) == PEF_OK, "the loader section");
@@ -107,9 +119,12 @@ static void expect_meanings(struct pef_context *context, uint32_t connection, si
         expect(pef_export_named(it.at, it.length, row.name.at, row.name.length, &first, &row) == PEF_OK, "its name");
         expect(pef_export_address(context, connection, fragment, first, &address) == PEF_OK, "its address");
         expect(pef_fragment_symbol(context, connection, fragment, row.name.at, row.name.length, &by_name) == PEF_OK && by_name == address, "its address by name");
+        expect(pef_fragment_export_named(context, connection, fragment, row.name.at, row.name.length, &export) == PEF_OK && export.number == first, "the export of its name");
+        expect(export.target.address == address && export.symbol_class == row.symbol_class && export.is_reexport == (row.section == PEF_REEXPORT), "what it is");
     }
     for (size_t i = 0; i < loader.import_count; i++)
         expect(pef_import_target(context, connection, fragment, i, &target) == PEF_OK && target.kind <= PEF_TARGET_IN_SECTION, "an import");
+    expect(pef_fragment_exports(context, connection, fragment, &count) == PEF_OK && count == loader.export_count, "how many exports there are");
     address = 7;
     target.kind = 7;
     expect(pef_export_address(context, connection, fragment, loader.export_count, &address) == PEF_NOT_THERE && address == 7, "an export past the last");

@@ -49,10 +49,17 @@ static const struct number places[] = {
     SIZE(pef_missing, 48), AT(pef_missing, name, 0), AT(pef_missing, fragment, 16), AT(pef_missing, current_version, 24),
     AT(pef_missing, old_imp_version, 28), AT(pef_missing, found_version, 32), AT(pef_missing, found_old_def_version, 36),
     AT(pef_missing, is_weak, 40), AT(pef_missing, is_found, 41),
+    SIZE(pef_new_section, 32), AT(pef_new_section, fragment, 0), AT(pef_new_section, section, 8), AT(pef_new_section, kind, 12),
+    AT(pef_new_section, share, 13), AT(pef_new_section, size, 16), AT(pef_new_section, alignment, 24),
     SIZE(pef_fragment_section, 24), AT(pef_fragment_section, address, 0), AT(pef_fragment_section, size, 8),
     AT(pef_fragment_section, kind, 16), AT(pef_fragment_section, share, 17),
     SIZE(pef_target, 32), AT(pef_target, kind, 0), AT(pef_target, fragment, 8), AT(pef_target, section, 16),
     AT(pef_target, offset, 20), AT(pef_target, address, 24),
+    SIZE(pef_fragment_export, 72), AT(pef_fragment_export, name, 0), AT(pef_fragment_export, number, 16),
+    AT(pef_fragment_export, target, 24), AT(pef_fragment_export, import_number, 56), AT(pef_fragment_export, symbol_class, 64),
+    AT(pef_fragment_export, is_reexport, 65),
+    SIZE(pef_location, 104), AT(pef_location, fragment, 0), AT(pef_location, section, 8), AT(pef_location, connection, 16),
+    AT(pef_location, offset, 20), AT(pef_location, has_nearest, 24), AT(pef_location, nearest, 32),
     SIZE(pef_entries, 16), AT(pef_entries, init, 0), AT(pef_entries, main, 4), AT(pef_entries, term, 8),
     AT(pef_entries, has_init, 12), AT(pef_entries, has_main, 13), AT(pef_entries, has_term, 14),
     SIZE(pef_part, 40), AT(pef_part, bytes, 0), AT(pef_part, offset, 16), AT(pef_part, error_offset, 24), AT(pef_part, error, 32),
@@ -89,7 +96,7 @@ static const struct number constants[] = {
     IS(PEF_FRAGMENT_TABLE_CUT, 94), IS(PEF_FRAGMENT_OUTSIDE, 98), IS(PEF_OUT_OF_MEMORY, 99), IS(PEF_NOTE_RESERVED_NOT_ZERO, 101),
     IS(PEF_NOTE_TRAILING_BYTES, 109), IS(PEF_NOTE_WORD_RELOCATED_TWICE, 114), IS(PEF_NOTE_SECTIONS_OUT_OF_ORDER, 116), IS(PEF_NOTE_NAME_OUTSIDE, 121),
     IS(PEF_ROOM_TOO_SMALL, 200), IS(PEF_NOT_THERE, 201), IS(PEF_NOT_OPEN, 202), IS(PEF_ADDED_TOO_LATE, 203), IS(PEF_BAD_GRANULE, 205), IS(PEF_BAD_OPTIONS, 206),
-    IS(PEF_STILL_PRESENT, 207), IS(PEF_STILL_NAMED, 208), IS(PEF_NAME_TAKEN, 209),
+    IS(PEF_STILL_PRESENT, 207), IS(PEF_STILL_NAMED, 208), IS(PEF_NAME_TAKEN, 209), IS(PEF_WRONG_ADDRESS_COUNT, 210),
     IS(PEF_KIND_CODE, 0), IS(PEF_KIND_DATA, 1), IS(PEF_KIND_PACKED, 2), IS(PEF_KIND_LOADER, 4), IS(PEF_SHARE_GLOBAL, 4),
     IS(PEF_SHARE_PROTECTED, 5), IS(PEF_CLASS_TVECTOR, 2), IS(PEF_CLASS_TOC, 3), IS(PEF_CLASS_GLUE, 4), IS(PEF_ABSOLUTE, -2),
     IS(PEF_REEXPORT, -3), IS(PEF_LIBRARY_INIT_BEFORE, 0x80), IS(PEF_FIXUP_SECTION, 1), IS(PEF_NOWHERE, 0), IS(PEF_SECTION_PART, 2),
@@ -342,7 +349,7 @@ static void test_exports(void)
 }
 
 /* The containers of fragments, which stay until the program ends. */
-enum { ROOMS = 12, ROOM = 512 };
+enum { ROOMS = 24, ROOM = 512 };
 static uint8_t rooms[ROOMS][ROOM];
 static size_t used_rooms;
 
@@ -500,6 +507,34 @@ static void test_missing(void)
     COMPARE(numbers);
 }
 
+/* The second section of a library of the fragment. */
+static void test_new_section(void)
+{
+    struct pef_context context = {0};
+    struct pef_names names = PEF_NO_NAMES;
+    struct pef_new_section it = {0};
+    size_t count = 7;
+    uint32_t opened = pef_open(&context, 0x10000000);
+    uint32_t user = add_script(&context, "User", "library L 0 0 -\nsection code code global 4 4\n");
+    uint32_t library = add_script(&context, "L", "section code code global 4 4\nsection data data process 6 100\n");
+    uint32_t answer = pef_new_sections(&context, (const uint8_t *)"User", 4, 1, &it, 1, &count, &names);
+    pef_free(&context);
+    const struct number numbers[] = {
+        {"pef_open", opened, PEF_OK},
+        {"pef_add, of the user", user, PEF_OK},
+        {"pef_add, of the library", library, PEF_OK},
+        {"pef_new_sections", answer, PEF_OK},
+        {"count", count, 1},
+        {"pef_new_section.fragment", it.fragment, 1},
+        {"pef_new_section.section", it.section, 1},
+        {"pef_new_section.kind", it.kind, PEF_KIND_DATA},
+        {"pef_new_section.share", it.share, PEF_SHARE_PROCESS},
+        {"pef_new_section.size", it.size, 112},
+        {"pef_new_section.alignment", it.alignment, 64},
+    };
+    COMPARE(numbers);
+}
+
 /* A symbol that a library lacks is reported with all three names. */
 static void test_names(void)
 {
@@ -542,6 +577,7 @@ int main(void)
     test_entries();
     test_target();
     test_missing();
+    test_new_section();
     test_names();
     printf("%zu numbers, %zu of them differ\n", compared, different);
     return different == 0 ? 0 : 1;

@@ -243,6 +243,159 @@ static void test_meanings(void)
     EXPECT(pef_export_address(&context, 0, 1, 0, &address) == PEF_NOT_OPEN);
 }
 
+/* Exports of each kind, some of which pass on the imports of `importing`. Two are at one place. */
+static const char passing[] =
+    "library N 1 0 -\n"
+    "import v data strong\n"
+    "import n data strong\n"
+    "import x code weak\n"
+    "section a data process 4 16\n"
+    "export low tvector a 4\n"
+    "export twin data a 4\n"
+    "export high code a 12\n"
+    "absolute none glue 0\n"
+    "reexport v data v\n"
+    "reexport n data n\n"
+    "reexport gone data x\n";
+
+/* What is expected of an export by its name. Those that pass no import on have the import 0. */
+struct passed {
+    const char *name;
+    struct pef_target target;
+    size_t import_number;
+    uint8_t symbol_class;
+    bool is_reexport;
+};
+
+/* The section of fragment 0 is after the second one of the library, which is fragment 1. */
+static const struct passed passed[] = {
+    {"low", {PEF_TARGET_IN_SECTION, 0, 0, 4, 0x00010024}, 0, PEF_CLASS_TVECTOR, false},
+    {"twin", {PEF_TARGET_IN_SECTION, 0, 0, 4, 0x00010024}, 0, PEF_CLASS_DATA, false},
+    {"high", {PEF_TARGET_IN_SECTION, 0, 0, 12, 0x0001002C}, 0, PEF_CLASS_CODE, false},
+    {"none", {PEF_TARGET_ABSOLUTE, 0, 0, 0, 0}, 0, PEF_CLASS_GLUE, false},
+    {"v", {PEF_TARGET_IN_SECTION, 1, 1, 4, 0x00010014}, 0, PEF_CLASS_DATA, true},
+    {"n", {PEF_TARGET_ABSOLUTE, 0, 0, 0, 0x89ABCDEF}, 1, PEF_CLASS_DATA, true},
+    {"gone", {PEF_TARGET_MISSING, 0, 0, 0, 0}, 2, PEF_CLASS_DATA, true},
+};
+
+enum { PASSED = sizeof passed / sizeof passed[0] };
+
+static bool is_passed(struct pef_fragment_export found, const struct passed *wanted)
+{
+    return is_named(found.name, wanted->name) && is_target(found.target, wanted->target) && found.import_number == wanted->import_number
+        && found.symbol_class == wanted->symbol_class && found.is_reexport == wanted->is_reexport;
+}
+
+static void expect_passed(struct pef_context *context, struct pef_bytes container)
+{
+    struct pef_fragment_export found = {.number = 7}, numbered = {.number = 7};
+    struct pef_export row;
+    size_t number = 7, count = 7;
+    uint32_t address = 7;
+    EXPECT(pef_fragment_exports(context, 0, 0, &count) == PEF_OK && count == PASSED);
+    for (size_t i = 0; i < PASSED; i++) {
+        const char *name = passed[i].name;
+        EXPECT(pef_fragment_export_named(context, 0, 0, TEXT(name), &found) == PEF_OK && is_passed(found, &passed[i]));
+        EXPECT(pef_export_named(BYTES(container), TEXT(name), &number, &row) == PEF_OK && found.number == number);
+        EXPECT(pef_fragment_export(context, 0, 0, number, &numbered) == PEF_OK && is_passed(numbered, &passed[i]) && numbered.number == number);
+        EXPECT(pef_export_address(context, 0, 0, number, &address) == PEF_OK && address == passed[i].target.address);
+    }
+    found.number = count = 7;
+    EXPECT(pef_fragment_export(context, 0, 0, PASSED, &found) == PEF_NOT_THERE);
+    EXPECT(pef_fragment_export_named(context, 0, 0, TEXT("lo"), &found) == PEF_NOT_THERE);
+    EXPECT(pef_fragment_export(context, 1, 0, 0, &found) == PEF_NOT_THERE && pef_fragment_export(context, 0, 2, 0, &found) == PEF_NOT_THERE);
+    EXPECT(pef_fragment_exports(context, 1, 0, &count) == PEF_NOT_THERE && pef_fragment_exports(context, 0, 2, &count) == PEF_NOT_THERE);
+    EXPECT(found.number == 7 && count == 7);
+}
+
+static void expect_imports(struct pef_context *context, struct pef_bytes container)
+{
+    struct pef_import found = {.library = 7};
+    size_t number = 7;
+    EXPECT(pef_import_named(BYTES(container), TEXT("x"), &number, &found) == PEF_OK && number == 2);
+    EXPECT(is_named(found.name, "x") && found.library == 0 && found.symbol_class == PEF_CLASS_CODE && found.weak);
+    EXPECT(pef_import_named(BYTES(container), TEXT("high"), &number, &found) == PEF_NOT_THERE && number == 2 && found.weak);
+    EXPECT(pef_import_named(BYTES(container), TEXT(""), &number, &found) == PEF_NOT_THERE);
+    EXPECT(pef_import_named(container.at, 40, TEXT("x"), &number, &found) != PEF_OK && number == 2);
+    EXPECT(pef_fragment_import_named(context, 0, 0, TEXT("n"), &number) == PEF_OK && number == 1);
+    EXPECT(pef_fragment_import_named(context, 0, 0, TEXT("high"), &number) == PEF_NOT_THERE);
+    EXPECT(pef_fragment_import_named(context, 0, 1, TEXT("n"), &number) == PEF_NOT_THERE);
+    EXPECT(pef_fragment_import_named(context, 1, 0, TEXT("n"), &number) == PEF_NOT_THERE && number == 1);
+}
+
+/* Where an address is: the name of the nearest export, and its offset. No name is no export. Twins are told apart by their numbers. */
+struct located {
+    uint32_t address;
+    size_t fragment, section;
+    uint32_t offset;
+    const char *nearest;
+    uint32_t nearest_offset;
+};
+
+static void expect_located(struct pef_context *context, const char *first)
+{
+    const struct located located[] = {
+        {0x00010000, 1, 0, 0, NULL, 0},
+        {0x00010003, 1, 0, 3, NULL, 0},
+        {0x00010013, 1, 1, 3, NULL, 0},
+        {0x00010014, 1, 1, 4, "v", 4},
+        {0x00010017, 1, 1, 7, "v", 4},
+        {0x00010020, 0, 0, 0, NULL, 0},
+        {0x00010023, 0, 0, 3, NULL, 0},
+        {0x00010024, 0, 0, 4, first, 4},
+        {0x0001002B, 0, 0, 11, first, 4},
+        {0x0001002C, 0, 0, 12, "high", 12},
+        {0x0001002F, 0, 0, 15, "high", 12},
+    };
+    static const uint32_t nowhere[] = {0, 0x0000FFFF, 0x00010004, 0x0001000F, 0x00010018, 0x00010030, 0xFFFFFFFF};
+    struct pef_location it;
+    for (size_t i = 0; i < sizeof located / sizeof located[0]; i++) {
+        const struct located *wanted = &located[i];
+        memset(&it, 0xFF, sizeof it);
+        EXPECT(pef_at(context, wanted->address, &it) == PEF_OK && it.connection == 0);
+        EXPECT(it.fragment == wanted->fragment && it.section == wanted->section && it.offset == wanted->offset);
+        EXPECT(it.has_nearest == (wanted->nearest != NULL) && is_named(it.nearest.name, wanted->nearest == NULL ? "" : wanted->nearest));
+        EXPECT(it.nearest.target.offset == wanted->nearest_offset && it.nearest.target.kind == (wanted->nearest == NULL ? PEF_TARGET_MISSING : PEF_TARGET_IN_SECTION));
+    }
+    it.offset = 7;
+    for (size_t i = 0; i < sizeof nowhere / sizeof nowhere[0]; i++)
+        EXPECT(pef_at(context, nowhere[i], &it) == PEF_NOT_THERE && it.offset == 7);
+}
+
+/* A second connection has the library alone. */
+static void expect_located_later(struct pef_context *context)
+{
+    struct pef_location it = {.connection = 7};
+    prepare(context, "N", 1);
+    EXPECT(pef_at(context, 0x00010014, &it) == PEF_OK && it.connection == 0);
+    EXPECT(pef_close(context, 0) == PEF_OK);
+    EXPECT(pef_at(context, 0x00010014, &it) == PEF_OK && it.connection == 1 && it.fragment == 1 && is_named(it.nearest.name, "v"));
+    EXPECT(pef_at(context, 0x00010024, &it) == PEF_NOT_THERE);
+}
+
+static void test_passed(void)
+{
+    struct pef_context context = PEF_NO_CONTEXT;
+    struct pef_bytes container = linked(passing);
+    struct pef_fragment_export low = {.number = 7}, twin = {.number = 7};
+    struct pef_location it = {.connection = 7};
+    size_t number = 7;
+    EXPECT(pef_open(&context, limit) == PEF_OK);
+    EXPECT(pef_add(&context, TEXT("A"), BYTES(container)) == PEF_OK);
+    add(&context, "N", exporting);
+    prepare(&context, "A", 0);
+    expect_passed(&context, container);
+    expect_imports(&context, container);
+    EXPECT(pef_fragment_export_named(&context, 0, 0, TEXT("low"), &low) == PEF_OK && pef_fragment_export_named(&context, 0, 0, TEXT("twin"), &twin) == PEF_OK);
+    expect_located(&context, low.number < twin.number ? "low" : "twin");
+    expect_located_later(&context);
+    pef_free(&context);
+    EXPECT(pef_at(&context, 0x00010014, &it) == PEF_NOT_OPEN && it.connection == 7);
+    EXPECT(pef_fragment_exports(&context, 0, 0, &number) == PEF_NOT_OPEN && pef_fragment_import_named(&context, 0, 0, TEXT("n"), &number) == PEF_NOT_OPEN);
+    EXPECT(pef_fragment_export(&context, 0, 0, 0, &low) == PEF_NOT_OPEN && pef_fragment_export_named(&context, 0, 0, TEXT("v"), &low) == PEF_NOT_OPEN);
+    EXPECT(number == 7);
+}
+
 /* Names a weak library, one that needs another weak one and the first, and one of another version. */
 static const char lacking[] =
     "library W 1 0 weak\n"
@@ -287,6 +440,37 @@ static void test_missing(void)
     EXPECT(is_named(names.fragment, "W"));
     pef_free(&context);
     EXPECT(pef_missing(&context, TEXT("A"), 0, rows, 3, &count, &names) == PEF_NOT_OPEN && count == 0);
+}
+
+/* Sections are placed at the addresses that are given, or none is. */
+static void test_prepare_at(void)
+{
+    static const uint32_t unaligned[] = {0x20000, 0x20020}, given[] = {0x20000, 0x10040};
+    struct pef_context context = PEF_NO_CONTEXT;
+    struct pef_names names = PEF_NO_NAMES;
+    struct pef_place place = {7, 7, 7, 7};
+    struct pef_fragment_section section = {0};
+    struct pef_new_section rows[3] = {{.fragment = 7}, {.fragment = 7}, {.fragment = 7}};
+    size_t count = 7;
+    uint32_t connection = 7;
+    EXPECT(pef_open(&context, limit) == PEF_OK);
+    EXPECT(pef_new_sections(&context, TEXT("A"), 0, rows, 3, &count, &names) == PEF_ROOT_MISSING && count == 7 && rows[0].fragment == 7);
+    EXPECT(pef_prepare_at(&context, TEXT("A"), NULL, 0, &connection, &names, &place) == PEF_ROOT_MISSING);
+    add(&context, "A", "section s data process 4 20\nsection t data process 6 16\n");
+    EXPECT(pef_new_sections(&context, TEXT("A"), 0, rows, 3, &count, &names) == PEF_OK && count == 2 && rows[2].fragment == 7);
+    EXPECT(rows[0].fragment == 0 && rows[0].section == 0 && rows[0].size == 32 && rows[0].alignment == 16);
+    EXPECT(rows[1].fragment == 0 && rows[1].section == 1 && rows[1].size == 16 && rows[1].alignment == 64);
+    EXPECT(pef_new_sections(&context, TEXT("A"), 2, NULL, 0, &count, &names) == PEF_OK && count == 0);
+    EXPECT(pef_prepare_at(&context, TEXT("A"), NULL, 0, &connection, &names, &place) == PEF_WRONG_ADDRESS_COUNT);
+    EXPECT(names.fragment.length == 0 && place.part == PEF_NOWHERE && connection == 7);
+    EXPECT(pef_prepare_at(&context, TEXT("A"), unaligned, 2, &connection, &names, &place) == PEF_NO_ROOM);
+    EXPECT(is_named(names.fragment, "A") && place.row == 1 && connection == 7);
+    EXPECT(pef_prepare_at(&context, TEXT("A"), given, 2, &connection, &names, &place) == PEF_OK && connection == 0);
+    EXPECT(pef_fragment_section(&context, 0, 0, 0, &section) == PEF_OK && section.address == 0x20000);
+    EXPECT(pef_fragment_section(&context, 0, 0, 1, &section) == PEF_OK && section.address == 0x10040);
+    EXPECT(pef_new_sections(&context, TEXT("A"), 0, rows, 3, &count, &names) == PEF_OK && count == 0);
+    EXPECT(pef_prepare_at(&context, TEXT("A"), NULL, 0, &connection, &names, &place) == PEF_OK && connection == 1);
+    pef_free(&context);
 }
 
 /* A library isn't added while a connection is open that was prepared without it. */
@@ -452,7 +636,9 @@ int main(void)
     test_present();
     test_reserved();
     test_meanings();
+    test_passed();
     test_missing();
+    test_prepare_at();
     test_added_too_late();
     test_removed();
     test_refused();

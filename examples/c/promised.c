@@ -46,6 +46,7 @@ static void test_null_slices(void)
     struct pef_loader loader;
     struct pef_place place;
     struct pef_export export;
+    struct pef_import import;
     struct pef_finding finding;
     size_t count = 7, number = 7, line = 7;
     expect(pef_header(NULL, 0, &header) == PEF_TOO_SHORT, "pef_header of null");
@@ -72,6 +73,7 @@ static void test_null_slices(void)
     expect(pef_exports(NULL, 0, 0, NULL, 0, &count) == PEF_TOO_SHORT, "pef_exports of null");
     expect(pef_fixups(NULL, 0, 0, 0, NULL, 0, &count) == PEF_TOO_SHORT, "pef_fixups of null");
     expect(pef_export_named(NULL, 0, NULL, 0, &number, &export) == PEF_TOO_SHORT, "pef_export_named of null");
+    expect(pef_import_named(NULL, 0, NULL, 0, &number, &import) == PEF_TOO_SHORT, "pef_import_named of null");
     expect(pef_expand(NULL, 0, NULL, 0) == PEF_OK, "pef_expand of no bytes to none");
     expect(pef_link((const uint8_t *)"", 0, container, 0, &number, &line) == PEF_ROOM_TOO_SMALL && number > 40, "pef_link of no line");
     expect(pef_link(NULL, 0, NULL, 0, &count, &line) == PEF_ROOM_TOO_SMALL && count == number && line == 0, "pef_link of null");

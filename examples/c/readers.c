@@ -912,6 +912,18 @@ static struct pef_context *context;
 static uint32_t connection;
 static struct work alone, works[THREADS];
 
+/* Tells an export with where it ends, by its number and by its name, and where its address is. */
+static void tell_export(struct told *told, const struct pef_context *from, size_t fragment, size_t number)
+{
+    struct pef_fragment_export export = {.number = 7}, named = {.number = 7};
+    struct pef_location location = {.connection = 7};
+    tell_number(told, pef_fragment_export_const(from, connection, fragment, number, &export));
+    tell_number(told, pef_fragment_export_named_const(from, connection, fragment, export.name.at, export.name.length, &named));
+    tell(told, &named.number, sizeof named.number);
+    tell_number(told, pef_at_const(from, export.target.address, &location));
+    tell(told, &location.nearest.number, sizeof location.nearest.number);
+}
+
 /* Tells what a fragment's imports mean, and the addresses of its exports, by their numbers and by their names. */
 static void tell_symbols(struct told *told, const struct pef_context *from, size_t fragment)
 {
@@ -936,7 +948,12 @@ static void tell_symbols(struct told *told, const struct pef_context *from, size
         if (pef_exports(container.at, container.length, i, &export, 1, &count) == PEF_OK && count == 1)
             tell_number(told, pef_fragment_symbol_const(from, connection, fragment, export.name.at, export.name.length, &named));
         tell_number(told, named);
+        tell_export(told, from, fragment, i);
     }
+    tell_number(told, pef_fragment_exports_const(from, connection, fragment, &count));
+    tell(told, &count, sizeof count);
+    tell_number(told, pef_fragment_import_named_const(from, connection, fragment, TEXT("v"), &count));
+    tell(told, &count, sizeof count);
 }
 
 /* Tells everything that a context says of the connection. Returns whether all calls answered. */

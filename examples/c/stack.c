@@ -2,7 +2,7 @@
  * Measures how much stack each call takes: stack FILE.. has every call read, list and prepare the containers of the files, and
  * then containers that were made to take much: libraries out of order, 256 fragments that need one another in a row, and a
  * chain of exports that are passed on. A call runs in a thread whose stack is full of one byte, and what it changed is counted.
- * A call that takes more than 64 KB, or one that opens a report and takes more than 96 KB, is told, and the status is then 1.
+ * A call that takes more than 64 KB, or one that opens a report and takes more than 112 KB, is told, and the status is then 1.
  */
 #define _DEFAULT_SOURCE
 #include "file.h"
@@ -12,7 +12,7 @@
 #include <string.h>
 #include <sys/mman.h>
 
-enum { STACK = 1 << 21, LIMIT = 1 << 16, REPORT_LIMIT = 96 << 10, FILLED = 0xA5, ROOM = 1 << 20, PLACES = 1024 };
+enum { STACK = 1 << 21, LIMIT = 1 << 16, REPORT_LIMIT = 112 << 10, FILLED = 0xA5, ROOM = 1 << 20, PLACES = 1024 };
 
 /* --- what a piece of work takes --- */
 
@@ -267,6 +267,22 @@ static void call_missing(void)
     answer = pef_missing(&context, (const uint8_t *)"0", 1, 0, missing, 16, &count, &names);
 }
 
+static void call_new_sections(void)
+{
+    static struct pef_new_section sections[16];
+    static struct pef_names names;
+    answer = pef_new_sections(&context, (const uint8_t *)"0", 1, 0, sections, 16, &count, &names);
+}
+
+/* With an address too few or too many, and so before anything is placed. */
+static void call_prepare_at(void)
+{
+    static struct pef_names names;
+    static struct pef_place place;
+    static const uint32_t address = 0;
+    answer = pef_prepare_at(&context, (const uint8_t *)"0", 1, &address, 1, &connection, &names, &place);
+}
+
 static void call_prepare(void)
 {
     static struct pef_names names;
@@ -279,6 +295,8 @@ static void call_readers(void)
     static struct pef_fragment_section section;
     static struct pef_entries entries;
     static struct pef_target target;
+    static struct pef_fragment_export export;
+    static struct pef_location location;
     static uint32_t address;
     static bool is_present;
     pef_fragments(&context, connection, places, PEF_MAX_FRAGMENTS, &count);
@@ -294,6 +312,11 @@ static void call_readers(void)
     pef_fragment_symbol(&context, connection, 0, (const uint8_t *)"x", 1, &address);
     pef_import_target(&context, connection, 0, 0, &target);
     pef_export_address(&context, connection, 0, 0, &address);
+    pef_fragment_exports(&context, connection, 0, &count);
+    pef_fragment_export(&context, connection, 0, 0, &export);
+    pef_fragment_export_named(&context, connection, 0, (const uint8_t *)"x", 1, &export);
+    pef_fragment_import_named(&context, connection, 0, (const uint8_t *)"x", 1, &count);
+    pef_at(&context, address, &location);
 }
 
 static void call_close(void)
@@ -315,6 +338,8 @@ static void call_open(void)
 static void measure_context(const char *what)
 {
     measure("pef_missing", what, call_missing);
+    measure("pef_new_sections", what, call_new_sections);
+    measure("pef_prepare_at", what, call_prepare_at);
     measure("pef_prepare_with_place", what, call_prepare);
     measure("a reader of a context", what, call_readers);
     measure("pef_close", what, call_close);

@@ -53,6 +53,9 @@ static void test_container()
     pef::buffer contents = pef::link(app_script);
     pef::container app(contents);
     expect("the header", app.header().section_count == 2 && app.loader().import_count == 1);
+    pef::imported imported;
+    size_t number = 7;
+    expect("an import by its name", app.find_import("answer", number, imported) && number == 0 && !imported.weak && !app.find_import("question", number, imported));
     expect("a library", app.libraries().size() == 1 && pef::bytes(app.libraries()[0].name) == "Tools");
     expect("an import", app.imports().size() == 1 && pef::bytes(app.imports()[0].name) == "answer" && app.imports()[0].library == 0);
     expect("a relocation", app.relocations().size() == 1 && app.fixups(0).size() == 2 && app.fixups(0)[1].offset == 4 && app.fixups(0)[1].kind == PEF_FIXUP_SECTION);
@@ -111,6 +114,16 @@ static void test_context()
     expect("a symbol", all[0].symbol("answer", address) && address == 0x10010 && !all[0].symbol("question", address));
     expect("an export", all[0].export_address(0, address) && !all[0].export_address(1, address));
     expect("an import", all[1].import_target(0, target) && target.address == 0x10010 && !all[1].import_target(1, target));
+    pef::placed_export placed;
+    expect("how many exports", all[0].export_count() == 1 && all[1].export_count() == 0);
+    expect("where an export ends", all[0].find("answer", placed) && placed.number == 0 && placed.target.kind == PEF_TARGET_IN_SECTION && placed.target.address == 0x10010);
+    expect("an export by its number", all[0].find(0, placed) && pef::bytes(placed.name) == "answer" && !all[0].find(1, placed) && !all[0].find("question", placed));
+    size_t number = 7;
+    expect("an import by its name", all[1].find_import("answer", number) && number == 0 && !all[1].find_import("question", number) && !all[0].find_import("answer", number));
+    pef::location location;
+    expect("where an address is", context.at(0x10013, location) && location.fragment == all[0].number() && location.offset == 3 && pef::bytes(location.nearest.name) == "answer");
+    expect("nothing exported", context.at(0x10020, location) && location.fragment == all[1].number() && !location.has_nearest);
+    expect("no section", !context.at(0x10014, location));
     expect("entries", all[1].entries().has_main && all[1].entries().main == 0x10020 && !all[1].entries().has_init);
     {
         pef::connection other = context.prepare("Tools");
@@ -121,6 +134,11 @@ static void test_context()
     expect("it closed when it went", app.released().size() == 2);
     app.close();
     expect("closed", !context.is_present("Tools") && thrown([&] { app.close(); }).number == PEF_BAD_CONNECTION);
+    std::vector<pef::new_section> sections = context.new_sections("App");
+    expect("new sections", sections.size() == 2 && sections[0].fragment == all[0].number() && sections[1].size == 16 && sections[1].alignment == 16);
+    pef::connection there = context.prepare_at("App", {0x12000, 0x11000});
+    expect("given addresses", there.fragments()[0].section(0).address == 0x12000 && there.fragments()[1].section(0).address == 0x11000);
+    expect("nothing is new", context.new_sections("App").empty() && thrown([&] { context.prepare_at("App", {0x20000}); }).number == PEF_WRONG_ADDRESS_COUNT);
 }
 
 static void test_errors()

@@ -34,7 +34,7 @@ import json
 import os
 import pathlib
 import threading
-from typing import Any, Dict, Iterator, List, Optional, Tuple, Type, Union
+from typing import Any, Dict, Iterator, List, Optional, Sequence, Tuple, Type, Union
 
 __all__ = [
     "Connection",
@@ -49,9 +49,12 @@ __all__ = [
     "Import",
     "ImportTarget",
     "Library",
+    "Location",
     "MissingLibrary",
+    "NewSection",
     "Part",
     "PefError",
+    "PlacedExport",
     "PlacedSection",
     "Relocation",
     "Section",
@@ -321,6 +324,10 @@ class _Missing(ctypes.Structure):
     ]
 
 
+class _NewSection(ctypes.Structure):
+    _fields_ = _fields(size_t="fragment", uint32="section", uint8="kind share", uint64="size alignment")
+
+
 class _FragmentSection(ctypes.Structure):
     _fields_ = _fields(uint32="address", size_t="size", uint8="kind share")
 
@@ -331,6 +338,14 @@ class _Entries(ctypes.Structure):
 
 class _Target(ctypes.Structure):
     _fields_ = [*_fields(uint32="kind", size_t="fragment"), *_fields(uint32="section offset address")]
+
+
+class _FragmentExport(ctypes.Structure):
+    _fields_ = [("name", _Bytes), *_fields(size_t="number"), ("target", _Target), *_fields(size_t="import_number", uint8="symbol_class", bool="is_reexport")]
+
+
+class _Location(ctypes.Structure):
+    _fields_ = [*_fields(size_t="fragment section", uint32="connection offset", bool="has_nearest"), ("nearest", _FragmentExport)]
 
 
 # A place that isn't null, for slices of no bytes: the library is never handed a null pointer.
@@ -380,6 +395,7 @@ _CALLS: Dict[str, List[Any]] = {
     "pef_fixups": _IN + [ctypes.c_size_t] * 2 + [ctypes.POINTER(_Fixup), ctypes.c_size_t] + _SIZE,
     "pef_exports": _IN + [ctypes.c_size_t, ctypes.POINTER(_Export), ctypes.c_size_t] + _SIZE,
     "pef_export_named": _IN * 2 + _SIZE + [ctypes.POINTER(_Export)],
+    "pef_import_named": _IN * 2 + _SIZE + [ctypes.POINTER(_Import)],
     "pef_partial_header": _IN + [ctypes.POINTER(_Header)],
     "pef_partial_section": _IN + [ctypes.c_size_t, ctypes.POINTER(_Section), ctypes.POINTER(_Bytes)],
     "pef_partial_section_name": _IN + [ctypes.c_size_t, ctypes.POINTER(_Bytes)],
@@ -398,6 +414,10 @@ _CALLS: Dict[str, List[Any]] = {
     "pef_prepare": _IN_HANDLE + _IN + [ctypes.POINTER(ctypes.c_uint32), ctypes.POINTER(_Names)],
     "pef_prepare_with_place": _IN_HANDLE + _IN + [ctypes.POINTER(ctypes.c_uint32), ctypes.POINTER(_Names), ctypes.POINTER(_Place)],
     "pef_missing": _IN_HANDLE + _IN + [ctypes.c_size_t, ctypes.POINTER(_Missing), ctypes.c_size_t] + _SIZE + [ctypes.POINTER(_Names)],
+    "pef_new_sections": _IN_HANDLE + _IN + [ctypes.c_size_t, ctypes.POINTER(_NewSection), ctypes.c_size_t] + _SIZE + [ctypes.POINTER(_Names)],
+    "pef_prepare_at": _IN_HANDLE
+    + _IN
+    + [ctypes.POINTER(ctypes.c_uint32), ctypes.c_size_t, ctypes.POINTER(ctypes.c_uint32), ctypes.POINTER(_Names), ctypes.POINTER(_Place)],
     "pef_reserve": _IN_HANDLE + [ctypes.c_uint32] * 2,
     "pef_unreserve": _IN_HANDLE + [ctypes.c_uint32] * 2,
     "pef_close": _IN_HANDLE + [ctypes.c_uint32],
@@ -414,6 +434,11 @@ _CALLS: Dict[str, List[Any]] = {
     "pef_fragment_symbol": _OF_FRAGMENT + _IN + [ctypes.POINTER(ctypes.c_uint32)],
     "pef_import_target": _OF_FRAGMENT + [ctypes.c_size_t, ctypes.POINTER(_Target)],
     "pef_export_address": _OF_FRAGMENT + [ctypes.c_size_t, ctypes.POINTER(ctypes.c_uint32)],
+    "pef_fragment_exports": _OF_FRAGMENT + _SIZE,
+    "pef_fragment_export": _OF_FRAGMENT + [ctypes.c_size_t, ctypes.POINTER(_FragmentExport)],
+    "pef_fragment_export_named": _OF_FRAGMENT + _IN + [ctypes.POINTER(_FragmentExport)],
+    "pef_fragment_import_named": _OF_FRAGMENT + _IN + _SIZE,
+    "pef_at": _IN_HANDLE + [ctypes.c_uint32, ctypes.POINTER(_Location)],
 }
 
 
@@ -846,7 +871,10 @@ class Container:
     def imports(self) -> List[Import]:
         """The imported symbols, by their numbers."""
         rows = self._rows("imports", _Import, self._loader.import_count)
-        return [Import(it.name.text(), self._library_name(it.library), _code(SymbolClass, it.symbol_class), it.weak) for it in rows]
+        return [self._import(it) for it in rows]
+
+    def _import(self, row: _Import) -> Import:
+        return Import(row.name.text(), self._library_name(row.library), _code(SymbolClass, row.symbol_class), row.weak)
 
     def _library_name(self, number: int) -> str:
         return "" if number == _NO_OFFSET else self.libraries[number].name
@@ -893,6 +921,17 @@ class Container:
             return None
         _check(answer)
         return number.value, _export(row)
+
+    def find_import(self, name: Text) -> Optional[Tuple[int, Import]]:
+        """The place in `imports` of the first symbol with this name, and that symbol; None if there is none."""
+        raw, number, row = _raw(name), ctypes.c_size_t(), _Import(_no_bytes())
+        if self._damaged:
+            return next(((place, it) for place, it in enumerate(self.imports) if _raw(it.name) == raw), None)
+        answer = library().pef_import_named(*self._bytes, raw, len(raw), ctypes.byref(number), ctypes.byref(row))
+        if answer == NOT_THERE:
+            return None
+        _check(answer)
+        return number.value, self._import(row)
 
     @functools.cached_property
     def entries(self) -> Dict[str, Entry]:
@@ -947,7 +986,7 @@ TARGETS = {0: "missing", 1: "absolute", 2: "in section"}
 
 @dataclasses.dataclass(frozen=True)
 class ImportTarget:
-    """What an import means: `kind` is a word of TARGETS, and `address` what was added wherever the import is relocated.
+    """What an import means, or where an export ends: `kind` is a word of TARGETS, and `address` what is added wherever the import is relocated.
 
     `fragment`, `section` and `offset` say where a target in a section is, and are None for the others. `address` is 0 for a
     missing target, and the number for an absolute one.
@@ -958,6 +997,52 @@ class ImportTarget:
     fragment: Optional["Fragment"] = None
     section: Optional[int] = None
     offset: Optional[int] = None
+
+
+@dataclasses.dataclass(frozen=True)
+class NewSection:
+    """A section that a preparation would place.
+
+    `fragment` is the name of its fragment, and `number` its number in the container. It takes `size` bytes, and its address has to be
+    a multiple of `alignment`. `kind` is a SectionKind and `share` a Share, or another number.
+    """
+
+    fragment: str
+    number: int
+    kind: int
+    share: int
+    size: int
+    alignment: int
+
+
+@dataclasses.dataclass(frozen=True)
+class PlacedExport:
+    """An export of a fragment, with where it ends.
+
+    `number` is its place in `Container.exports`, and `symbol_class` a SymbolClass. `target` says where it ends, with the address: in a
+    section, also of another fragment, at an absolute number, or nowhere ("missing") if it passes on an import that is missing.
+    `import_number` is the place in `Container.imports` of the import that it passes on, and None if it passes on none.
+    """
+
+    name: str
+    number: int
+    symbol_class: int
+    target: ImportTarget
+    import_number: Optional[int] = None
+
+
+@dataclasses.dataclass(frozen=True)
+class Location:
+    """Where an address is: the fragment, the number of its section, and the offset there.
+
+    `nearest` is the export in this section with the greatest offset that isn't greater, the first if several have it; None if there is
+    none.
+    """
+
+    fragment: "Fragment"
+    section: int
+    offset: int
+    nearest: Optional[PlacedExport] = None
 
 
 @dataclasses.dataclass(frozen=True)
@@ -1035,8 +1120,39 @@ class Fragment:
     def import_target(self, number: int) -> Optional[ImportTarget]:
         """What the import that has this place in `Container.imports` means; None past the last."""
         row = _Target()
-        if not self._finds("pef_import_target", number, ctypes.byref(row)):
-            return None
+        return self._target(row) if self._finds("pef_import_target", number, ctypes.byref(row)) else None
+
+    def import_named(self, name: Text) -> Optional[int]:
+        """The place in `Container.imports` of its first import with this name; None if there is none."""
+        raw, number = _raw(name), ctypes.c_size_t()
+        return number.value if self._finds("pef_fragment_import_named", raw, len(raw), ctypes.byref(number)) else None
+
+    @property
+    def export_count(self) -> int:
+        """How many exports it has."""
+        count = ctypes.c_size_t()
+        self._call("pef_fragment_exports", ctypes.byref(count))
+        return count.value
+
+    def export(self, number: int) -> Optional[PlacedExport]:
+        """The export that has this place in `Container.exports`, with where it ends; None past the last."""
+        return self._export("pef_fragment_export", number)
+
+    def export_named(self, name: Text) -> Optional[PlacedExport]:
+        """Its first export with this name, with where it ends; None if there is none."""
+        raw = _raw(name)
+        return self._export("pef_fragment_export_named", raw, len(raw))
+
+    def _export(self, call: str, *words: Any) -> Optional[PlacedExport]:
+        row = _FragmentExport()
+        with self.connection.context._lock:  # the name is a part of what was added
+            return self._placed(row) if self._finds(call, *words, ctypes.byref(row)) else None
+
+    def _placed(self, row: _FragmentExport) -> PlacedExport:
+        passed = row.import_number if row.is_reexport else None
+        return PlacedExport(row.name.text(), row.number, _code(SymbolClass, row.symbol_class), self._target(row.target), passed)
+
+    def _target(self, row: _Target) -> ImportTarget:
         kind = TARGETS[row.kind]
         if kind != "in section":
             return ImportTarget(kind, row.address)
@@ -1273,11 +1389,73 @@ class Context:
             _check(answer, place, fragment=names.fragment.text(), library=names.library.text(), symbol=names.symbol.text())
         return Connection(self, number.value)
 
+    def new_sections(self, name: Text) -> List[NewSection]:
+        """The sections that prepare() would place for a name, in the order in which it places them.
+
+        Raises PefError: 1 to 20, 60 to 66, 68 to 70, 75, or 99: what prepare() raises before it places anything.
+        """
+        raw, room, count = _raw(name), 64, ctypes.c_size_t()
+        found: List[NewSection] = []
+        with self._lock:
+            while True:
+                rows, names = (_NewSection * room)(), _Names(_no_bytes(), _no_bytes(), _no_bytes())
+                answer = library().pef_new_sections(
+                    ctypes.byref(self._context), raw, len(raw), len(found), rows, room, ctypes.byref(count), ctypes.byref(names)
+                )
+                _check(answer, fragment=names.fragment.text(), library=names.library.text(), symbol=names.symbol.text())
+                found += [self._new_section(it) for it in rows[: count.value]]
+                if count.value < room:
+                    return found
+                room = min(2 * room, 1 << 16)
+
+    def _new_section(self, row: _NewSection) -> NewSection:
+        fragment = _no_bytes()
+        self._call("pef_fragment_name", row.fragment, ctypes.byref(fragment))
+        kind, share = _code(SectionKind, row.kind), _code(Share, row.share)
+        return NewSection(fragment.text(), row.section, kind, share, row.size, row.alignment)
+
+    def prepare_at(self, name: Text, addresses: Sequence[int]) -> Connection:
+        """Opens a connection as prepare() does, but places the sections of new_sections() at these addresses, in its order.
+
+        Raises PefError: what prepare() raises, and 210 if there are more or fewer addresses than sections. 67 is for the first section
+        whose address is below 00010000 (hex) or isn't a multiple of its alignment, or which would meet a section or a reserved range,
+        or pass the limit. ValueError if an address has more than 32 bits.
+        """
+        if not all(0 <= address < 2**32 for address in addresses):
+            raise ValueError("an address has 32 bits")
+        raw, number = _raw(name), ctypes.c_uint32()
+        names, place = _Names(_no_bytes(), _no_bytes(), _no_bytes()), _Place()
+        given = (ctypes.c_uint32 * len(addresses))(*addresses)
+        with self._lock:
+            answer = library().pef_prepare_at(
+                ctypes.byref(self._context), raw, len(raw), given, len(given), ctypes.byref(number), ctypes.byref(names), ctypes.byref(place)
+            )
+            _check(answer, place, fragment=names.fragment.text(), library=names.library.text(), symbol=names.symbol.text())
+        return Connection(self, number.value)
+
     def is_present(self, name: Text) -> bool:
         """Whether the fragment of a name is present: the closure of an open connection has it. False if none was added."""
         raw, answer = _raw(name), ctypes.c_bool()
         self._call("pef_is_present", raw, len(raw), ctypes.byref(answer))
         return answer.value
+
+    def at(self, address: int) -> Optional[Location]:
+        """Where an address is, with the nearest export at it or before it; None if it is in no section of a fragment that is present.
+
+        ValueError if the address has more than 32 bits.
+        """
+        if not 0 <= address < 2**32:
+            raise ValueError("an address has 32 bits")
+        row = _Location()
+        with self._lock:  # the name of an export is a part of what was added
+            try:
+                self._call("pef_at", address, ctypes.byref(row))
+            except PefError as answer:
+                if answer.number != NOT_THERE:
+                    raise
+                return None
+            fragment = Fragment(Connection(self, row.connection), row.fragment)
+            return Location(fragment, row.section, row.offset, fragment._placed(row.nearest) if row.has_nearest else None)
 
     def free(self) -> None:
         """Frees the context. What is called later raises PefError: 202."""

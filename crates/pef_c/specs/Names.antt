@@ -16,6 +16,7 @@ library_name number =
     else if number == 207 then Some (codes "StillPresent")
     else if number == 208 then Some (codes "StillNamed")
     else if number == 209 then Some (codes "NameTaken")
+    else if number == 210 then Some (codes "WrongAddressCount")
     else None
 
 -- the help of this library's own numbers
@@ -31,6 +32,7 @@ library_help number =
     else if number == 207 then Some (codes "The closure of an open connection has this fragment. Close its connections first.")
     else if number == 208 then Some (codes "A fragment of an open connection has a weak library of this name, whose version didn't fit. Remove this fragment after that connection is closed.")
     else if number == 209 then Some (codes "The context has a fragment with this name, which stays the first. Remove it first, or add this one by pef_add.")
+    else if number == 210 then Some (codes "There are more or fewer addresses than sections that the preparation would place. pef_new_sections says how many they are.")
     else None
 
 -- all names; refusals and notes have numbers below 200

@@ -32,15 +32,15 @@ pub(crate) const BAD_OPTIONS: u32 = 206;
 /// A fragment with this name is there already.
 pub(crate) const NAME_TAKEN: u32 = 209;
 
-/// Returns the bytes that C passed, or the empty slice if there are none: C may then have passed a null pointer, which no slice
+/// Returns the items that C passed, or the empty slice if there are none: C may then have passed a null pointer, which no slice
 /// has.
-pub(crate) fn given<'a>(bytes: &'a [u8]) -> &'a [u8]
-    ensures { result.now ≡ bytes.entry.now }
+pub(crate) fn given<'a, T>(items: &'a [T]) -> &'a [T]
+    ensures { result.now ≡ items.entry.now }
 {
-    if bytes.is_empty() {
+    if items.is_empty() {
         return &[];
     }
-    bytes
+    items
 }
 
 /// Copies items to the front of the caller's buffer, if they fit. Writes how many they are, also if they don't fit.

@@ -23,4 +23,6 @@ pub use partial_rows::{
     pef_partial_exports, pef_partial_imports, pef_partial_libraries, pef_partial_relocations,
 };
 pub use place::pef_container_place;
-pub use rows::{pef_export_named, pef_exports, pef_imports, pef_libraries, pef_relocations};
+pub use rows::{
+    pef_export_named, pef_exports, pef_import_named, pef_imports, pef_libraries, pef_relocations,
+};

@@ -79,6 +79,7 @@ fn library_name(number: u32) -> Option<&'static str>
         207 => Some("StillPresent"),
         208 => Some("StillNamed"),
         209 => Some("NameTaken"),
+        210 => Some("WrongAddressCount"),
         _ => None,
     }
 }
@@ -110,6 +111,9 @@ fn library_help(number: u32) -> Option<&'static str>
         ),
         209 => Some(
             "The context has a fragment with this name, which stays the first. Remove it first, or add this one by pef_add.",
+        ),
+        210 => Some(
+            "There are more or fewer addresses than sections that the preparation would place. pef_new_sections says how many they are.",
         ),
         _ => None,
     }

@@ -199,6 +199,21 @@ pub struct PefMissing {
     pub is_found: bool,
 }
 
+/// A section that a preparation would place.
+#[repr(C)]
+#[derive(Clone, Copy, Debug, PartialEq, Eq)]
+pub struct PefNewSection {
+    pub fragment: usize,
+    /// Its number in the fragment's container.
+    pub section: u32,
+    pub kind: u8,
+    pub share: u8,
+    /// How many bytes it takes.
+    pub size: u64,
+    /// Its address has to be a multiple of this.
+    pub alignment: u64,
+}
+
 /// A section of a fragment that is present.
 #[repr(C)]
 #[derive(Clone, Copy, Debug, PartialEq, Eq)]
@@ -232,4 +247,33 @@ pub struct PefEntries {
     pub has_init: bool,
     pub has_main: bool,
     pub has_term: bool,
+}
+
+/// An export of a fragment that is present.
+#[repr(C)]
+#[derive(Clone, Copy, Debug)]
+pub struct PefFragmentExport {
+    pub name: &'static [u8],
+    pub number: usize,
+    /// Where it ends, with the address.
+    pub target: PefTarget,
+    /// The import that it passes on, or 0.
+    pub import_number: usize,
+    pub class: u8,
+    /// Whether it passes an import on.
+    pub is_reexport: bool,
+}
+
+/// Where an address is.
+#[repr(C)]
+#[derive(Clone, Copy, Debug)]
+pub struct PefLocation {
+    pub fragment: usize,
+    pub section: usize,
+    /// An open connection whose closure has the fragment.
+    pub connection: u32,
+    pub offset: u32,
+    /// Whether the section has an export at the address or before it.
+    pub has_nearest: bool,
+    pub nearest: PefFragmentExport,
 }

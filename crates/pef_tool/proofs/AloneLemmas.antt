@@ -7,7 +7,7 @@ use Rattle.cfm_closure.specs.Walk.{order_of, unwalked}
 use Rattle.cfm_closure.specs.Closures.{Closed, closed_of, first_refused}
 use Rattle.cfm_closure.specs.Initialization.{init_order_of, is_ready, take_next, take_ready}
 use Rattle.cfm_closure.proofs.Laws.{closed-complete, closed-root}
-use Rattle.cfm_memory.specs.Extents.{given_back}
+use Rattle.cfm_memory.specs.Extents.{at_lowest, given_back}
 use Rattle.cfm_memory.specs.Instances.{Layout}
 use Rattle.cfm_memory.specs.declared.place.Place.{Place}
 use Rattle.cfm_prepare.specs.Fragments.{Present, places_of, positions, new_among}
@@ -94,17 +94,20 @@ is-first (f ∷ g ∷ fs) is = absurd (cc)
 -- a fragment that is present alone was prepared in a memory, and nothing else is in it
 pub record StandsAlone (pairs : List Pair) (s : ContextState) (m : Layout) : Type 0 where
   pub now : IsPreparedNow pairs s 0
+  pub lowest : now.rule ≡ at_lowest
   pub first : now.before ≡ m
   pub others : given_back s.memory (places_of s.present 0) ≡ m
 
 stands-alone : (pairs : List Pair) (s : ContextState) (m : Layout) (places : List Place) → s.present ≡ (record { position = 0; places = places }) ∷ [] → ArePrepared pairs [] m (0 ∷ []) ((record { position = 0; places = places }) ∷ []) s.memory → StandsAlone pairs s m
 stands-alone pairs s m places here is = record {
   now = record {
+    rule = at_lowest;
     before = m;
     empty = is.are.placed.0;
     placed = rw here is.are.placed.1;
     stand = rw here (is.stand 0 (omega arith));
   };
+  lowest = refl;
   first = refl;
   others = rw here is.others;
 }

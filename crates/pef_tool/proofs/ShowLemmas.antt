@@ -88,6 +88,7 @@ module _ (script : DescribedScript) (k : LinkedContainer) (linked : IsLinked scr
           main = ap (option_and_then (main_address s.present)) connected ∙ ap (entry_address places) main;
         };
         described = described.0;
+        lowest = described.2 ∙ stands.lowest;
         first = described.1 ∙ stands.first;
         others = stands.others;
       }
@@ -135,7 +136,7 @@ module _ (script : DescribedScript) (k : LinkedContainer) (linked : IsLinked scr
   unprepared (prepare_fault.TooManyBytes f) why = absurd why.passes
   unprepared (prepare_fault.TooManyStepsInAll f) why = absurd why.passes
   unprepared (prepare_fault.Fragment (fragment_fault.NoRoom f place)) why =
-      let lacks = no_room _ f.now (new-is k.bytes memory_limit why.closure) (lacks-room _ _ _ f.now place why.why) in
+      let lacks = no_room _ f.now (new-is k.bytes memory_limit why.closure) (lacks-room _ _ _ _ f.now place why.why) in
       record {
         outcome = refuses (Prepare (prepare_fault.Fragment (fragment_fault.NoRoom f place)));
         ends = record {

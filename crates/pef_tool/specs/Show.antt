@@ -8,7 +8,7 @@ use Rattle.cfm_closure.specs.declared.fault.BindFault.TheVariants as bind_fault
 use Rattle.cfm_closure.specs.Closures.{Closed, closed_of}
 use Rattle.cfm_prepare.specs.Prepared.{entry_address}
 use Rattle.cfm_prepare.specs.declared.entries.Entries.{Entries}
-use Rattle.cfm_memory.specs.Extents.{LackRoom, given_back, no_instances}
+use Rattle.cfm_memory.specs.Extents.{LackRoom, at_lowest, given_back, no_instances}
 use Rattle.cfm_memory.specs.declared.place.Place.{Place}
 use Rattle.cfm_prepare.specs.Fragments.{places_of}
 use Rattle.cfm_prepare.specs.Contexts.{ContextState, fresh_state}
@@ -68,6 +68,7 @@ pub record IsShown (script : DescribedScript) (s : ContextState) (number : ℕ) 
   pub prepared : Prepares (fresh_state (single_store container.bytes) memory_limit) (codes "it") number s
   pub alone : IsAlone script s number
   pub described : IsDescribedNow (single_store container.bytes) s script 0
+  pub lowest : described.rule ≡ at_lowest
   pub first : described.before ≡ no_instances memory_limit
   pub others : given_back s.memory (places_of s.present 0) ≡ no_instances memory_limit
 

@@ -91,13 +91,13 @@ abbrev pub no_library : ℕ
 no_library = 2 ^ 64 - 1
 
 abbrev pub import_part : ImportRow → Import
-import_part r = record { name = unwrap_or r.name []; class = r.fields.class; weak = r.fields.weak; library = unwrap_or r.library no_library }
+import_part r = record { fields = r.fields; name = unwrap_or r.name []; library = unwrap_or r.library no_library }
 
 abbrev pub relocation_part : RelocationRow → ℕ × List ℕ
 relocation_part r = (r.section, unwrap_or r.program [])
 
 abbrev pub export_part : ExportRow → Export
-export_part r = record { name = unwrap_or r.name []; class = r.fields.class; section = r.fields.section; value = r.fields.value }
+export_part r = named (λ name. unwrap_or name []) r
 
 -- the rows of each table, by their numbers
 

@@ -2,6 +2,7 @@
 use Rattle.std.specs.Prelude.{◌≡◌, ◌⊎◌, ℕ, ◌-◌, ◌==◌, List, Option, None, Some, MatchBool, length, map}
 use Rattle.pef_format.specs.Exports.{Export}
 use Rattle.pef_format.specs.Symbols.{Import}
+use Rattle.pef_loader.specs.ImportNames.{named_import_of}
 use Rattle.pef_loader.specs.Library.{Library}
 use Rattle.pef_loader.specs.Loader.{Loaded, export_of, import_of, library_of, named_of, reloc_of}
 use Rattle.pef_c.specs.Buffers.{filled, fitting}
@@ -20,10 +21,10 @@ library_shown v = record {
 }
 
 abbrev pub import_shown : PefImport → Import
-import_shown v = record { name = v.name.now; class = v.class; weak = v.weak; library = v.library }
+import_shown v = record { fields = record { class = v.class; weak = v.weak }; name = v.name.now; library = v.library }
 
 abbrev pub export_shown : PefExport → Export
-export_shown v = record { name = v.name.now; class = v.class; section = v.section; value = v.value }
+export_shown v = record { fields = record { class = v.class; section = v.section; value = v.value }; name = v.name.now }
 
 -- the section of a relocation header, and its instructions
 abbrev pub relocation_shown : PefRelocation → ℕ × List ℕ
@@ -54,11 +55,19 @@ abbrev pub ExportsAnswer : List ℕ → ℕ → List PefExport → List PefExpor
 ExportsAnswer bytes from old new before after answer =
     RowsAnswer bytes export_of (λ l. l.header.export_count) from (map export_shown old) (map export_shown new) before after answer
 
--- what `pef_export_named` returns and writes: 0, and the first export with the name is written, and its number; or 201, if no
--- export has the name, or a refusal, and nothing is written
-abbrev pub NamedAnswer : List ℕ → List ℕ → ℕ → ℕ → Export → Export → ℕ → Type 0
-NamedAnswer bytes name before after old new answer =
+-- 0, and the first row with a name is written, and its number; or 201, if no row has the name, or a refusal, and nothing is
+-- written
+abbrev pub NamedRowAnswer : {A : Type 0} → (Loaded → List ℕ → Option ℕ) → (Loaded → ℕ → Option A) → List ℕ → List ℕ → ℕ → ℕ → A → A → ℕ → Type 0
+NamedRowAnswer named row bytes name before after old new answer =
     MatchBool (answer == 0)
-    ((l : Loaded) × HasTables bytes l × (named_of l name ≡ Some after) × (export_of l after ≡ Some new))
+    ((l : Loaded) × HasTables bytes l × (named l name ≡ Some after) × (row l after ≡ Some new))
     ((after ≡ before) × (new ≡ old)
-    × (((answer ≡ 201) × ((l : Loaded) × HasTables bytes l × (named_of l name ≡ None))) ⊎ IsTablesRefusal bytes answer))
+    × (((answer ≡ 201) × ((l : Loaded) × HasTables bytes l × (named l name ≡ None))) ⊎ IsTablesRefusal bytes answer))
+
+-- what `pef_export_named` and `pef_import_named` return and write
+
+abbrev pub NamedAnswer : List ℕ → List ℕ → ℕ → ℕ → Export → Export → ℕ → Type 0
+NamedAnswer bytes name before after old new answer = NamedRowAnswer named_of export_of bytes name before after old new answer
+
+abbrev pub NamedImportAnswer : List ℕ → List ℕ → ℕ → ℕ → Import → Import → ℕ → Type 0
+NamedImportAnswer bytes name before after old new answer = NamedRowAnswer named_import_of import_of bytes name before after old new answer

@@ -1,14 +1,14 @@
 //! The rows of a loader section's tables. Each call reads the whole section, and then as many rows as the caller has
-//! places for, so reading n rows in one call takes time linear in n. An export is also found by its name.
+//! places for, so reading n rows in one call takes time linear in n. An export and an import are also found by their names.
 ghost use Rattle.std.specs.Prelude.{◌≡◌};
 ghost use Rattle.pef_loader.specs.Views.{reloc_seen};
-ghost use Rattle.pef_c.specs.Containers.Rows.{ExportsAnswer, ImportsAnswer, LibrariesAnswer, NamedAnswer, RelocationsAnswer, export_shown, relocation_shown};
+ghost use Rattle.pef_c.specs.Containers.Rows.{ExportsAnswer, ImportsAnswer, LibrariesAnswer, NamedAnswer, NamedImportAnswer, RelocationsAnswer, export_shown, import_shown, relocation_shown};
 
 use crate::answers::{NOT_THERE, given};
 use crate::containers::loader::read_tables;
 use crate::fill::{Table, fill_table};
 use crate::structs::{PefExport, PefImport, PefLibrary, PefRelocation};
-use pef_loader::{ImportReader, Loader};
+use pef_loader::{ImportReader, Loader, import_named};
 
 /// Reads the imported libraries from number `from` on into the first places, and counts them.
 ///
@@ -118,6 +118,33 @@ pub extern "C" fn pef_export_named<'a>(
     };
     *number = place;
     *export = PefExport::of(found);
+    0
+}
+
+/// Reads the first import with this name, and its number.
+///
+/// Returns 0, or the number of the first refusal, or 201 if no import has the name.
+#[unsafe(no_mangle)]
+pub extern "C" fn pef_import_named<'a>(
+    container: &'a [u8],
+    name: &[u8],
+    number: &mut usize,
+    import: &mut PefImport<'a>,
+) -> u32
+    ensures { NamedImportAnswer container.entry.now name.now number.old number.new (import_shown import.old) (import_shown import.new) result }
+{
+    let loader = match read_tables(container) {
+        Ok(loader) => loader,
+        Err(number) => return number,
+    };
+    let Some(place) = import_named(&loader, given(name)) else {
+        return NOT_THERE;
+    };
+    let Some(found) = loader.import(place) else {
+        unreachable!()
+    };
+    *number = place;
+    *import = PefImport::of(found);
     0
 }
 

@@ -111,7 +111,7 @@ pub extern "C" fn pef_import_target(
 }
 
 /// Returns what an import means as C sees it.
-fn target_given(import: ImportTarget) -> PefTarget
+pub(crate) fn target_given(import: ImportTarget) -> PefTarget
     ensures { result ≡ target_given import }
 {
     let address = import.address;
