@@ -263,10 +263,11 @@ static void tell_programs(struct pef_bytes container, size_t count)
     }
 }
 
-/* Looks up the name of the last export that is found, and one that there isn't. */
+/* Looks up the names of the last export and of the last import that are found, and names that there aren't. */
 static void tell_names(struct pef_bytes container)
 {
     struct pef_export found = {PEF_NO_BYTES, 0, 0, 0};
+    struct pef_import import = {PEF_NO_BYTES, 0, 0, false};
     size_t number = 0, count = 0;
     if (pef_exports(container.at, container.length, 0, &rows->export, MOST_ROWS, &count) == PEF_OK && count != 0) {
         const struct pef_bytes name = ((const struct pef_export *)rows)[count - 1].name;
@@ -275,6 +276,14 @@ static void tell_names(struct pef_bytes container)
         tell_exports(&found, 1, container);
     }
     tell("export", pef_export_named(container.at, container.length, (const uint8_t *)"no such name", 12, &number, &found));
+    tell("number", number);
+    if (pef_imports(container.at, container.length, 0, &rows->import, MOST_ROWS, &count) == PEF_OK && count != 0) {
+        const struct pef_bytes name = ((const struct pef_import *)rows)[count - 1].name;
+        tell("import", pef_import_named(container.at, container.length, name.at, name.length, &number, &import));
+        tell("number", number);
+        tell_imports(&import, 1, container);
+    }
+    tell("import", pef_import_named(container.at, container.length, (const uint8_t *)"no such name", 12, &number, &import));
     tell("number", number);
 }
 
@@ -410,17 +419,25 @@ static void tell_forks(struct pef_bytes file)
         tell_fork(file, file);
 }
 
-static void tell_report(struct pef_bytes file)
+/* Tells the text of a report, which is free then. */
+static void tell_whole(struct pef_report *report)
 {
     static uint8_t part[4093];
-    struct pef_report report = PEF_NO_REPORT;
     size_t written = 0;
-    tell("report", pef_report_open(&report, (const uint8_t *)"some path", 9, file.at, file.length));
     do {
-        tell("next", pef_report_next(&report, part, sizeof part, &written));
+        tell("next", pef_report_next(report, part, sizeof part, &written));
         tell_contents("text", part, written);
     } while (written == sizeof part);
-    pef_report_free(&report);
+    pef_report_free(report);
+}
+
+static void tell_report(struct pef_bytes file)
+{
+    struct pef_report report = PEF_NO_REPORT;
+    tell("report", pef_report_open(&report, (const uint8_t *)"some path", 9, file.at, file.length));
+    tell_whole(&report);
+    tell("report on a container", pef_report_open_container(&report, file.at, file.length));
+    tell_whole(&report);
 }
 
 /* --- files --- */

@@ -56,10 +56,14 @@ static uint32_t print_exports(const uint8_t *bytes, size_t length)
 int main(int count, char **words)
 {
     size_t length = 0;
-    uint8_t *bytes = count == 2 ? read_file(words[1], &length) : NULL;
-    if (bytes == NULL) {
+    if (count != 2) {
         fputs("usage: example FILE\n", stderr);
         return 2;
+    }
+    uint8_t *bytes = read_file(words[1], &length);
+    if (bytes == NULL) {
+        fprintf(stderr, "%s can't be read\n", words[1]);
+        return 1;
     }
     uint32_t answer = print_sections(bytes, length);
     if (answer == PEF_OK)

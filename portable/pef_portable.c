@@ -94,15 +94,18 @@ static struct instance *new_instance(uint64_t size)
     const uint64_t pages = (size + PAGE - 1) / PAGE;
     if (size > MOST_MEMORY || pages * PAGE > SIZE_MAX - head)
         return NULL;
-    struct instance *it = calloc(1, head + (size_t)(pages * PAGE));
+    struct instance *it = malloc(head + (size_t)(pages * PAGE));
     if (it == NULL)
         return NULL;
+    memset(it, 0, sizeof *it);
     wasm_rt_memory_t *memory = Z_pefZ_memory(&it->module);
     it->size = pages * PAGE;
     it->memory = (uint8_t *)it + head;
     memory->data = it->memory;
     memory->pages = memory->max_pages = (uint32_t)pages;
     memory->size = (uint32_t)it->size;
+    /* The module counts on zeros only where it has constants and variables. */
+    memset(it->memory + PEF_MODULE_STACK, 0, PEF_MODULE_BASE - PEF_MODULE_STACK);
     Z_pef_instantiate(&it->module);
     return it;
 }
@@ -720,6 +723,20 @@ uint32_t pef_export_named_in(struct pef_space *space, const uint8_t *container, 
     return answer;
 }
 
+uint32_t pef_import_named_in(struct pef_space *space, const uint8_t *container, size_t container_length, const uint8_t *name, size_t name_length, size_t *number, struct pef_import *found)
+{
+    struct slice slices[] = {{container, container_length, 0}, {name, name_length, 0}};
+    struct instance *it = enter(space, slices, 2, 0);
+    if (it == NULL)
+        return PEF_OUT_OF_MEMORY;
+    const uint32_t answer = Z_pefZ_pef_import_named(&it->module, slices[0].address, slices[0].length, slices[1].address, slices[1].length, COUNT, RESULT);
+    if (answer == PEF_OK) {
+        *number = get_size(it->memory + COUNT);
+        get_import(it, result(it), found);
+    }
+    return answer;
+}
+
 /* --- errors and notes, and damaged containers --- */
 
 uint32_t pef_container_place_in(struct pef_space *space, const uint8_t *container, size_t container_length, struct pef_place *place)
@@ -879,7 +896,11 @@ uint32_t pef_numbered_container_in(struct pef_space *space, const uint8_t *bytes
     return read_part(space, (struct slice){bytes, length, 0}, Z_pefZ_pef_numbered_container, number, container);
 }
 
-/* --- the report, in the parts that the module gives --- */
+/* --- reports, in the parts that the module gives --- */
+
+/* How many bytes a part of a report has at first: these, and so many for each byte of the file. If it has more, it is made again. */
+#define ROOM_AT_FIRST ((uint64_t)1 << 16)
+#define ROOM_FOR_A_BYTE 12
 
 /* What a report's parts are made with: the file and its path, and how many bytes they and the work on them may take. */
 struct making {
@@ -899,7 +920,7 @@ struct text {
     size_t read;
 };
 
-enum part { HEAD, CONTAINER, END };
+enum part { HEAD, CONTAINER, END, INSPECTION };
 
 /* What a container's object says if the lent memory was too small to look into it. Such an object is short. */
 static const char LACKING[] = "{\"number\":99,\"name\":\"OutOfMemory\"";
@@ -944,6 +965,8 @@ static uint32_t ask_part(struct instance *it, const struct making *making, enum 
         return Z_pefZ_page_head(&it->module, LENT, path->address, path->length, file->address, file->length, it->room, making->room, COUNT);
     if (part == CONTAINER)
         return Z_pefZ_page_container(&it->module, LENT, file->address, file->length, STATE, it->room, making->room, COUNT);
+    if (part == INSPECTION)
+        return Z_pefZ_page_inspection(&it->module, LENT, file->address, file->length, it->room, making->room, COUNT);
     return Z_pefZ_page_end(&it->module, LENT, file->address, file->length, STATE, it->room, making->room, COUNT);
 }
 
@@ -1013,20 +1036,31 @@ static uint32_t add_containers(struct pef_space *space, struct making *making, s
     return go_to(space, making, is_first, file->length);
 }
 
-uint32_t pef_report_open(struct pef_report *report, const uint8_t *path, size_t path_length, const uint8_t *file, size_t file_length)
+/* Adds all of a file's report to its text. */
+static uint32_t add_file(struct pef_space *space, struct making *making, struct text *text)
+{
+    uint32_t answer = add_part(space, making, HEAD, text);
+    if (answer == PEF_OK)
+        answer = add_containers(space, making, text);
+    if (answer == PEF_OK)
+        answer = add_part(space, making, END, text);
+    return answer;
+}
+
+static uint32_t add_inspection(struct pef_space *space, struct making *making, struct text *text)
+{
+    return add_part(space, making, INSPECTION, text);
+}
+
+/* Makes a report's text from bytes, and opens it. */
+static uint32_t open_report(struct pef_report *report, struct slice bytes, struct slice path, uint32_t (*add)(struct pef_space *, struct making *, struct text *))
 {
     struct pef_space space = PEF_NO_SPACE;
-    const uint64_t length = estimated(file_length);
-    struct making making = {{{file, file_length, 0}, {path, path_length, 0}}, 65536 + 4 * length, LENT_AT_FIRST + LENT_FOR_A_BYTE * length, true, {0}};
+    const uint64_t length = estimated(bytes.length);
+    struct making making = {{bytes, path}, ROOM_AT_FIRST + ROOM_FOR_A_BYTE * length, LENT_AT_FIRST + LENT_FOR_A_BYTE * length, true, {0}};
     struct text *text = calloc(1, sizeof *text);
     pef_report_free(report);
-    uint32_t answer = PEF_OUT_OF_MEMORY;
-    if (text != NULL)
-        answer = add_part(&space, &making, HEAD, text);
-    if (answer == PEF_OK)
-        answer = add_containers(&space, &making, text);
-    if (answer == PEF_OK)
-        answer = add_part(&space, &making, END, text);
+    const uint32_t answer = text == NULL ? PEF_OUT_OF_MEMORY : add(&space, &making, text);
     pef_space_free(&space);
     if (answer == PEF_OK) {
         report->handle = text;
@@ -1036,6 +1070,16 @@ uint32_t pef_report_open(struct pef_report *report, const uint8_t *path, size_t 
         free(text);
     }
     return answer;
+}
+
+uint32_t pef_report_open(struct pef_report *report, const uint8_t *path, size_t path_length, const uint8_t *file, size_t file_length)
+{
+    return open_report(report, (struct slice){file, file_length, 0}, (struct slice){path, path_length, 0}, add_file);
+}
+
+uint32_t pef_report_open_container(struct pef_report *report, const uint8_t *container, size_t container_length)
+{
+    return open_report(report, (struct slice){container, container_length, 0}, (struct slice){NULL, 0, 0}, add_inspection);
 }
 
 uint32_t pef_report_next(struct pef_report *report, uint8_t *buffer, size_t buffer_length, size_t *written)
@@ -1140,6 +1184,11 @@ uint32_t pef_fixups(const uint8_t *container, size_t container_length, size_t he
 uint32_t pef_export_named(const uint8_t *container, size_t container_length, const uint8_t *name, size_t name_length, size_t *number, struct pef_export *found)
 {
     ALONE(pef_export_named_in(&space, container, container_length, name, name_length, number, found));
+}
+
+uint32_t pef_import_named(const uint8_t *container, size_t container_length, const uint8_t *name, size_t name_length, size_t *number, struct pef_import *found)
+{
+    ALONE(pef_import_named_in(&space, container, container_length, name, name_length, number, found));
 }
 
 uint32_t pef_partial_header(const uint8_t *container, size_t container_length, struct pef_header *header)

@@ -5,12 +5,12 @@
  *
  *     pef_version, pef_name, pef_help
  *     pef_header, pef_section, pef_section_name, pef_expand, pef_loader, pef_libraries, pef_imports, pef_relocations, pef_exports,
- *     pef_fixups, pef_export_named, pef_container_place
+ *     pef_fixups, pef_export_named, pef_import_named, pef_container_place
  *     pef_findings, pef_more_notes, pef_partial_header, pef_partial_section, pef_partial_section_name, pef_partial_loader, pef_partial_libraries,
  *     pef_partial_imports, pef_partial_relocations, pef_partial_exports
  *     pef_file_kind, pef_forks, pef_resource_map, pef_resources, pef_find_resource, pef_members, pef_find_containers,
  *     pef_file_container, pef_fork_container, pef_numbered_container
- *     pef_report_open, pef_report_next, pef_report_free
+ *     pef_report_open, pef_report_open_container, pef_report_next, pef_report_free
  *
  * The others of pef.h aren't. A program that calls one isn't linked.
  *
@@ -66,6 +66,7 @@ uint32_t pef_relocations_in(struct pef_space *space, const uint8_t *container, s
 uint32_t pef_exports_in(struct pef_space *space, const uint8_t *container, size_t container_length, size_t from, struct pef_export *places, size_t place_count, size_t *count);
 uint32_t pef_fixups_in(struct pef_space *space, const uint8_t *container, size_t container_length, size_t header, size_t from, struct pef_fixup *places, size_t place_count, size_t *count);
 uint32_t pef_export_named_in(struct pef_space *space, const uint8_t *container, size_t container_length, const uint8_t *name, size_t name_length, size_t *number, struct pef_export *found);
+uint32_t pef_import_named_in(struct pef_space *space, const uint8_t *container, size_t container_length, const uint8_t *name, size_t name_length, size_t *number, struct pef_import *found);
 
 uint32_t pef_partial_header_in(struct pef_space *space, const uint8_t *container, size_t container_length, struct pef_header *header);
 uint32_t pef_partial_section_in(struct pef_space *space, const uint8_t *container, size_t container_length, size_t number, struct pef_section *section, struct pef_bytes *raw);

@@ -226,7 +226,7 @@ pub const PEF_NOTE_NAME_OUTSIDE: u32 = 121;
 // Only this library returns these: the caller's buffer is too small; there is no such thing; the context isn't open; a
 // fragment of an open connection was prepared without the weak library that is added; the context has as many fragments as
 // it may; the granule is none; the options have another size; the fragment is present; a fragment of an open connection names
-// it as a library; a fragment has the name already.
+// it as a library; a fragment has the name already; there are more or fewer addresses than new sections.
 pub const PEF_ROOM_TOO_SMALL: u32 = 200;
 
 pub const PEF_NOT_THERE: u32 = 201;
@@ -246,6 +246,8 @@ pub const PEF_STILL_PRESENT: u32 = 207;
 pub const PEF_STILL_NAMED: u32 = 208;
 
 pub const PEF_NAME_TAKEN: u32 = 209;
+
+pub const PEF_WRONG_ADDRESS_COUNT: u32 = 210;
 
 // How many fragments a context has at most at a time, and how many connections it gives if no other number was asked for, closed ones
 // included.
@@ -743,6 +745,20 @@ pub struct pef_missing {
     pub is_found: bool,
 }
 
+/// A section that a preparation would place: the number of its fragment, and its number in the fragment's container. `kind` and
+/// `share` are codes (PEF_KIND_.., PEF_SHARE_..). It takes `size` bytes, and its address has to be a multiple of `alignment`: both
+/// count in the granule of the context. A section of 4 GB less a few bytes takes 2^32 bytes.
+#[repr(C)]
+#[derive(Clone, Copy, Debug)]
+pub struct pef_new_section {
+    pub fragment: usize,
+    pub section: u32,
+    pub kind: u8,
+    pub share: u8,
+    pub size: u64,
+    pub alignment: u64,
+}
+
 /// A section in memory. `kind` is one of PEF_KIND_CODE and the others, `share` of PEF_SHARE_PROCESS and the others.
 #[repr(C)]
 #[derive(Clone, Copy, Debug)]
@@ -783,6 +799,36 @@ pub struct pef_target {
     pub section: u32,
     pub offset: u32,
     pub address: u32,
+}
+
+/// An export of a fragment: its name, its number, where it ends, and its class. `target.kind` is PEF_TARGET_IN_SECTION, also
+/// if the section is another fragment's; or PEF_TARGET_ABSOLUTE; or PEF_TARGET_MISSING if it passes on an import that is
+/// missing: its address is 0, and it isn't the number 0. If `is_reexport` is true, it passes on the import with the
+/// number `import_number` of its fragment. The name is a part of the container.
+#[repr(C)]
+#[derive(Clone, Copy, Debug)]
+pub struct pef_fragment_export {
+    pub name: pef_bytes,
+    pub number: usize,
+    pub target: pef_target,
+    pub import_number: usize,
+    pub symbol_class: u8,
+    pub is_reexport: bool,
+}
+
+/// Where an address is: the fragment, the number of its section, the offset there, and the nearest export. That is, of the
+/// fragment's exports in this section whose offset isn't greater, the one with the greatest offset, and the first in the table if
+/// several have it. If there is none, `has_nearest` is false, and `nearest` has an empty name and zeros. `connection` is the lowest
+/// number of an open connection whose closure has the fragment, for the calls that ask for one.
+#[repr(C)]
+#[derive(Clone, Copy, Debug)]
+pub struct pef_location {
+    pub fragment: usize,
+    pub section: usize,
+    pub connection: u32,
+    pub offset: u32,
+    pub has_nearest: bool,
+    pub nearest: pef_fragment_export,
 }
 
 extern "C" {
@@ -890,7 +936,6 @@ extern "C" {
     /// are those in these bytes, and there is no end of a line. The bytes aren't kept.
     ///
     /// Returns PEF_OK; or PEF_OUT_OF_MEMORY, and then the report isn't open.
-    #[cfg(feature = "native")]
     pub fn pef_report_open_container(report: *mut pef_report, container: *const u8, container_length: usize) -> u32;
 
     /// Writes the next bytes of a report to the front of `buffer`, as many as fit.
@@ -956,6 +1001,12 @@ extern "C" {
     /// Returns PEF_NOT_THERE, if no export has the name. Each call reads the whole loader section, so to look up many names, read
     /// all exports once.
     pub fn pef_export_named(container: *const u8, container_length: usize, name: *const u8, name_length: usize, number: *mut usize, found: *mut pef_export) -> u32;
+
+    /// Reads the first import with this name into `*found`, and stores its number, which is that of `pef_imports()`, in `*number`.
+    ///
+    /// Returns PEF_NOT_THERE, if no import has the name. Each call reads the whole loader section, and then one import after the
+    /// other, as they have no hash table.
+    pub fn pef_import_named(container: *const u8, container_length: usize, name: *const u8, name_length: usize, number: *mut usize, found: *mut pef_import) -> u32;
 
     /// Reads the header of a container. Returns PEF_TOO_SHORT or PEF_BAD_TAG if the bytes have none, in this call and in those below.
     pub fn pef_partial_header(container: *const u8, container_length: usize, header: *mut pef_header) -> u32;
@@ -1122,6 +1173,25 @@ extern "C" {
     #[cfg(feature = "native")]
     pub fn pef_prepare_with_place(context: *mut pef_context, name: *const u8, name_length: usize, connection: *mut u32, names: *mut pef_names, place: *mut pef_place) -> u32;
 
+    /// Gives the sections that `pef_prepare()` would place for a name, in the order in which it places them: those from number `from` on in
+    /// the first of `places`, and how many they were in `*count`, which is as many as there are from there on, or as there are places. The
+    /// other places are left unchanged. If all that the fragment needs is present, there are none.
+    ///
+    /// Returns PEF_OK; or an error that `pef_prepare()` returns before it places anything (1 to 20, 60 to 66, 68 to 70, or 75), or
+    /// PEF_OUT_OF_MEMORY. If it isn't PEF_OK, `*names` has the names that belong to it, and `places` and `*count` are unchanged. What was
+    /// read is kept for later calls; otherwise the context is unchanged.
+    #[cfg(feature = "native")]
+    pub fn pef_new_sections(context: *mut pef_context, name: *const u8, name_length: usize, from: usize, places: *mut pef_new_section, place_count: usize, count: *mut usize, names: *mut pef_names) -> u32;
+
+    /// Prepares as `pef_prepare_with_place()` does, but places the sections at these addresses: there is one for each section that
+    /// `pef_new_sections()` gives, in its order. An address has to be a multiple of the section's alignment and 00010000 (hex) or above. The
+    /// bytes that the section takes have to be free, and below the limit.
+    ///
+    /// Returns what `pef_prepare_with_place()` returns. PEF_WRONG_ADDRESS_COUNT, if there are more or fewer addresses than sections, comes
+    /// after PEF_TOO_MANY_STEPS_IN_ALL and before PEF_NO_ROOM, which is for the first section that can't lie at its address.
+    #[cfg(feature = "native")]
+    pub fn pef_prepare_at(context: *mut pef_context, name: *const u8, name_length: usize, addresses: *const u32, address_count: usize, connection: *mut u32, names: *mut pef_names, place: *mut pef_place) -> u32;
+
     /// Closes a connection. Fragments that no other open connection needs are no longer present. The number of the connection isn't
     /// given again.
     ///
@@ -1203,6 +1273,38 @@ extern "C" {
     /// Returns PEF_NOT_THERE past the last export, and if the connection isn't open, or its closure lacks the fragment.
     #[cfg(feature = "native")]
     pub fn pef_export_address(context: *mut pef_context, connection: u32, fragment: usize, number: usize, address: *mut u32) -> u32;
+
+    /// Counts the exports of a fragment, whose numbers are from 0 on and are those of `pef_exports()`. This call and the next two
+    /// use what the context keeps of a fragment, so they don't read the container again.
+    ///
+    /// Returns PEF_NOT_THERE, if the connection isn't open, or its closure lacks the fragment.
+    #[cfg(feature = "native")]
+    pub fn pef_fragment_exports(context: *mut pef_context, connection: u32, fragment: usize, count: *mut usize) -> u32;
+
+    /// Read export `number` of a fragment, and a fragment's first export with a name. `target.address` is the address that
+    /// `pef_export_address()` and `pef_fragment_symbol()` give.
+    ///
+    /// Return PEF_NOT_THERE past the last export or if none has the name, and if the connection isn't open, or its closure lacks
+    /// the fragment.
+    #[cfg(feature = "native")]
+    pub fn pef_fragment_export(context: *mut pef_context, connection: u32, fragment: usize, number: usize, found: *mut pef_fragment_export) -> u32;
+
+    /// See [`pef_fragment_export()`].
+    #[cfg(feature = "native")]
+    pub fn pef_fragment_export_named(context: *mut pef_context, connection: u32, fragment: usize, name: *const u8, name_length: usize, found: *mut pef_fragment_export) -> u32;
+
+    /// Gives the number of a fragment's first import with a name, for `pef_import_target()`. It reads one import after the other.
+    ///
+    /// Returns PEF_NOT_THERE, if no import has the name, or the connection isn't open, or its closure lacks the fragment.
+    #[cfg(feature = "native")]
+    pub fn pef_fragment_import_named(context: *mut pef_context, connection: u32, fragment: usize, name: *const u8, name_length: usize, number: *mut usize) -> u32;
+
+    /// Finds where an address is, as a debugger or the report of an error in a program has to. It reads the exports of one fragment,
+    /// one after the other.
+    ///
+    /// Returns PEF_NOT_THERE, if the address is in no section of a fragment that is present.
+    #[cfg(feature = "native")]
+    pub fn pef_at(context: *mut pef_context, address: u32, location: *mut pef_location) -> u32;
 }
 
 /// Makes the call [`pef_new_fragments()`] with a copy of the context's struct, so that several threads may read the context at once.
@@ -1359,4 +1461,64 @@ pub unsafe fn pef_import_target_const(context: *const pef_context, connection: u
 pub unsafe fn pef_export_address_const(context: *const pef_context, connection: u32, fragment: usize, number: usize, address: *mut u32) -> u32 {
     let mut copy = *context;
     pef_export_address(&mut copy, connection, fragment, number, address)
+}
+
+/// Makes the call [`pef_fragment_exports()`] with a copy of the context's struct, so that several threads may read the context at once.
+///
+/// # Safety
+///
+/// As `pef_fragment_exports`; and while a thread is in this call, none changes the context.
+#[cfg(feature = "native")]
+#[inline]
+pub unsafe fn pef_fragment_exports_const(context: *const pef_context, connection: u32, fragment: usize, count: *mut usize) -> u32 {
+    let mut copy = *context;
+    pef_fragment_exports(&mut copy, connection, fragment, count)
+}
+
+/// Makes the call [`pef_fragment_export()`] with a copy of the context's struct, so that several threads may read the context at once.
+///
+/// # Safety
+///
+/// As `pef_fragment_export`; and while a thread is in this call, none changes the context.
+#[cfg(feature = "native")]
+#[inline]
+pub unsafe fn pef_fragment_export_const(context: *const pef_context, connection: u32, fragment: usize, number: usize, found: *mut pef_fragment_export) -> u32 {
+    let mut copy = *context;
+    pef_fragment_export(&mut copy, connection, fragment, number, found)
+}
+
+/// Makes the call [`pef_fragment_export_named()`] with a copy of the context's struct, so that several threads may read the context at once.
+///
+/// # Safety
+///
+/// As `pef_fragment_export_named`; and while a thread is in this call, none changes the context.
+#[cfg(feature = "native")]
+#[inline]
+pub unsafe fn pef_fragment_export_named_const(context: *const pef_context, connection: u32, fragment: usize, name: *const u8, name_length: usize, found: *mut pef_fragment_export) -> u32 {
+    let mut copy = *context;
+    pef_fragment_export_named(&mut copy, connection, fragment, name, name_length, found)
+}
+
+/// Makes the call [`pef_fragment_import_named()`] with a copy of the context's struct, so that several threads may read the context at once.
+///
+/// # Safety
+///
+/// As `pef_fragment_import_named`; and while a thread is in this call, none changes the context.
+#[cfg(feature = "native")]
+#[inline]
+pub unsafe fn pef_fragment_import_named_const(context: *const pef_context, connection: u32, fragment: usize, name: *const u8, name_length: usize, number: *mut usize) -> u32 {
+    let mut copy = *context;
+    pef_fragment_import_named(&mut copy, connection, fragment, name, name_length, number)
+}
+
+/// Makes the call [`pef_at()`] with a copy of the context's struct, so that several threads may read the context at once.
+///
+/// # Safety
+///
+/// As `pef_at`; and while a thread is in this call, none changes the context.
+#[cfg(feature = "native")]
+#[inline]
+pub unsafe fn pef_at_const(context: *const pef_context, address: u32, location: *mut pef_location) -> u32 {
+    let mut copy = *context;
+    pef_at(&mut copy, address, location)
 }

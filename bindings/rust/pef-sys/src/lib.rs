@@ -8,10 +8,10 @@
 //! - What a call fills, it fills whatever was there, so it may be uninitialized memory. What a call leaves unchanged keeps its bytes.
 //! - What a call writes overlaps nothing else that it takes.
 //! - A context is used by one thread at a time; but several may read it at once by the calls whose names end in `_const`.
-//! - A thread that makes calls has 64 KB of stack for them, and 96 KB for those that open a report.
+//! - A thread that makes calls has 64 KB of stack for them, and 112 KB for those that open a report.
 //!
-//! With the feature `native`, which is on by default, the library of this machine is linked. Without it the crate compiles its own source
-//! in C. That has no contexts, scripts and listings: their calls need `native`.
+//! The crate compiles its own source in C. That has no contexts, scripts and listings. With the feature `native` the library of this machine
+//! is linked instead, which has them.
 //!
 //! ```
 //! let mut name = pef_sys::PEF_NO_BYTES;

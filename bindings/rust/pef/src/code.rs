@@ -155,6 +155,7 @@ codes! {
     StillPresent = PEF_STILL_PRESENT,
     StillNamed = PEF_STILL_NAMED,
     NameTaken = PEF_NAME_TAKEN,
+    WrongAddressCount = PEF_WRONG_ADDRESS_COUNT,
 }
 
 impl Code {

@@ -9,7 +9,7 @@ use crate::error::Error;
 use crate::inspect::{findings, Finding};
 use crate::raw;
 use crate::rows::{Exports, Imports, Libraries, Relocations};
-use crate::tables::{Count, Entry, Export, Fixup, Header, Section};
+use crate::tables::{Count, Entry, Export, Fixup, Header, Import, Section};
 
 /// A container, read from its bytes. Nothing of it is copied: names and raw bytes are parts of what was read.
 ///
@@ -93,6 +93,12 @@ impl<'a> Container<'a> {
     pub fn find<N: AsRef<[u8]> + ?Sized>(&self, name: &N) -> Option<Export<'a>> {
         let (number, row) = raw::there(raw::export_named(self.bytes, name.as_ref()))?;
         Some(Export::of(self.bytes, number, &row))
+    }
+
+    /// The first import with a name. Names are compared byte by byte.
+    pub fn find_import<N: AsRef<[u8]> + ?Sized>(&self, name: &N) -> Option<Import<'a>> {
+        let (number, row) = raw::there(raw::import_named(self.bytes, name.as_ref()))?;
+        Some(Import::of(self.bytes, number, &row))
     }
 
     /// The main entry point.

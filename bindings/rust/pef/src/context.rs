@@ -7,7 +7,7 @@ use pef_sys as sys;
 
 use crate::error::Error;
 use crate::raw::{self, Which};
-use crate::tables::{SectionKind, Share, Text};
+use crate::tables::{SectionKind, Share, SymbolClass, Text};
 
 /// What a context and its connections have together. The last of them frees it.
 struct Shared<'a>(RwLock<raw::Context<'a>>);
@@ -266,9 +266,63 @@ impl<'a> Context<'a> {
         }
     }
 
+    /// The sections that [`prepare`](Self::prepare) would place for a name, in the order in which it places them.
+    ///
+    /// # Errors
+    ///
+    /// Those of `prepare` before it places anything: 1 to 20, 60 to 66, 68 to 70, 75 or 99, with its names.
+    pub fn new_sections<N: AsRef<[u8]> + ?Sized>(&self, name: &N) -> Result<Vec<NewSection>, Error> {
+        let nowhere = sys::pef_place { part: sys::PEF_NOWHERE, row: 0, field: 0, offset: sys::PEF_NO_OFFSET };
+        let (mut found, mut most) = (Vec::new(), 64);
+        let mut context = self.shared.write();
+        loop {
+            let rows = context.new_sections(name.as_ref(), found.len(), most);
+            let rows = rows.map_err(|(number, names)| Error::of_preparation(number, &names, nowhere))?;
+            let is_last = rows.len() < most;
+            found.extend(rows.iter().map(NewSection::of));
+            if is_last {
+                return Ok(found);
+            }
+            most = (2 * most).min(1 << 16);
+        }
+    }
+
+    /// Prepares as [`prepare`](Self::prepare) does, but places the sections of [`new_sections`](Self::new_sections) at these addresses, in
+    /// its order.
+    ///
+    /// ```
+    /// let app = pef::link("section data data process 4 16\n")?;
+    /// let context = pef::Context::new()?;
+    /// context.add("App", &app)?;
+    /// let sections = context.new_sections("App")?;
+    /// assert_eq!((sections.len(), sections[0].size, sections[0].alignment), (1, 16, 16));
+    /// let connection = context.prepare_at("App", &[0x20000])?;
+    /// # Ok::<(), Box<dyn std::error::Error>>(())
+    /// ```
+    ///
+    /// # Errors
+    ///
+    /// Those of `prepare`, and 210 if there are more or fewer addresses than sections. 67 is for the first section whose address is below
+    /// 00010000 (hex) or isn't a multiple of its alignment, or which would meet a section or a reserved range, or pass the limit.
+    pub fn prepare_at<N: AsRef<[u8]> + ?Sized>(&self, name: &N, addresses: &[u32]) -> Result<Connection<'a>, Error> {
+        let prepared = self.shared.write().prepare_at(name.as_ref(), addresses);
+        match prepared {
+            Ok(number) => Ok(Connection { shared: Arc::clone(&self.shared), number, is_open: true }),
+            Err((number, names, place)) => Err(Error::of_preparation(number, &names, place)),
+        }
+    }
+
     /// Whether the fragment of a name is present: the closure of an open connection has it. False if none was added.
     pub fn is_present<N: AsRef<[u8]> + ?Sized>(&self, name: &N) -> bool {
         self.shared.read().is_present(name.as_ref())
+    }
+
+    /// Where an address is, with the nearest export at it or before it. `None` if it is in no section of a fragment that is present.
+    pub fn at(&self, address: u32) -> Option<Location<'a>> {
+        let (name, row) = self.shared.read().at(address)?;
+        let nearest = row.nearest;
+        let nearest = NearestExport { number: nearest.number, name, class: nearest.symbol_class.into(), offset: nearest.target.offset };
+        Some(Location { fragment: row.fragment, section: row.section, offset: row.offset, nearest: row.has_nearest.then_some(nearest) })
     }
 
     /// The name of a fragment by its number, from 0 in the order in which they were added. `None` if no fragment has the number.
@@ -281,6 +335,37 @@ impl fmt::Debug for Context<'_> {
     fn fmt(&self, out: &mut fmt::Formatter<'_>) -> fmt::Result {
         let names: Vec<_> = (0..sys::PEF_MAX_FRAGMENTS).filter_map(|number| self.fragment_name(number)).map(Text).collect();
         out.debug_struct("Context").field("fragments", &names).finish()
+    }
+}
+
+/// A section that a preparation would place.
+#[derive(Clone, Copy, Debug, PartialEq, Eq)]
+#[non_exhaustive]
+pub struct NewSection {
+    /// The number of its fragment, for [`Context::fragment_name`].
+    pub fragment: usize,
+    /// Its number in the fragment's container.
+    pub number: u32,
+    /// What it is for.
+    pub kind: SectionKind,
+    /// How instances of it are shared.
+    pub share: Share,
+    /// How many bytes it takes.
+    pub size: u64,
+    /// Its address has to be a multiple of this.
+    pub alignment: u64,
+}
+
+impl NewSection {
+    fn of(row: &sys::pef_new_section) -> Self {
+        Self {
+            fragment: row.fragment,
+            number: row.section,
+            kind: row.kind.into(),
+            share: row.share.into(),
+            size: row.size,
+            alignment: row.alignment,
+        }
     }
 }
 
@@ -558,7 +643,43 @@ impl<'c, 'a> Fragment<'c, 'a> {
     /// followed.
     pub fn import_target(&self, number: usize) -> Option<Target<'c, 'a>> {
         let row = self.read().import_target(self.connection.number, self.number, number)?;
-        Some(match row.kind {
+        Some(self.target(&row))
+    }
+
+    /// The number of its first import with a name, for [`import_target`](Self::import_target).
+    pub fn import_named<N: AsRef<[u8]> + ?Sized>(&self, name: &N) -> Option<usize> {
+        self.read().import_named(self.connection.number, self.number, name.as_ref())
+    }
+
+    /// How many exports it has.
+    pub fn export_count(&self) -> usize {
+        self.read().export_count(self.connection.number, self.number)
+    }
+
+    /// The export with this number in [`Container::exports`](crate::Container::exports), with where it ends.
+    pub fn export(&self, number: usize) -> Option<PlacedExport<'c, 'a>> {
+        let (name, row) = self.read().export(self.connection.number, self.number, number)?;
+        Some(self.placed(name, &row))
+    }
+
+    /// Its first export with a name, with where it ends.
+    pub fn export_named<N: AsRef<[u8]> + ?Sized>(&self, name: &N) -> Option<PlacedExport<'c, 'a>> {
+        let (name, row) = self.read().export_named(self.connection.number, self.number, name.as_ref())?;
+        Some(self.placed(name, &row))
+    }
+
+    fn placed(&self, name: &'a [u8], row: &sys::pef_fragment_export) -> PlacedExport<'c, 'a> {
+        PlacedExport {
+            number: row.number,
+            name,
+            class: row.symbol_class.into(),
+            target: self.target(&row.target),
+            import: row.is_reexport.then_some(row.import_number),
+        }
+    }
+
+    fn target(&self, row: &sys::pef_target) -> Target<'c, 'a> {
+        match row.kind {
             sys::PEF_TARGET_MISSING => Target::Missing,
             sys::PEF_TARGET_ABSOLUTE => Target::Absolute(row.address),
             _ => Target::InSection {
@@ -567,7 +688,7 @@ impl<'c, 'a> Fragment<'c, 'a> {
                 offset: row.offset,
                 address: row.address,
             },
-        })
+        }
     }
 
     fn read(&self) -> RwLockReadGuard<'c, raw::Context<'a>> {
@@ -607,7 +728,98 @@ impl Entries {
     }
 }
 
-/// What an import means.
+/// An export of a fragment, with where it ends.
+///
+/// ```
+/// let tools = pef::link("library Old 1 0 weak\nimport gone data weak\nabsolute none data 0\nreexport gone data gone\n")?;
+/// let context = pef::Context::new()?;
+/// context.add("Tools", &tools)?;
+/// let connection = context.prepare("Tools")?;
+/// let (none, gone) = (connection.root().export_named("none").unwrap(), connection.root().export_named("gone").unwrap());
+/// assert!(matches!(none.target, pef::Target::Absolute(0)) && none.import.is_none());
+/// assert!(matches!(gone.target, pef::Target::Missing) && gone.import == Some(0));
+/// # Ok::<(), Box<dyn std::error::Error>>(())
+/// ```
+#[derive(Clone, Copy)]
+#[non_exhaustive]
+pub struct PlacedExport<'c, 'a> {
+    /// Its number.
+    pub number: usize,
+    /// Its name.
+    pub name: &'a [u8],
+    /// What it names.
+    pub class: SymbolClass,
+    /// Where it ends. It is missing if the export passes on an import that is missing.
+    pub target: Target<'c, 'a>,
+    /// The number of the import that it passes on.
+    pub import: Option<usize>,
+}
+
+impl fmt::Debug for PlacedExport<'_, '_> {
+    fn fmt(&self, out: &mut fmt::Formatter<'_>) -> fmt::Result {
+        out.debug_struct("PlacedExport")
+            .field("number", &self.number)
+            .field("name", &Text(self.name))
+            .field("class", &self.class)
+            .field("target", &self.target)
+            .field("import", &self.import)
+            .finish()
+    }
+}
+
+/// Where an address is.
+///
+/// ```
+/// let tools = pef::link("section data data process 4 8\nexport answer data data 4\n")?;
+/// let context = pef::Context::new()?;
+/// context.add("Tools", &tools)?;
+/// let connection = context.prepare("Tools")?;
+/// let it = context.at(0x10006).unwrap();
+/// assert_eq!((it.fragment, it.section, it.offset), (connection.root().number(), 0, 6));
+/// let nearest = it.nearest.unwrap();
+/// assert_eq!((nearest.name, nearest.offset), (b"answer".as_slice(), 4));
+/// assert!(context.at(0x10008).is_none());
+/// # Ok::<(), Box<dyn std::error::Error>>(())
+/// ```
+#[derive(Clone, Copy, Debug, PartialEq, Eq, Hash)]
+#[non_exhaustive]
+pub struct Location<'a> {
+    /// The [number](Fragment::number) of the fragment.
+    pub fragment: usize,
+    /// The number of its section.
+    pub section: usize,
+    /// The offset in the section.
+    pub offset: u32,
+    /// The export in this section with the greatest offset that isn't greater, the first if several have it.
+    pub nearest: Option<NearestExport<'a>>,
+}
+
+/// The nearest export at an address or before it.
+#[derive(Clone, Copy, PartialEq, Eq, Hash)]
+#[non_exhaustive]
+pub struct NearestExport<'a> {
+    /// Its number.
+    pub number: usize,
+    /// Its name.
+    pub name: &'a [u8],
+    /// What it names.
+    pub class: SymbolClass,
+    /// Its offset in the section.
+    pub offset: u32,
+}
+
+impl fmt::Debug for NearestExport<'_> {
+    fn fmt(&self, out: &mut fmt::Formatter<'_>) -> fmt::Result {
+        out.debug_struct("NearestExport")
+            .field("number", &self.number)
+            .field("name", &Text(self.name))
+            .field("class", &self.class)
+            .field("offset", &self.offset)
+            .finish()
+    }
+}
+
+/// What an import means, or where an export ends.
 ///
 /// ```
 /// let app = pef::link("library Tools 1 0 weak\nimport answer data weak\n")?;

@@ -14,7 +14,7 @@ use crate::{raw, rows};
 /// ```
 /// for finding in pef::findings(b"no container")? {
 ///     let word = if finding.is_error { "error" } else { "note" };
-///     println!("{word} {finding}: {}", finding.code.help());
+///     println!("{word} {finding}: {}", finding.help());
 ///     assert_eq!(finding.code, pef::Code::TooShort);
 /// }
 /// # Ok::<(), Box<dyn std::error::Error>>(())
@@ -37,6 +37,11 @@ impl Finding {
     fn of(row: &sys::pef_finding) -> Self {
         let has_detail = matches!(row.number, 37..=39 | 107 | 109 | 112..=114 | 116);
         Self { code: row.number.into(), is_error: row.is_error, place: Place::of(row.place), detail: has_detail.then_some(row.detail) }
+    }
+
+    /// One or two sentences: what it means, and what to do.
+    pub fn help(&self) -> &'static str {
+        self.code.help()
     }
 }
 
@@ -101,12 +106,11 @@ impl Report {
     }
 
     /// Makes the object that such a report has for a container, of bytes that are looked at as a container whatever they are. The offsets
-    /// are those in these bytes, and there is no end of a line. The bytes aren't kept. It needs the feature `native`.
+    /// are those in these bytes, and there is no end of a line. The bytes aren't kept.
     ///
     /// # Errors
     ///
     /// 99.
-    #[cfg(feature = "native")]
     pub fn of_container(bytes: &[u8]) -> Result<Self, Error> {
         raw::Report::of_container(bytes).map(Self).map_err(Error::new)
     }

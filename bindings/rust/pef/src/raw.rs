@@ -27,8 +27,8 @@ fn done(answer: u32) -> Result<(), Number> {
     }
 }
 
-/// How much stack a call takes at most: 64 KB, 96 KB to open a report, and 256 KB in the portable source.
-const STACK: usize = if cfg!(feature = "native") { 96 << 10 } else { 256 << 10 };
+/// How much stack a call takes at most: 64 KB, 112 KB to open a report, and 256 KB in the portable source.
+const STACK: usize = if cfg!(feature = "native") { 112 << 10 } else { 256 << 10 };
 
 /// Touches the stack that a call takes, page after page, as the compiler does for each large frame. The library's code doesn't: in a thread
 /// with less it could pass the guard page.
@@ -216,6 +216,11 @@ pub(crate) fn export_named(bytes: &[u8], name: &[u8]) -> Result<(usize, sys::pef
     unsafe { both_filled(|number, row| sys::pef_export_named(bytes.as_ptr(), bytes.len(), name.as_ptr(), name.len(), number, row)) }
 }
 
+pub(crate) fn import_named(bytes: &[u8], name: &[u8]) -> Result<(usize, sys::pef_import), Number> {
+    // SAFETY: the call fills both places if it returns PEF_OK.
+    unsafe { both_filled(|number, row| sys::pef_import_named(bytes.as_ptr(), bytes.len(), name.as_ptr(), name.len(), number, row)) }
+}
+
 pub(crate) fn expand_into(packed: &[u8], out: &mut [u8]) -> Result<(), Number> {
     touch_stack();
     // SAFETY: the call writes nothing but `out`.
@@ -300,7 +305,6 @@ impl Report {
         Ok(it)
     }
 
-    #[cfg(feature = "native")]
     pub(crate) fn of_container(bytes: &[u8]) -> Result<Self, Number> {
         touch_stack();
         let mut it = Self(sys::PEF_NO_REPORT);
@@ -408,6 +412,9 @@ mod native {
     mod contexts {
         use super::*;
 
+        /// An export of a fragment with its name.
+        pub(crate) type NamedExport<'a> = (&'a [u8], sys::pef_fragment_export);
+
         /// Missing libraries, each with its name.
         type MissingRows<'a> = Vec<(&'a [u8], sys::pef_missing)>;
 
@@ -450,6 +457,15 @@ mod native {
                 0 => &[],
                 length => core::slice::from_raw_parts(bytes.at, length),
             }
+        }
+
+        /// An export with its name.
+        ///
+        /// # Safety
+        ///
+        /// The name is a part of what was added to a context over `'a`.
+        unsafe fn named<'a>(row: sys::pef_fragment_export) -> NamedExport<'a> {
+            (added(row.name), row)
         }
 
         impl<'a> Context<'a> {
@@ -517,6 +533,44 @@ mod native {
                 // SAFETY: the context is borrowed alone.
                 let answer =
                     unsafe { sys::pef_prepare_with_place(&mut self.0, name.as_ptr(), name.len(), &mut number, &mut names, &mut place) };
+                // SAFETY: names are parts of what was added, and those that aren't reported are empty.
+                let names =
+                    unsafe { Names { fragment: added(names.fragment), library: added(names.library), symbol: added(names.symbol) } };
+                done(answer).map(|()| number).map_err(|answer| (answer, names, place))
+            }
+
+            /// The sections that a preparation would place, from a number on, at most so many. An error comes with its names.
+            pub(crate) fn new_sections(
+                &mut self,
+                name: &[u8],
+                from: usize,
+                most: usize,
+            ) -> Result<Vec<sys::pef_new_section>, (Number, Names<'a>)> {
+                let mut names = sys::PEF_NO_NAMES;
+                let context = &mut self.0;
+                // SAFETY: the context is borrowed alone. The call fills as many places as it counts.
+                let rows = unsafe {
+                    new_rows(most, |places, room, count| {
+                        sys::pef_new_sections(context, name.as_ptr(), name.len(), from, places, room, count, &mut names)
+                    })
+                };
+                // SAFETY: names are parts of what was added, and those that aren't reported are empty.
+                let names =
+                    unsafe { Names { fragment: added(names.fragment), library: added(names.library), symbol: added(names.symbol) } };
+                rows.map_err(|answer| (answer, names))
+            }
+
+            /// Prepares a fragment at some addresses. An error comes with its names and its place.
+            pub(crate) fn prepare_at(&mut self, name: &[u8], addresses: &[u32]) -> Result<u32, (Number, Names<'a>, sys::pef_place)> {
+                touch_stack();
+                let mut names = sys::PEF_NO_NAMES;
+                let mut place = sys::pef_place { part: sys::PEF_NOWHERE, row: 0, field: 0, offset: sys::PEF_NO_OFFSET };
+                let mut number = 0;
+                let (given, count) = (addresses.as_ptr(), addresses.len());
+                // SAFETY: the context is borrowed alone.
+                let answer = unsafe {
+                    sys::pef_prepare_at(&mut self.0, name.as_ptr(), name.len(), given, count, &mut number, &mut names, &mut place)
+                };
                 // SAFETY: names are parts of what was added, and those that aren't reported are empty.
                 let names =
                     unsafe { Names { fragment: added(names.fragment), library: added(names.library), symbol: added(names.symbol) } };
@@ -596,6 +650,45 @@ mod native {
             pub(crate) fn export_address(&self, connection: u32, fragment: usize, number: usize) -> Option<u32> {
                 // SAFETY: the call fills the place if it returns PEF_OK.
                 unsafe { filled(|address| sys::pef_export_address_const(&self.0, connection, fragment, number, address)) }.ok()
+            }
+
+            pub(crate) fn export_count(&self, connection: u32, fragment: usize) -> usize {
+                // SAFETY: the call fills the place if it returns PEF_OK.
+                unsafe { filled(|count| sys::pef_fragment_exports_const(&self.0, connection, fragment, count)) }.unwrap_or(0)
+            }
+
+            pub(crate) fn export(&self, connection: u32, fragment: usize, number: usize) -> Option<NamedExport<'a>> {
+                // SAFETY: the call fills the struct if it returns PEF_OK, with a name in a container that was added.
+                unsafe {
+                    filled(|row| sys::pef_fragment_export_const(&self.0, connection, fragment, number, row)).ok().map(|row| named(row))
+                }
+            }
+
+            pub(crate) fn export_named(&self, connection: u32, fragment: usize, name: &[u8]) -> Option<NamedExport<'a>> {
+                let call = |row| {
+                    // SAFETY: the call fills the struct if it returns PEF_OK.
+                    unsafe { sys::pef_fragment_export_named_const(&self.0, connection, fragment, name.as_ptr(), name.len(), row) }
+                };
+                // SAFETY: the name that it is filled with is in a container that was added.
+                unsafe { filled(call).ok().map(|row| named(row)) }
+            }
+
+            pub(crate) fn import_named(&self, connection: u32, fragment: usize, name: &[u8]) -> Option<usize> {
+                let call = |number| {
+                    // SAFETY: the call fills the place if it returns PEF_OK.
+                    unsafe { sys::pef_fragment_import_named_const(&self.0, connection, fragment, name.as_ptr(), name.len(), number) }
+                };
+                unsafe { filled(call) }.ok()
+            }
+
+            /// Where an address is, and the name of the nearest export.
+            pub(crate) fn at(&self, address: u32) -> Option<(&'a [u8], sys::pef_location)> {
+                // SAFETY: the call fills the struct if it returns PEF_OK, with a name in a container that was added, or none.
+                unsafe {
+                    filled(|row: *mut sys::pef_location| sys::pef_at_const(&self.0, address, row))
+                        .ok()
+                        .map(|row| (added(row.nearest.name), row))
+                }
             }
         }
 

@@ -1,4 +1,5 @@
 //! Containers that are sound.
+#![cfg(feature = "native")]
 
 mod common;
 

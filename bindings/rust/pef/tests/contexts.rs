@@ -1,11 +1,12 @@
 //! Contexts: what is prepared, and what the errors are.
+#![cfg(feature = "native")]
 
 mod common;
 
 use std::sync::atomic::{AtomicBool, Ordering};
 
 use common::linked;
-use pef::{Code, Connection, Context, ContextOptions, Entries, Error, Fragments, MissingLibrary, SectionKind, Share, Target};
+use pef::{Code, Connection, Context, ContextOptions, Entries, Error, Fragments, MissingLibrary, SectionKind, Share, SymbolClass, Target};
 
 /// The fragments that weak libraries need: `Late` isn't there.
 const WEAK: &str = "library Late 1 0 weak\nimport v data strong\nsection w data process 4 4\nfix w 0 import v\n";
@@ -67,6 +68,24 @@ fn missing_libraries() {
     assert_eq!(context.missing("S").unwrap(), []);
     context.add("W", b"no container").unwrap();
     assert_eq!(named(&refuses(1, context.missing("App"))), ["W"]);
+}
+
+#[test]
+fn sections_at_given_addresses() {
+    let app = pef::link("section s data process 4 20\nsection t data global 6 16\n").unwrap();
+    let context = Context::new().unwrap();
+    refuses(60, context.new_sections("App"));
+    refuses(60, context.prepare_at("App", &[]));
+    context.add("App", &app).unwrap();
+    let sections = context.new_sections("App").unwrap();
+    let rows: Vec<_> = sections.iter().map(|it| (it.fragment, it.number, it.kind, it.share, it.size, it.alignment)).collect();
+    assert_eq!(rows, [(0, 0, SectionKind::Data, Share::Process, 32, 16), (0, 1, SectionKind::Data, Share::Global, 16, 64)]);
+    refuses(210, context.prepare_at("App", &[0x20000]));
+    assert_eq!(named(&refuses(67, context.prepare_at("App", &[0x20000, 0x20020]))), ["App"]);
+    let connection = context.prepare_at("App", &[0x20000, 0x10040]).unwrap();
+    let addresses: Vec<_> = connection.root().sections().map(|it| it.address()).collect();
+    assert_eq!(addresses, [0x20000, 0x10040]);
+    assert_eq!(context.new_sections("App").unwrap(), []);
 }
 
 #[test]
@@ -189,6 +208,58 @@ fn what_imports_and_exports_mean() {
     let connection = context.prepare("user").unwrap();
     let target = connection.root().import_target(0).unwrap();
     assert!(matches!(target, Target::Absolute(77)) && target.address() == 77);
+}
+
+/// N: k at 10000, l at 10010. The section of A is after them, at 10020.
+const EXPORTING: &str =
+    "versions 1 0 0\nsection k const process 2 4\nsection l data process 4 8\nexport v data l 4\nabsolute n data 0x89ABCDEF\n";
+const PASSING: &str = "library N 1 0 -\nimport v data strong\nimport n data strong\nimport x code weak\nsection a data process 4 16\n\
+    export low tvector a 4\nexport high code a 12\nabsolute none glue 0\nreexport v data v\nreexport n data n\nreexport gone data x\n";
+
+#[test]
+fn exports_and_where_an_address_is() {
+    let (passing, exporting) = (pef::link(PASSING).unwrap(), pef::link(EXPORTING).unwrap());
+    let container = pef::Container::read(&passing).unwrap();
+    let found = container.find_import("x").unwrap();
+    assert_eq!((found.number, found.name, found.library, found.class, found.weak), (2, &b"x"[..], Some(0), SymbolClass::Code, true));
+    assert!(container.find_import("high").is_none() && container.find_import("").is_none());
+
+    let context = Context::new().unwrap();
+    context.add("A", &passing).unwrap();
+    context.add("N", &exporting).unwrap();
+    let connection = context.prepare("A").unwrap();
+    let (library, root) = (connection.fragments().next().unwrap(), connection.root());
+    assert_eq!((root.export_count(), library.export_count()), (6, 2));
+    assert_eq!((root.import_named("n"), root.import_named("high"), library.import_named("n")), (Some(1), None, None));
+
+    let none = root.export_named("none").unwrap();
+    assert!(matches!(none.target, Target::Absolute(0)) && none.class == SymbolClass::Glue && none.import.is_none());
+    let number = root.export_named("n").unwrap();
+    assert!(matches!(number.target, Target::Absolute(0x89AB_CDEF)) && number.import == Some(1));
+    let gone = root.export_named("gone").unwrap();
+    assert!(matches!(gone.target, Target::Missing) && gone.target.address() == 0 && gone.import == Some(2));
+    let (v, high) = (root.export_named("v").unwrap(), root.export_named(b"high").unwrap());
+    for (export, (owner, in_section, at, to, passed)) in [(v, (1, 1, 4, 0x10014, Some(0))), (high, (0, 0, 12, 0x1002C, None))] {
+        match export.target {
+            Target::InSection { fragment, section, offset, address } => {
+                assert_eq!((fragment.number(), section, offset, address, export.import), (owner, in_section, at, to, passed))
+            }
+            other => panic!("{other:?}"),
+        }
+        assert_eq!(root.export(export.number).unwrap().name, export.name);
+    }
+    assert!(root.export_named("hig").is_none() && root.export(6).is_none());
+
+    let at = |address| {
+        let it = context.at(address)?;
+        Some((it.fragment, it.section, it.offset, it.nearest.map(|it| (it.name, it.offset))))
+    };
+    let (v, low, high) = (Some((&b"v"[..], 4)), Some((&b"low"[..], 4)), Some((&b"high"[..], 12)));
+    assert_eq!([at(0x10003), at(0x10004), at(0x10014)], [Some((1, 0, 3, None)), None, Some((1, 1, 4, v))]);
+    assert_eq!([at(0x10023), at(0x10024), at(0x1002B)], [Some((0, 0, 3, None)), Some((0, 0, 4, low)), Some((0, 0, 11, low))]);
+    assert_eq!([at(0x1002F), at(0x10030), at(0xFFFF)], [Some((0, 0, 15, high)), None, None]);
+    connection.close().unwrap();
+    assert!(context.at(0x10014).is_none());
 }
 
 #[test]

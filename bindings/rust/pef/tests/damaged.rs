@@ -1,4 +1,5 @@
 //! Containers that may be damaged.
+#![cfg(feature = "native")]
 
 mod common;
 

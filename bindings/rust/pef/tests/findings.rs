@@ -1,4 +1,5 @@
 //! All errors of a container and notes on it, and reports.
+#![cfg(feature = "native")]
 
 mod common;
 

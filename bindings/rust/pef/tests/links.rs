@@ -1,4 +1,5 @@
 //! Scripts, and the errors of scripts and containers with their places.
+#![cfg(feature = "native")]
 
 mod common;
 

@@ -1,4 +1,5 @@
 //! Files of the classic Mac OS.
+#![cfg(feature = "native")]
 
 mod common;
 

@@ -1,4 +1,5 @@
 //! Random lists of additions, reservations, preparations and closings, compared with a model of docs/RULES.md.
+#![cfg(feature = "native")]
 
 mod common;
 

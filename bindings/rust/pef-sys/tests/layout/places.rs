@@ -24,9 +24,12 @@ places! {
     pef_options { size limit granule connections steps bytes }
     pef_names { fragment library symbol }
     pef_missing { name fragment current_version old_imp_version found_version found_old_def_version is_weak is_found }
+    pef_new_section { fragment section kind share size alignment }
     pef_fragment_section { address size kind share }
     pef_entries { init main term has_init has_main has_term }
     pef_target { kind fragment section offset address }
+    pef_fragment_export { name number target import_number symbol_class is_reexport }
+    pef_location { fragment section connection offset has_nearest nearest }
 }
 
 constants! {
@@ -139,6 +142,7 @@ constants! {
     PEF_STILL_PRESENT
     PEF_STILL_NAMED
     PEF_NAME_TAKEN
+    PEF_WRONG_ADDRESS_COUNT
     PEF_MAX_FRAGMENTS
     PEF_MAX_CONNECTIONS
     PEF_KIND_CODE
