@@ -14,9 +14,8 @@ use Rattle.cfm_closure.specs.declared.fragment.FragmentView.{FragmentView}
 use Rattle.cfm_closure.specs.Fragments.{Fragment, fragment_of}
 use Rattle.cfm_closure.specs.Kept.Caches.{AreCached, AreKeptRows, AreOfKept, IsKeptRow, IsOfKept, KeepsFirst, MayTake, NoneNames}
 use Rattle.cfm_closure.specs.Kept.Targets.{AreAllKnown, Row}
-use Rattle.cfm_closure.specs.Kept.Views.{AreRead, fragment_at}
+use Rattle.cfm_closure.specs.Kept.Views.{AreRead}
 use Rattle.cfm_closure.specs.Orders.{IsComplete}
-use Rattle.cfm_closure.specs.Views.{fragment_seen}
 use Rattle.cfm_closure.proofs.ClosedLemmas.{closed-complete}
 use Rattle.cfm_closure.proofs.SameClosedLemmas.{closed-same, target-same}
 use Rattle.cfm_closure.proofs.SameLemmas.{AreSame, fragment_of-same}
@@ -24,13 +23,6 @@ use Rattle.cfm_closure.proofs.PlaceLemmas.{IsFreeFor}
 use Rattle.cfm_closure.proofs.StoreLemmas.{may_take, placed-longer, placed-read, placed-same}
 use Rattle.cfm_closure.proofs.LeadLemmas.{led-target, target-led}
 use Rattle.cfm_closure.proofs.RowLemmas.{none-at}
-
--- a fragment that a table has is in one of its places
-fragment_at-below : (table : List (Option FragmentView)) (p : ℕ) (f : Fragment) → fragment_at table p ≡ Some f → p < length table
-fragment_at-below table p f here = elim (cases_lt p (length table)) [
-  | inl under ↦ under
-  | inr past ↦ absurd (let e : None ≡ Some f = sym (ap (option_map fragment_seen) (get_or_past table p None past)) ∙ here in cc)
-]
 
 -- a table without places has no values
 none-in : {T : Type 0} (table : List (Option T)) (p : ℕ) → table ≡ [] → get_or table p None ≡ None

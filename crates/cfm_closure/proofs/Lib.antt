@@ -12,6 +12,7 @@ mod GrowLemmas
 mod HopFacts
 mod HopLemmas
 mod ImportLemmas
+mod IndexLemmas
 mod InitLemmas
 mod InitOrderLemmas
 mod KnownLemmas

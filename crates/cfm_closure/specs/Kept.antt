@@ -3,10 +3,10 @@ pub mod Bindings
 pub mod Caches
 pub mod Entries
 pub mod Exported
-pub mod FoundNames
 pub mod Hops
 pub mod Imports
 pub mod Lending
+pub mod NameIndexes
 pub mod Names
 pub mod Notes
 pub mod Numbers

@@ -16,6 +16,9 @@ use std::marker::Model;
 /// The most pairs of a store.
 pub const MAX_PAIRS: usize = 256;
 
+/// A longer name is compared with those of the pairs. Most have another length, while a hash takes all its bytes.
+const LONGEST_HASHED: usize = 255;
+
 /// Fragments by name: pairs of a name and the bytes of a container, borrowed, in the order in which they
 /// were added. If several pairs have the same name, the first is used.
 ///
@@ -199,6 +202,10 @@ impl<'a> Store<'a> {
         ensures place { result ≡ place_of self.now name.now }
         ensures below { IfSome result (λ p. p < length self.now) }
     {
+        if name.len() > LONGEST_HASHED {
+            let (_, place) = first_named(&self.pairs, name)?;
+            return Some(place);
+        }
         self.places.get(name).copied()
     }
 }

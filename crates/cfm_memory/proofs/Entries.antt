@@ -60,12 +60,6 @@ some_is : (o : Option (Vec ℕ)) → IsSome o → (v : Vec ℕ) × (Some v ≡ o
 some_is None some = absurd (cc)
 some_is (Some v) some = (v, refl)
 
--- and it has bytes
-pub held_bytes : (g : ℕ) (es : List (ℕ × Vec ℕ)) (limit : ℕ) (rs : List Reserved) (place : Place) (m : Layout) → record { granule = g; limit = limit; instances = instances es; reserved = rs } ≡ m → IsTrue (holds_place m place) → (bytes : List ℕ) × (bytes_at (instances es) place.address ≡ Some bytes)
-held_bytes g es limit rs place m view_is held =
-    let there = some_is (found es place.address) (held_found g es limit rs place m view_is held) in
-    (there.0.items, bytes_found es place.address there.0 there.1)
-
 -- a borrow of the map exists if the map has the entry
 pub lent_there : (o : Option (MutBor (Vec ℕ))) (there : Option (Vec ℕ)) → option_copied_mut o ≡ there → IsSome there → IsSome o
 lent_there None there is some = (let none : false ≡ true = subst (λ (o : Option (Vec ℕ)). IsSome o) (sym is) some in absurd (cc))

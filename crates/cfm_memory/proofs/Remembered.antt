@@ -1,10 +1,9 @@
 -- Hints hold after a change, and a search may begin at them.
-use Rattle.std.proofs.Common.{◌≡◌, ◌⊎◌, ◌+◌, ◌-◌, ◌*◌, ◌/◌, ◌%◌, ◌^◌, ◌≤◌, ◌<◌, ℕ, zero, suc, max, min, get_or, List, [], ◌∷◌, ◌++◌, length, set, take, drop, replicate, leb, leb-true, true, ap, ◌∙◌, sym, subst, inl, inr, arith}
+use Rattle.std.proofs.Common.{◌≡◌, ◌⊎◌, ◌+◌, ◌-◌, ◌*◌, ◌/◌, ◌%◌, ◌^◌, ◌≤◌, ◌<◌, ℕ, zero, suc, max, min, get_or, List, [], ◌∷◌, ◌++◌, length, take, drop, replicate, leb, leb-true, true, ap, ◌∙◌, sym, subst, inl, inr, arith}
 use Rattle.std.specs.List.{AllWithin}
 use Rattle.std.specs.Global.{Vec}
 use Rattle.std.proofs.Math.Nat.{div-add-mod, mul-mod_right, mul_assoc}
 use Rattle.std.proofs.lemmas.Bool.{cases_lt}
-use Rattle.std.proofs.lemmas.List.Elements.{All-set}
 use Rattle.cfm_memory.specs.Limits.{first_address}
 use Rattle.cfm_memory.specs.Instances.{Instance}
 use Rattle.cfm_memory.specs.Kept.Searches.{AllPassed, AreHints, AreLowered, IsBarren, IsFirstVacant, IsPast, IsStart, lowered, no_hint}
@@ -50,13 +49,6 @@ hints_lowered g address xs ys rs ts hints lower same are_lowered free clear are 
       ],
       omega (arith, is.1),
     )
-
--- a new hint in place of another
-pub hints_replaced : (g : ℕ) (xs : List Instance) (rs : List Reserved) (hints : List Hint) (slot : ℕ) (hint : Hint) → IsBarren g xs rs hint → hint.from ≤ 2 ^ 32 → AreHints g xs rs hints → AreHints g xs rs (set hints slot hint)
-hints_replaced g xs rs hints slot hint barren small are = All-set (λ (h : Hint). IsBarren g xs rs h × (h.from ≤ 2 ^ 32)) hints slot hint (barren, small) are
-
-pub hint_kept : (g : ℕ) (xs : List Instance) (rs : List Reserved) (address bytes step : ℕ) → IsFirstVacant g bytes step first_address xs rs address → IsBarren g xs rs (record { from = min address (2 ^ 32); taken = bytes; step = step })
-hint_kept g xs rs address bytes step is = λ other low aligned free clear. let h = is.first other low aligned free clear in omega (arith, h)
 
 -- hints that serve no search hold
 pub none_hold : (g : ℕ) (xs : List Instance) (rs : List Reserved) (n : ℕ) → AreHints g xs rs (replicate n no_hint)

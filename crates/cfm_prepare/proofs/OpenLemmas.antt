@@ -78,16 +78,6 @@ same-closed s name a b =
     let other : closed_of s.pairs a.has.root ≡ Ok b.closed = ap (closed_of s.pairs) roots ∙ b.is in
     cc
 
--- if no section is told for another reason, that is why nothing is prepared by any rule
-pub tells-refused : (rule : Rule) (s : ContextState) (name : List ℕ) (f : PrepareFault) → MayNotTellSections s name f → MayNotPrepareBy rule s name f
-tells-refused rule s name fault.TooManyConnections why = why
-tells-refused rule s name fault.RootMissing why = why
-tells-refused rule s name (fault.Bind f) why = why
-tells-refused rule s name (fault.TooManyBytes f) why = why
-tells-refused rule s name (fault.TooManyStepsInAll f) why = why
-tells-refused rule s name (fault.Fragment f) why = absurd why
-tells-refused rule s name fault.OutOfMemory why = why
-
 -- as many addresses as sections are for the new fragments
 pub counted-by : (s : ContextState) (name addresses : List ℕ) (sections : List NewSection) → AreNewSections s name sections → length addresses ≡ length sections → (closed : Closed) (root : ℕ) → place_of s.pairs name ≡ Some root → closed_of s.pairs root ≡ Ok closed
     → IsRuleFor (at_given addresses) s.pairs (new_of s closed)

@@ -1,14 +1,14 @@
 -- A name ends at the first zero byte from its place on, which a mark of a later place can tell.
-use Rattle.std.proofs.Common.{◌≡◌, ◌≢◌, ℕ, ◌+◌, ◌-◌, ◌*◌, ◌/◌, ◌%◌, ◌^◌, ◌<◌, ◌≤◌, inl, inr, List, [], None, Some, true, length, replicate, take, drop, min, refl, sym, subst, ◌∙◌, ap, eq-eqb, length-drop, length-take, arith}
-use Rattle.std.specs.Prelude.{nat_le, slice_index, slice_set}
+use Rattle.std.proofs.Common.{◌≡◌, ℕ, ◌+◌, ◌-◌, ◌^◌, ◌<◌, ◌≤◌, inl, inr, List, [], None, Some, true, length, replicate, take, drop, refl, sym, ◌∙◌, ap, eq-eqb, length-drop, length-take, arith}
+use Rattle.std.specs.Prelude.{nat_le, slice_index}
 use Rattle.std.proofs.lemmas.Bool.{eqb-true}
-use Rattle.std.proofs.lemmas.Bool.Decides.{eqb_tells, leb_tells}
-use Rattle.std.proofs.lemmas.List.{get_or-drop, get_or-replicate, get_or-set_other, get_or-set_same, get_or-take, length-set, length-replicate, nil_from_length}
+use Rattle.std.proofs.lemmas.Bool.Decides.{leb_tells}
+use Rattle.std.proofs.lemmas.List.{get_or-drop, get_or-replicate, get_or-take, length-replicate, nil_from_length}
 use Rattle.std.specs.Option.{is_none}
 use Rattle.memchr.specs.Find.{IsFirstByte, is_byte}
 use Rattle.pef_words.specs.Bytes.{before_zero, name_at}
 use Rattle.pef_words.proofs.Laws.Names.{before_zero-none, before_zero-some}
-use Rattle.pef_loader.specs.Kept.Marks.{AreMarks, AreNonzero, FindsZero, IsFirstZero, TellsEnd}
+use Rattle.pef_loader.specs.Kept.Marks.{AreMarks, AreNonzero, FindsZero, IsFirstZero}
 use Rattle.pef_loader.specs.Kept.Names.{NamesEndAt}
 
 -- a byte of a part
@@ -77,16 +77,3 @@ pub none-marked : (bytes : List ℕ) (step n : ℕ) → AreMarks bytes step (rep
 none-marked bytes step n k under known =
     let len = length-replicate n (2 ^ 32 - 1) in
     absurd (known (get_or-replicate n k (2 ^ 32 - 1) 0 (omega arith)))
-
--- one more place is marked
-pub mark-more : (bytes marks : List ℕ) (step k mark : ℕ) → (mark ≢ 2 ^ 32 - 1 → IsFirstZero bytes (k * step) mark) → AreMarks bytes step marks → AreMarks bytes step (slice_set marks k mark)
-mark-more bytes marks step k mark is marked m under known =
-    let len = length-set marks k mark in
-    elim (eqb_tells m k) [
-      | inl same ↦ (
-          let here : slice_index (slice_set marks k mark) m ≡ mark = ap (slice_index (slice_set marks k mark)) same.1 ∙ get_or-set_same marks k mark 0 (let e = same.1 in omega arith) in
-          rw (here, same.1) (is (λ no. known (here ∙ no))))
-      | inr other ↦ (
-          let here = get_or-set_other marks k m mark 0 other.1 in
-          rw here (marked m (omega arith) (λ no. known (here ∙ no))))
-    ]

@@ -5,7 +5,7 @@ ghost use Rattle.pef_loader.specs.CutNames.{cut_name};
 ghost use Rattle.pef_loader.specs.Kept.Marks.{AreMarks};
 ghost use Rattle.pef_loader.specs.Kept.Names.{NamesEndAt, front_name};
 
-use crate::marks::{MARKS, known_end, mark_places, zero_between};
+use crate::marks::{MARKS, NO_MARK, known_end, mark_places, zero_between};
 use crate::names::names_end;
 use pef_words::Cut;
 
@@ -33,12 +33,17 @@ pub struct Names<'a> {
 impl<'a> Names<'a> {
     ghost use Rattle.pef_loader.specs.PartialViews.{cut_seen, names_bytes};
 
-    /// Returns the names in some bytes.
+    /// Returns the names in some bytes. No place is marked: [`Names::name`] needs none.
     pub fn new(bytes: &'a [u8]) -> Names<'a>
         ensures { names_bytes result ≡ bytes.entry.now }
     {
         let cut = Cut::new(bytes);
-        Names::ending(cut, names_end(cut))
+        Names {
+            cut,
+            end: names_end(cut),
+            step: cut.len() / MARKS + 1,
+            marks: [NO_MARK; MARKS],
+        }
     }
 
     /// Returns the names in some bytes, whose last zero byte is right before `end`.

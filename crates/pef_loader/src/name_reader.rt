@@ -7,7 +7,7 @@ use crate::cut_name::Names;
 use crate::marks::{NO_MARK, known_end, mark_of, zero_between};
 
 /// How many places a reader marks. They are on the stack, and no call may take more than 64 KB of that.
-const FAR_MARKS: usize = 1_024;
+const FAR_MARKS: usize = 256;
 
 /// Reads many zero-ended names of some bytes, and allocates nothing. A place is marked when a name that passes it was searched.
 #[derive(Drop)]

@@ -1,6 +1,6 @@
 -- The first export with a name.
 use Rattle.std.specs.Prelude.{◌≡◌, ℕ, List, IsTrue, Option, None, Some}
-use Rattle.pef_format.specs.Exports.{Export, ExportView, value_of}
+use Rattle.pef_format.specs.Exports.{Export, value_of}
 use Rattle.pef_format.specs.declared.export.ExportValue.{ExportValue}
 use Rattle.pef_loader.specs.Export.{is_there}
 use Rattle.pef_loader.specs.Loader.{Loaded, export_of, named_of}
@@ -18,13 +18,3 @@ pub record Means (l : Loaded) (name : List ℕ) (value : ExportValue) : Type 0 w
 abbrev pub MeansFirst : Loaded → List ℕ → Option ExportValue → Type 0
 MeansFirst l name None = named_of l name ≡ None
 MeansFirst l name (Some value) = Means l name value
-
--- a view shows it
-pub record Shows (l : Loaded) (name : List ℕ) (x : ExportView) : Type 0 where
-  pub called : x.name.now ≡ name
-  pub means : Means l name (value_of x.fields.section x.fields.value)
-
--- .. if there is one
-abbrev pub ShowsFirst : Loaded → List ℕ → Option ExportView → Type 0
-ShowsFirst l name None = named_of l name ≡ None
-ShowsFirst l name (Some x) = Shows l name x

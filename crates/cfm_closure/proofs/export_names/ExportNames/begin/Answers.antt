@@ -14,10 +14,10 @@ put-requires c = names_inside c.args.bindings.now.pairs c.args.bindings.now.orde
 pub returns-clause-names : goal.returns-clause-names
 returns-clause-names c =
     let pairs = c.args.bindings.now.pairs in
-    let loader : loader_at pairs c.args.q ≡ Some c.in_ok-names.names = loader_at-is pairs c.args.q (fragment_seen c.fragment-fragment.result.now) c.fragment-fragment.ensures ∙ ap Some (sym c.in_ok-names.ensures) in
-    rw c.in_ok-put.ensures.ok (names-set pairs c.args.bindings.now.order c.args.self.now.tables c.requires.names c.args.q c.requires.place c.in_ok-names.names loader)
+    let loader : loader_at pairs c.args.q ≡ Some c.new-names.result = loader_at-is pairs c.args.q (fragment_seen c.fragment-fragment.result.now) c.fragment-fragment.ensures ∙ ap Some (sym c.new-names.ensures) in
+    rw c.in_ok-put.ensures.ok (names-set pairs c.args.bindings.now.order c.args.self.now.tables c.requires.names c.args.q c.requires.place c.new-names.result loader)
 
 pub returns-clause-begun : goal.returns-clause-begun
 returns-clause-begun c =
     let under = names_inside c.args.bindings.now.pairs c.args.bindings.now.order c.args.self.now.tables c.requires.names c.args.q c.requires.place in
-    rw c.in_ok-put.ensures.ok (subst IsSome (sym (get_or-set_same c.args.self.now.tables c.args.q (Some c.in_ok-names.names) None under)) refl)
+    rw c.in_ok-put.ensures.ok (subst IsSome (sym (get_or-set_same c.args.self.now.tables c.args.q (Some c.new-names.result) None under)) refl)

@@ -1,0 +1,84 @@
+-- The index of the exports by their names.
+use Rattle.std.proofs.Common.{◌≡◌, ℕ, ◌+◌, ◌-◌, ◌<◌, ◌≤◌, Bool, true, false, List, [], length, Option, None, Some, nat_cmp, is_lt, cond, refl, sym, ap, ◌∙◌, subst, Bor, arith}
+use Rattle.std.specs.Ordering.{MatchOrdering, ord_max}
+use Rattle.std.specs.Str.{bytes_eq}
+use Rattle.std.specs.declared.cmp.Ordering.{Ordering}
+use Rattle.std.specs.declared.cmp.Ordering.TheVariants.{Less, Equal, Greater}
+use Rattle.std.proofs.lemmas.Cmp.{ranked}
+use Rattle.std.proofs.lemmas.Option.{same_Some}
+use Rattle.std.proofs.lemmas.Slice.Eq.{bytes_eq-Decides}
+use Rattle.pef_words.specs.Refusals.{◌>>=◌, first_among}
+use Rattle.pef_words.proofs.Laws.Refusals.{first_among-end, first_among-here, first_among-next}
+use Rattle.pef_format.specs.Exports.{Export}
+use Rattle.pef_hash.specs.Exports.{Entry, export_named, name_of, named_at}
+use Rattle.pef_loader.specs.Export.{export_in, export_table}
+use Rattle.pef_loader.specs.Loader.{Loaded, export_of, named_of}
+use Rattle.cfm_closure.specs.Kept.NameIndexes.{IsIndex, IsIndexFrom}
+use Rattle.cfm_closure.specs.Kept.Places.{SetsPlace, place_in}
+use Rattle.cfm_closure.specs.declared.name_index.NameIndex.{NameIndex}
+
+-- a row and its name, if both are there
+named-row : (e : Option Entry) (n : Option (List ℕ)) (x : Export) → (e >>= (λ (e : Entry). n >>= (λ name. Some (record { fields = e.fields; name = name })))) ≡ Some x → n ≡ Some x.name
+named-row None n x is = absurd (cc)
+named-row (Some e) None x is = absurd (cc)
+named-row (Some e) (Some name) x is = ap (λ (y : Export). Some y.name) (same_Some _ x is)
+
+-- an export's name is that of its row in the table
+name-own : (l : Loaded) (i : ℕ) (x : Export) → export_of l i ≡ Some x → name_of (export_table l.bytes l.header) i ≡ Some x.name
+unfolding export_of export_in
+name-own l i x is = named-row _ (name_of (export_table l.bytes l.header) i) x is
+
+-- neither of two numbers is above the greater one
+pub both-below : (a b : ℕ) → (a ≤ ord_max nat_cmp a b) × (b ≤ ord_max nat_cmp a b)
+both-below a b = by (nat_cmp b a) (ranked b a (nat_cmp b a) refl)
+  where
+    by : (o : Ordering) → MatchOrdering o (b < a) (b ≡ a) (a < b) → (a ≤ cond (is_lt o) a b) × (b ≤ cond (is_lt o) a b)
+    by Less is = (omega arith, omega (arith, is))
+    by Equal is = (omega (arith, is), omega arith)
+    by Greater is = (omega (arith, is), omega arith)
+
+-- no export, no name
+pub none-indexed : (l : Loaded) (entries : List (Bor (List ℕ) × ℕ)) → entries ≡ [] → IsIndexFrom l l.header.export_count entries 0
+none-indexed l entries empty = rw empty (record {
+  first = λ name. sym (first_among-end (named_at (export_table l.bytes l.header) name) l.header.export_count l.header.export_count (omega arith));
+  long = λ name longer. refl;
+})
+
+-- the export before them is the first with its name
+pub index-more : (l : Loaded) (i : ℕ) (x : Export) (m n : List (Bor (List ℕ) × ℕ)) (longest longer : ℕ) → i < l.header.export_count → export_of l i ≡ Some x → SetsPlace m x.name (Some i) n → longest ≤ longer → length x.name ≤ longer
+    → IsIndexFrom l (i + 1) m longest → IsIndexFrom l i n longer
+index-more l i x m n longest longer under is sets more own are = record { first = first; long = long }
+  where
+    named : name_of (export_table l.bytes l.header) i ≡ Some x.name
+    named = name-own l i x is
+
+    at : List ℕ → ℕ → Option ℕ
+    at name k = named_at (export_table l.bytes l.header) name k
+
+    first : (name : List ℕ) → place_in n name ≡ first_among (named_at (export_table l.bytes l.header) name) i (l.header.export_count - i)
+    first name = by (bytes_eq x.name name) refl
+      where
+        by : (b : Bool) → bytes_eq x.name name ≡ b → place_in n name ≡ first_among (named_at (export_table l.bytes l.header) name) i (l.header.export_count - i)
+        by true met =
+            let here : named_at (export_table l.bytes l.header) name i ≡ Some i = rw (named, met) refl in
+            let P : List ℕ → Type 0 = λ name. place_in n name ≡ Some i in
+            subst P ((bytes_eq-Decides x.name name).0 met) sets.own ∙ sym (first_among-here (named_at (export_table l.bytes l.header) name) i l.header.export_count i under here)
+        by false apart =
+            let none : named_at (export_table l.bytes l.header) name i ≡ None = rw (named, apart) refl in
+            sets.others name apart ∙ are.first name ∙ sym (first_among-next (named_at (export_table l.bytes l.header) name) i l.header.export_count under none)
+
+    long : (name : List ℕ) → longer < length name → place_in n name ≡ None
+    long name past = by (bytes_eq x.name name) refl
+      where
+        by : (b : Bool) → bytes_eq x.name name ≡ b → place_in n name ≡ None
+        by true met = let same = ap length ((bytes_eq-Decides x.name name).0 met) in absurd (omega (arith, same, past, own))
+        by false apart = sets.others name apart ∙ are.long name (omega (arith, past, more))
+
+-- what an index has for a name is the first export with it
+pub index-named : (l : Loaded) (index : NameIndex) (name : List ℕ) → IsIndex l index → place_in index.numbers.entries name ≡ named_of l name
+unfolding named_of export_named
+index-named l index name are = are.first name ∙ ap (λ n. first_among (named_at (export_table l.bytes l.header) name) 0 n) (omega arith)
+
+-- a name that is longer than all has none
+pub long-unnamed : (l : Loaded) (index : NameIndex) (name : List ℕ) → IsIndex l index → index.longest < length name → named_of l name ≡ None
+long-unnamed l index name are past = sym (index-named l index name are) ∙ are.long name past

@@ -1,0 +1,86 @@
+ghost use Rattle.std.specs.Prelude.{◌≡◌, ℕ, List, IfOk, Some};
+ghost use Rattle.pef_loader.specs.Loader.{named_of};
+ghost use Rattle.pef_loader.specs.Views.{loaded};
+ghost use Rattle.cfm_closure.specs.Kept.Exported.{MeansFirst};
+
+use crate::name_index::NameIndex;
+use pef_format::ExportValue;
+use pef_loader::Loader;
+use std::alloc::{AllocError, Global};
+use std::marker::Model;
+
+/// For so many exports the export table is searched once. If it is searched more often, an index of all is made.
+const EXPORTS_A_SEARCH: usize = 16;
+
+/// The exports of a loader section by their names. A search of the export table may look at each export, so if many
+/// names are asked for, they are looked up in an index.
+#[derive(Drop)]
+pub(crate) struct NamedExports<'a> {
+    loader: Loader<'a>,
+    /// How many names were searched in the export table.
+    searches: usize,
+    index: Option<NameIndex<'a>>,
+}
+
+impl<'a> Model for NamedExports<'a> {
+    ghost use Rattle.std.specs.Prelude.{IfSome};
+    ghost use Rattle.pef_loader.specs.Loader.{Loaded};
+    ghost use Rattle.pef_loader.specs.Views.{loaded};
+    ghost use Rattle.cfm_closure.specs.Kept.NameIndexes.{IsIndex};
+
+    ghost Value = { Loaded };
+
+    ghost view = { λ s. loaded s.loader };
+
+    ghost invariant = { λ s. IfSome s.index (IsIndex (loaded s.loader)) };
+}
+
+impl<'a> NamedExports<'a> {
+    /// Returns the exports of a loader section.
+    pub fn new(loader: Loader<'a>) -> NamedExports<'a>
+        ensures { result ≡ loaded loader.entry }
+    {
+        NamedExports {
+            loader,
+            searches: 0,
+            index: None,
+        }
+    }
+
+    /// Returns what the first export with a name means.
+    pub fn find(&mut self, alloc: Global, name: &[u8]) -> Result<Option<ExportValue>, AllocError>
+        ensures value { IfOk result (MeansFirst self.old name.now) }
+        ensures same { self.new ≡ self.old }
+    {
+        match self.first_named(alloc, name)? {
+            Some(export) => Ok(self.value(export)),
+            None => Ok(None),
+        }
+    }
+
+    /// Returns the number of the first export with a name.
+    fn first_named(&mut self, alloc: Global, name: &[u8]) -> Result<Option<usize>, AllocError>
+        ensures number { IfOk result (λ found. found ≡ named_of self.old name.now) }
+        ensures same { self.new ≡ self.old }
+    {
+        if let Some(index) = &self.index {
+            return Ok(index.find(name));
+        }
+        if self.searches <= self.loader.exports() / EXPORTS_A_SEARCH {
+            self.searches += 1;
+            return Ok(self.loader.export_named(name));
+        }
+        let index = NameIndex::new(alloc, &self.loader)?;
+        let found = index.find(name);
+        self.index = Some(index);
+        Ok(found)
+    }
+
+    /// Returns what an export means.
+    fn value(&self, export: usize) -> Option<ExportValue>
+        ensures { (name : List ℕ) → named_of self.now name ≡ Some export → MeansFirst self.now name result }
+    {
+        let export = self.loader.export(export)?;
+        Some(export.fields.value())
+    }
+}
