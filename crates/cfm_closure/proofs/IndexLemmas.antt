@@ -1,5 +1,5 @@
 -- The index of the exports by their names.
-use Rattle.std.proofs.Common.{◌≡◌, ℕ, ◌+◌, ◌-◌, ◌<◌, ◌≤◌, Bool, true, false, List, [], length, Option, None, Some, nat_cmp, is_lt, cond, refl, sym, ap, ◌∙◌, subst, Bor, arith}
+use Rattle.std.proofs.Common.{◌≡◌, ℕ, ◌+◌, ◌-◌, ◌<◌, ◌≤◌, Bool, true, false, List, [], length, Option, None, Some, nat_cmp, is_lt, cond, refl, sym, ap, ◌∙◌, subst, arith}
 use Rattle.std.specs.Ordering.{MatchOrdering, ord_max}
 use Rattle.std.specs.Str.{bytes_eq}
 use Rattle.std.specs.declared.cmp.Ordering.{Ordering}
@@ -13,6 +13,7 @@ use Rattle.pef_format.specs.Exports.{Export}
 use Rattle.pef_hash.specs.Exports.{Entry, export_named, name_of, named_at}
 use Rattle.pef_loader.specs.Export.{export_in, export_table}
 use Rattle.pef_loader.specs.Loader.{Loaded, export_of, named_of}
+use Rattle.pef_names.specs.declared.name_key.NameKey.{NameKey}
 use Rattle.cfm_closure.specs.Kept.NameIndexes.{IsIndex, IsIndexFrom}
 use Rattle.cfm_closure.specs.Kept.Places.{SetsPlace, place_in}
 use Rattle.cfm_closure.specs.declared.name_index.NameIndex.{NameIndex}
@@ -38,14 +39,14 @@ both-below a b = by (nat_cmp b a) (ranked b a (nat_cmp b a) refl)
     by Greater is = (omega (arith, is), omega arith)
 
 -- no export, no name
-pub none-indexed : (l : Loaded) (entries : List (Bor (List ℕ) × ℕ)) → entries ≡ [] → IsIndexFrom l l.header.export_count entries 0
+pub none-indexed : (l : Loaded) (entries : List (NameKey × ℕ)) → entries ≡ [] → IsIndexFrom l l.header.export_count entries 0
 none-indexed l entries empty = rw empty (record {
   first = λ name. sym (first_among-end (named_at (export_table l.bytes l.header) name) l.header.export_count l.header.export_count (omega arith));
   long = λ name longer. refl;
 })
 
 -- the export before them is the first with its name
-pub index-more : (l : Loaded) (i : ℕ) (x : Export) (m n : List (Bor (List ℕ) × ℕ)) (longest longer : ℕ) → i < l.header.export_count → export_of l i ≡ Some x → SetsPlace m x.name (Some i) n → longest ≤ longer → length x.name ≤ longer
+pub index-more : (l : Loaded) (i : ℕ) (x : Export) (m n : List (NameKey × ℕ)) (longest longer : ℕ) → i < l.header.export_count → export_of l i ≡ Some x → SetsPlace m x.name (Some i) n → longest ≤ longer → length x.name ≤ longer
     → IsIndexFrom l (i + 1) m longest → IsIndexFrom l i n longer
 index-more l i x m n longest longer under is sets more own are = record { first = first; long = long }
   where

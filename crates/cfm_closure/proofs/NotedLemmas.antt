@@ -1,8 +1,9 @@
 -- A missing library is noted by the place of its name.
-use Rattle.std.proofs.Common.{◌≡◌, ℕ, suc, ◌+◌, ◌-◌, ◌<◌, Bool, true, false, not, ◌&&◌, cond, List, [], ◌∷◌, ◌++◌, map, length, None, Some, refl, sym, ap, ◌∙◌, subst, get_or, set, Bor, arith}
+use Rattle.std.proofs.Common.{◌≡◌, ℕ, suc, ◌+◌, ◌-◌, ◌<◌, Bool, true, false, not, ◌&&◌, cond, List, [], ◌∷◌, ◌++◌, map, length, None, Some, refl, sym, ap, ◌∙◌, subst, get_or, set, arith}
 use Rattle.std.specs.Str.{bytes_eq}
 use Rattle.std.proofs.Math.Seq.{map-set_same}
 use Rattle.std.proofs.lemmas.List.{get_or-map, map-set, set-get_or}
+use Rattle.pef_names.specs.declared.name_key.NameKey.{NameKey}
 use Rattle.cfm_closure.specs.declared.missing.MissingLibrary.{MissingLibrary}
 use Rattle.cfm_closure.specs.Kept.Notes.{AreNamed, name_pair}
 use Rattle.cfm_closure.specs.Kept.Places.{ArePlaces}
@@ -82,7 +83,7 @@ module _ (items : List MissingLibrary) (m : MissingLibrary) where
         ∙ set-get_or before at (missing_seen m))
 
     -- the names stay in their places
-    pub named-set : (entries : List (Bor (List ℕ) × ℕ)) → AreNamed (map missing_seen items) entries → AreNamed (map missing_seen (set items at m)) entries
+    pub named-set : (entries : List (NameKey × ℕ)) → AreNamed (map missing_seen items) entries → AreNamed (map missing_seen (set items at m)) entries
     named-set entries are =
         let d : Missing = missing_seen m in
         let inside : at < length before = let long = length-seen missing_seen items in let under = known-inside in omega (arith, long, under) in

@@ -1,9 +1,10 @@
 -- The place of the first pair with a name, before and after a pair is added.
-use Rattle.std.proofs.Common.{◌≡◌, ℕ, zero, suc, ◌+◌, ◌-◌, ◌<◌, ◌≤◌, Bool, true, false, cond, List, [], ◌∷◌, ◌++◌, map, length, Option, None, Some, refl, sym, ap, ap₂, ◌∙◌, subst, Bor, arith, get_or, set, true≢false}
+use Rattle.std.proofs.Common.{◌≡◌, ℕ, zero, suc, ◌+◌, ◌-◌, ◌<◌, ◌≤◌, Bool, true, false, cond, List, [], ◌∷◌, ◌++◌, map, length, Option, None, Some, refl, sym, ap, ap₂, ◌∙◌, subst, arith, get_or, set, true≢false}
 use Rattle.std.specs.Option.{option_or}
 use Rattle.std.specs.Str.{bytes_eq}
 use Rattle.std.specs.Prelude.{IfSome, IsSome, is_some}
 use Rattle.std.proofs.lemmas.Slice.Eq.{bytes_eq-Decides}
+use Rattle.pef_names.specs.declared.name_key.NameKey.{NameKey}
 use Rattle.cfm_closure.specs.Stores.{Pair, free_place, is_named, no_pair, pair_of, place_from, place_of, shown}
 use Rattle.cfm_closure.specs.Additions.{free_for, free_from, without_pair}
 use Rattle.cfm_closure.specs.Kept.Places.{ArePlaces, NotesPlace, SetsPlace, place_in}
@@ -129,7 +130,7 @@ pub taken-named : (x : Pair) (name : List ℕ) → x.free ≡ false → is_named
 taken-named x name taken = ap (λ free. cond free false (bytes_eq name x.name)) taken
 
 -- no names, no places
-pub ArePlaces-nil : (pairs : List Pair) (entries : List (Bor (List ℕ) × ℕ)) → pairs ≡ [] → entries ≡ [] → ArePlaces pairs entries
+pub ArePlaces-nil : (pairs : List Pair) (entries : List (NameKey × ℕ)) → pairs ≡ [] → entries ≡ [] → ArePlaces pairs entries
 unfolding place_of
 ArePlaces-nil pairs entries none empty name = rw (none, empty) refl
 
@@ -146,7 +147,7 @@ other-unnamed x name other = by (is_named x name) refl
     by false met = refl
 
 -- where one name gets its new place, and the others keep theirs, the table has the places of the new pairs
-ArePlaces-sets : (old new : List Pair) (m n : List (Bor (List ℕ) × ℕ)) (name : List ℕ) (place : Option ℕ) → ArePlaces old m → SetsPlace m name place n → place ≡ place_of new name
+ArePlaces-sets : (old new : List Pair) (m n : List (NameKey × ℕ)) (name : List ℕ) (place : Option ℕ) → ArePlaces old m → SetsPlace m name place n → place ≡ place_of new name
     → ((other : List ℕ) → (other ≡ name → ⊥) → place_of new other ≡ place_of old other) → ArePlaces new n
 ArePlaces-sets old new m n name place are sets own others other = by (bytes_eq name other) refl
   where
@@ -154,9 +155,9 @@ ArePlaces-sets old new m n name place are sets own others other = by (bytes_eq n
     by true met = let P : List ℕ → Type 0 = λ other. place_in n other ≡ place_of new other in subst P ((bytes_eq-Decides name other).0 met) (sets.own ∙ own)
     by false apart = sets.others other apart ∙ are other ∙ sym (others other (λ same. true≢false (sym ((bytes_eq-Decides name other).1 (sym same)) ∙ apart)))
 
-module _ (entries : List (Bor (List ℕ) × ℕ)) (name : List ℕ) (place : ℕ) where
+module _ (entries : List (NameKey × ℕ)) (name : List ℕ) (place : ℕ) where
   -- a new name gets the place of the last pair
-  pub NotesPlace-new : (new : List (Bor (List ℕ) × ℕ)) → place_in entries name ≡ None → SetsPlace entries name (Some place) new → NotesPlace entries name place new
+  pub NotesPlace-new : (new : List (NameKey × ℕ)) → place_in entries name ≡ None → SetsPlace entries name (Some place) new → NotesPlace entries name place new
   unfolding place_of
   NotesPlace-new new absent sets pairs x are same taken last =
       ArePlaces-sets pairs (pairs ++ x ∷ []) entries new name (Some place) are sets
@@ -166,9 +167,9 @@ module _ (entries : List (Bor (List ℕ) × ℕ)) (name : List ℕ) (place : ℕ
       (λ other apart. place_of-with pairs x other (λ is. absurd (apart (is ∙ same))))
 
   -- .. and one that already exists keeps its place
-  pub NotesPlace-known : (new : List (Bor (List ℕ) × ℕ)) → is_some (place_in entries name) ≡ true → new ≡ entries → NotesPlace entries name place new
+  pub NotesPlace-known : (new : List (NameKey × ℕ)) → is_some (place_in entries name) ≡ true → new ≡ entries → NotesPlace entries name place new
   NotesPlace-known new there is pairs x are same taken last sought =
-      ap (λ (es : List (Bor (List ℕ) × ℕ)). place_in es sought) is
+      ap (λ (es : List (NameKey × ℕ)). place_in es sought) is
       ∙ are sought
       ∙ sym (place_of-with pairs x sought (λ e. ap (λ n. is_some (place_of pairs n)) (e ∙ same) ∙ ap is_some (sym (are name)) ∙ there))
 
@@ -252,7 +253,7 @@ free_for-is pairs name p is = by (place_of pairs name) refl is
         record { inside = omega arith; free = subst P from r.free; none = has }
 
 -- the table has the places after a pair is put into a free place
-pub ArePlaces-filled : (pairs : List Pair) (p : ℕ) (x : Pair) (m n : List (Bor (List ℕ) × ℕ)) → ArePlaces pairs m → IsFreeFor pairs x.name p → x.free ≡ false → SetsPlace m x.name (Some p) n → ArePlaces (set pairs p x) n
+pub ArePlaces-filled : (pairs : List Pair) (p : ℕ) (x : Pair) (m n : List (NameKey × ℕ)) → ArePlaces pairs m → IsFreeFor pairs x.name p → x.free ≡ false → SetsPlace m x.name (Some p) n → ArePlaces (set pairs p x) n
 ArePlaces-filled pairs p x m n are free taken sets =
     ArePlaces-sets pairs (set pairs p x) m n x.name (Some p) are sets
     (sym (place_of-there pairs p x x.name free.none free.inside (named-own x taken)))
@@ -263,7 +264,7 @@ pub place_of-removed : (pairs : List Pair) (p : ℕ) (name : List ℕ) → (name
 place_of-removed pairs p name apart = place_of-set pairs p free_place name (other-unnamed (get_or pairs p no_pair) name apart) refl
 
 -- .. and after the pair in a place is removed
-pub ArePlaces-removed : (pairs : List Pair) (p : ℕ) (name : List ℕ) (m n : List (Bor (List ℕ) × ℕ)) → ArePlaces pairs m → (get_or pairs p no_pair).name ≡ name → SetsPlace m name (place_of (without_pair pairs p) name) n → ArePlaces (without_pair pairs p) n
+pub ArePlaces-removed : (pairs : List Pair) (p : ℕ) (name : List ℕ) (m n : List (NameKey × ℕ)) → ArePlaces pairs m → (get_or pairs p no_pair).name ≡ name → SetsPlace m name (place_of (without_pair pairs p) name) n → ArePlaces (without_pair pairs p) n
 ArePlaces-removed pairs p name m n are is sets =
     ArePlaces-sets pairs (without_pair pairs p) m n name (place_of (without_pair pairs p) name) are sets refl
     (λ other apart. place_of-removed pairs p other (λ same. apart (same ∙ is)))

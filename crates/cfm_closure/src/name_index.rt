@@ -5,12 +5,13 @@ ghost use Rattle.cfm_closure.specs.Kept.NameIndexes.{IsIndex};
 
 use indexmap::IndexMap;
 use pef_loader::Loader;
+use pef_names::NameKey;
 use std::alloc::{AllocError, Global};
 
 /// The number of the first export with each name.
 #[derive(Drop)]
 pub(crate) struct NameIndex<'a> {
-    numbers: IndexMap<&'a [u8], usize>,
+    numbers: IndexMap<NameKey<'a>, usize>,
     /// The length of the longest name.
     longest: usize,
 }
@@ -26,7 +27,7 @@ impl<'a> NameIndex<'a> {
             let Some(export) = loader.export(i) else {
                 unreachable!()
             };
-            numbers.insert(export.name, i)?;
+            numbers.insert(NameKey { bytes: export.name }, i)?;
             longest = longest.max(export.name.len());
         }
         Ok(NameIndex { numbers, longest })
@@ -40,6 +41,6 @@ impl<'a> NameIndex<'a> {
         if name.len() > self.longest {
             return None;
         }
-        self.numbers.get(name).copied()
+        self.numbers.get(&NameKey { bytes: name }).copied()
     }
 }

@@ -9,16 +9,16 @@ use pef_loader::Loader;
 use std::alloc::{AllocError, Global};
 use std::marker::Model;
 
-/// For so many exports the export table is searched once. If it is searched more often, an index of all is made.
-const EXPORTS_A_SEARCH: usize = 16;
+/// After searches of this many exports and bytes of names an index of all exports is made. It takes longer than a few searches.
+const MOST_SEARCHED: usize = 1 << 20;
 
-/// The exports of a loader section by their names. A search of the export table may look at each export, so if many
-/// names are asked for, they are looked up in an index.
+/// The exports of a loader section by their names. A search of the export table may look at each export and takes all bytes of
+/// the name, so if many names are asked for, they are looked up in an index.
 #[derive(Drop)]
 pub(crate) struct NamedExports<'a> {
     loader: Loader<'a>,
-    /// How many names were searched in the export table.
-    searches: usize,
+    /// How many exports and bytes of names the searches of the export table may have looked at.
+    searched: usize,
     index: Option<NameIndex<'a>>,
 }
 
@@ -42,7 +42,7 @@ impl<'a> NamedExports<'a> {
     {
         NamedExports {
             loader,
-            searches: 0,
+            searched: 0,
             index: None,
         }
     }
@@ -66,8 +66,9 @@ impl<'a> NamedExports<'a> {
         if let Some(index) = &self.index {
             return Ok(index.find(name));
         }
-        if self.searches <= self.loader.exports() / EXPORTS_A_SEARCH {
-            self.searches += 1;
+        if self.searched < MOST_SEARCHED {
+            let search = self.loader.exports().saturating_add(name.len());
+            self.searched = self.searched.saturating_add(search);
             return Ok(self.loader.export_named(name));
         }
         let index = NameIndex::new(alloc, &self.loader)?;

@@ -9,6 +9,7 @@ use crate::fault::BindFault;
 use crate::missing::MissingLibrary;
 use crate::store::note_place;
 use indexmap::IndexMap;
+use pef_names::NameKey;
 use std::alloc::Global;
 use std::marker::Model;
 
@@ -17,7 +18,7 @@ use std::marker::Model;
 pub(crate) struct Notes<'a> {
     libraries: Vec<MissingLibrary<'a>>,
     /// The place of each name.
-    places: IndexMap<&'a [u8], usize>,
+    places: IndexMap<NameKey<'a>, usize>,
 }
 
 impl<'a> Model for Notes<'a> {
@@ -59,7 +60,10 @@ impl<'a> Notes<'a> {
         ensures ok { OnOk result (self.new ≡ noted self.old (missing_seen library.entry)) }
         ensures err { IfErr result (λ e. e ≡ OutOfMemory) }
     {
-        let Some(at) = self.places.get(library.name).copied() else {
+        let key = NameKey {
+            bytes: library.name,
+        };
+        let Some(at) = self.places.get(&key).copied() else {
             return self.append(library);
         };
         if !is_stricter(library, self.libraries[at]) {

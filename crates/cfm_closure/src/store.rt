@@ -9,6 +9,7 @@ ghost use Rattle.cfm_closure.specs.Limits.{most_pairs};
 
 use crate::store_fault::StoreFault;
 use indexmap::IndexMap;
+use pef_names::NameKey;
 use std::alloc::{AllocFailed, Global};
 use std::fmt;
 use std::marker::Model;
@@ -28,7 +29,7 @@ const LONGEST_HASHED: usize = 255;
 pub struct Store<'a> {
     pairs: Vec<Option<(&'a [u8], &'a [u8])>>,
     /// The place of the first pair of each name.
-    places: IndexMap<&'a [u8], usize>,
+    places: IndexMap<NameKey<'a>, usize>,
 }
 
 impl<'a> Model for Store<'a> {
@@ -108,7 +109,7 @@ impl<'a> Store<'a> {
         ensures ok { OnOk result (self.new ≡ slice_set self.old place (record { name = name.now; bytes = bytes.now; free = false })) }
         ensures err { OnErr result (self.new ≡ self.old) }
     {
-        self.places.insert(name, place)?;
+        self.places.insert(NameKey { bytes: name }, place)?;
         self.pairs[place] = Some((name, bytes));
         Ok(())
     }
@@ -206,7 +207,7 @@ impl<'a> Store<'a> {
             let (_, place) = first_named(&self.pairs, name)?;
             return Some(place);
         }
-        self.places.get(name).copied()
+        self.places.get(&NameKey { bytes: name }).copied()
     }
 }
 
@@ -224,34 +225,35 @@ fn first_free(pairs: &[Option<(&[u8], &[u8])>]) -> Option<usize>
 
 /// Notes the place of a name, unless it has one.
 pub(crate) fn note_place<'a>(
-    places: &mut IndexMap<&'a [u8], usize>,
+    places: &mut IndexMap<NameKey<'a>, usize>,
     name: &'a [u8],
     place: usize,
-) -> Result<(), AllocFailed<(&'a [u8], usize)>>
+) -> Result<(), AllocFailed<(NameKey<'a>, usize)>>
     ensures ok { OnOk result (NotesPlace places.old.entries name.now place places.new.entries) }
     ensures err { OnErr result (places.new.entries ≡ places.old.entries) }
 {
-    if places.contains_key(&name) {
+    let key = NameKey { bytes: name };
+    if places.contains_key(&key) {
         return Ok(());
     }
-    places.insert(name, place)?;
+    places.insert(key, place)?;
     Ok(())
 }
 
 /// Notes the place that a name has after a pair with it was removed. The removed pair's slice of the name isn't kept.
 fn note_removed<'a>(
-    places: &mut IndexMap<&'a [u8], usize>,
+    places: &mut IndexMap<NameKey<'a>, usize>,
     pairs: &[Option<(&'a [u8], &'a [u8])>],
-    name: &[u8],
+    name: &'a [u8],
 )
     requires { 0 < spare places.old }
     ensures { SetsPlace places.old.entries name.now (place_of (map place_seen pairs.now) name.now) places.new.entries }
 {
-    places.swap_remove(name);
+    places.swap_remove(&NameKey { bytes: name });
     let Some((name, place)) = first_named(pairs, name) else {
         return;
     };
-    match places.insert(name, place) {
+    match places.insert(NameKey { bytes: name }, place) {
         Ok(_) => {}
         Err(_) => unreachable!(),
     }

@@ -7,7 +7,12 @@ use Rattle.pef_script.specs.declared.parts.LibraryData.{LibraryData}
 use Rattle.pef_script.specs.declared.parts.Parts.{Parts}
 use Rattle.pef_format.specs.Exports.{Export}
 use Rattle.pef_format.specs.Symbols.{Import}
+use Rattle.pef_names.specs.declared.name_key.NameKey.{NameKey}
 use Rattle.pef_script.specs.Script.{DescribedLibrary, DescribedScript, described_export, described_import}
+
+-- the name and the data of a table's entry
+abbrev pub named : {T : Type 0} → NameKey × T → Bor (List ℕ) × T
+named e = (e.0.bytes, e.1)
 
 -- a name and the data beside it
 
@@ -24,10 +29,10 @@ export_of e = described_export e.0.now e.1.class e.1.section e.1.value
 abbrev pub script_in : Parts → DescribedScript
 script_in p = record {
   versions = p.versions;
-  libraries = map library_of p.libraries.entries;
-  imports = map import_of p.imports.entries;
+  libraries = map (λ e. library_of (named e)) p.libraries.entries;
+  imports = map (λ e. import_of (named e)) p.imports.entries;
   sections = p.sections.items;
-  exports = map export_of p.exports.entries;
+  exports = map (λ e. export_of (named e)) p.exports.entries;
   main = p.main;
   init = p.init;
   term = p.term;

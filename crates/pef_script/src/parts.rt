@@ -5,6 +5,7 @@ ghost use Rattle.pef_script.specs.Limits.{most_libraries};
 
 use indexmap::IndexMap;
 use pef_format::{LibraryOptions, SectionKind, Share, SymbolClass};
+use pef_names::NameKey;
 use pef_reloc::Fixup;
 use std::marker::Model;
 
@@ -82,10 +83,10 @@ impl<'a> Model for Section<'a> {
 #[derive(Drop)]
 pub struct Parts<'a> {
     pub versions: Versions,
-    pub libraries: IndexMap<&'a [u8], LibraryData>,
-    pub imports: IndexMap<&'a [u8], ImportData>,
+    pub libraries: IndexMap<NameKey<'a>, LibraryData>,
+    pub imports: IndexMap<NameKey<'a>, ImportData>,
     pub sections: Vec<Section<'a>>,
-    pub exports: IndexMap<&'a [u8], ExportData>,
+    pub exports: IndexMap<NameKey<'a>, ExportData>,
     pub main: Option<(u32, u32)>,
     pub init: Option<(u32, u32)>,
     pub term: Option<(u32, u32)>,

@@ -116,7 +116,7 @@ impl<'a> Script<'a> {
     {
         let (name, library) = self.parts.libraries.get_index(l)?;
         Some(LibraryView {
-            name,
+            name: name.bytes,
             current: library.current,
             old_imp: library.old_imp,
             options: library.options,
@@ -134,7 +134,7 @@ impl<'a> Script<'a> {
         };
         Some(Imported {
             fields,
-            name,
+            name: name.bytes,
             library: import.library as usize,
         })
     }
@@ -144,7 +144,7 @@ impl<'a> Script<'a> {
         ensures { option_map export_seen result ≡ slice_get self.now.exports e }
     {
         let (name, export) = self.parts.exports.get_index(e)?;
-        Some(export_view(name, *export))
+        Some(export_view(name.bytes, *export))
     }
 
     /// Returns the section and offset of the main entry, if there is one.

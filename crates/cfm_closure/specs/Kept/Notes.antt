@@ -1,6 +1,6 @@
 -- What is noted, and the places of its names.
 use Rattle.std.specs.Prelude.{ℕ, List, [], map, false}
-use Rattle.std.specs.Borrow.{Bor}
+use Rattle.pef_names.specs.declared.name_key.NameKey.{NameKey}
 use Rattle.cfm_closure.specs.Kept.Places.{ArePlaces}
 use Rattle.cfm_closure.specs.Missing.{Missing}
 use Rattle.cfm_closure.specs.Stores.{Pair}
@@ -10,5 +10,5 @@ abbrev pub name_pair : Missing → Pair
 name_pair m = record { name = m.name; bytes = []; free = false }
 
 -- a table has the place of each name that is noted
-abbrev pub AreNamed : List Missing → List (Bor (List ℕ) × ℕ) → Type 0
+abbrev pub AreNamed : List Missing → List (NameKey × ℕ) → Type 0
 AreNamed ms entries = ArePlaces (map name_pair ms) entries

@@ -137,9 +137,11 @@ impl<'a> Reader<'a> {
     fn add_library(&mut self, name: &'a [u8], library: LibraryData) -> Result<(), Stop>
         ensures { Steps result (so_far self.new) (with_library (so_far self.old) (library_of (name.entry, library))) }
     {
-        self.test_name(&self.parts.libraries, MAX_LIBRARIES, name)?;
+        self.test_room(&self.parts.libraries, MAX_LIBRARIES, name)?;
         let parts = &mut self.parts;
-        declare(&mut parts.libraries, name, library)?;
+        if !declare(&mut parts.libraries, name, library)? {
+            return Err(Stop::Refused(LineFault::RepeatedName { word: 1 }));
+        }
         self.names += name.len() + 1;
         self.reached = LIBRARY_GROUP;
         Ok(())
@@ -150,9 +152,11 @@ impl<'a> Reader<'a> {
     fn add_import(&mut self, name: &'a [u8], import: ImportData) -> Result<(), Stop>
         ensures { Steps result (so_far self.new) (with_import (so_far self.old) (import_of (name.entry, import))) }
     {
-        self.test_name(&self.parts.imports, MAX_IMPORTS, name)?;
+        self.test_room(&self.parts.imports, MAX_IMPORTS, name)?;
         let parts = &mut self.parts;
-        declare(&mut parts.imports, name, import)?;
+        if !declare(&mut parts.imports, name, import)? {
+            return Err(Stop::Refused(LineFault::RepeatedName { word: 1 }));
+        }
         self.names += name.len() + 1;
         self.reached = LIBRARY_GROUP;
         Ok(())

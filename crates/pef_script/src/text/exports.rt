@@ -1,11 +1,9 @@
-ghost use Rattle.std.specs.Prelude.{◌≡◌, ◌+◌, ◌<◌, ◌≤◌, [], None, Ok, length, vec_len, IfOk};
+ghost use Rattle.std.specs.Prelude.{◌≡◌, ◌<◌, [], vec_len, IfOk};
 ghost use Rattle.std.specs.Result.{result_err};
 ghost use Rattle.pef_words.specs.Refusals.{first_met, result_map};
-ghost use Rattle.pef_script.specs.Text.Exports.{absolute_in, absolute_line, and_export, entry_in, export_in, export_line, init_line, main_line, place_tests, reexport_in, reexport_line, term_line, with_export};
-ghost use Rattle.pef_script.specs.Text.Kept.Reader.{names_in, so_far};
+ghost use Rattle.pef_script.specs.Text.Exports.{absolute_in, absolute_line, entry_in, export_in, export_line, init_line, main_line, place_tests, reexport_in, reexport_line, term_line, with_export};
+ghost use Rattle.pef_script.specs.Text.Kept.Reader.{so_far};
 ghost use Rattle.pef_script.specs.Text.Kept.Steps.{Steps};
-ghost use Rattle.pef_script.specs.Text.SoFar.{number_of_name};
-ghost use Rattle.pef_script.specs.Limits.{most_name_bytes};
 ghost use Rattle.pef_script.specs.Parts.{export_of};
 
 use crate::ExportData;
@@ -157,9 +155,12 @@ impl<'a> Reader<'a> {
         requires { k < vec_len self.old.sections }
         ensures { Steps result (so_far self.new) (with_export (so_far self.old) (place_tests (so_far self.old) k 4 export.value) (export_of (name.entry, export))) }
     {
-        self.test_name(&self.parts.exports, MAX_EXPORTS, name)?;
-        self.test_place(k, 4, export.value)?;
-        self.put_export(name, export)
+        if let Err(fault) = self.test_place(k, 4, export.value) {
+            // The faults of the name are reported first.
+            self.test_name(&self.parts.exports, MAX_EXPORTS, name)?;
+            return Err(Stop::Refused(fault));
+        }
+        self.add_export(name, export)
     }
 
     /// Adds an export, unless its name is taken or exceeds the limits.
@@ -167,19 +168,11 @@ impl<'a> Reader<'a> {
     fn add_export(&mut self, name: &'a [u8], export: ExportData) -> Result<(), Stop>
         ensures { Steps result (so_far self.new) (with_export (so_far self.old) [] (export_of (name.entry, export))) }
     {
-        self.test_name(&self.parts.exports, MAX_EXPORTS, name)?;
-        self.put_export(name, export)
-    }
-
-    /// Adds an export with a name that is new and has room.
-    #[tactic(auto, using(crate::proofs::TextProofs::TableLemmas::exports_seen))]
-    fn put_export(&mut self, name: &'a [u8], export: ExportData) -> Result<(), Stop>
-        requires new { number_of_name (names_in self.old.parts.exports.entries) name.now ≡ None }
-        requires bytes { self.old.names + (length name.now + 1) ≤ most_name_bytes }
-        ensures { Steps result (so_far self.new) (Ok (and_export (so_far self.old) (export_of (name.entry, export)))) }
-    {
+        self.test_room(&self.parts.exports, MAX_EXPORTS, name)?;
         let parts = &mut self.parts;
-        declare(&mut parts.exports, name, export)?;
+        if !declare(&mut parts.exports, name, export)? {
+            return Err(Stop::Refused(LineFault::RepeatedName { word: 1 }));
+        }
         self.names += name.len() + 1;
         self.reached = EXPORT_GROUP;
         Ok(())

@@ -1,4 +1,4 @@
-ghost use Rattle.std.specs.Prelude.{◌≡◌, ◌+◌, ◌≤◌, ◌<◌, None, vec_len, length, map, IfOk, OnOk};
+ghost use Rattle.std.specs.Prelude.{◌≡◌, ◌+◌, ◌≤◌, ◌<◌, None, Some, nat_le, vec_len, length, map, IfOk, IfErr, OnOk};
 ghost use Rattle.std.proofs.Props.{props};
 ghost use Rattle.std.specs.List.{IsDistinct};
 ghost use Rattle.std.specs.Result.{result_err};
@@ -7,7 +7,7 @@ ghost use Rattle.indexmap.specs.IndexMap.{index_map_len};
 ghost use Rattle.pef_words.specs.Refusals.{first_met};
 ghost use Rattle.std.specs.Bool.{if◌then◌else◌};
 ghost use Rattle.std.specs.Option.{is_some};
-ghost use Rattle.pef_script.specs.declared.text.fault.LineFault.TheVariants.{BadLine};
+ghost use Rattle.pef_script.specs.declared.text.fault.LineFault.TheVariants.{BadLine, RepeatedName};
 ghost use Rattle.pef_script.specs.Text.Forms.{form_of};
 ghost use Rattle.pef_script.specs.Text.Grammar.{is_skipped, line_by_word, line_of, no_lines};
 ghost use Rattle.pef_script.specs.Parts.{script_in};
@@ -15,7 +15,7 @@ ghost use Rattle.pef_script.specs.Script.{name_bytes};
 ghost use Rattle.pef_script.specs.Text.Kept.Steps.{NumberedSteps, Steps};
 ghost use Rattle.pef_reloc.specs.Limits.{most_sections};
 ghost use Rattle.pef_script.specs.Limits.{most_name_bytes};
-ghost use Rattle.pef_script.specs.Text.SoFar.{counted_name_tests, entered, entered_once, number_of_name, section_named};
+ghost use Rattle.pef_script.specs.Text.SoFar.{counted_name_tests, entered, entered_once, is_repeated, number_of_name, section_named};
 
 use crate::text::LineFault;
 use crate::text::fault::{Stop, Stopped};
@@ -26,6 +26,7 @@ use crate::text::tables::number_of_name;
 use crate::text::words::rest_after;
 use crate::{Parts, Versions};
 use indexmap::IndexMap;
+use pef_names::NameKey;
 use std::alloc::{AllocError, Global};
 
 /// A script that is read line by line.
@@ -190,10 +191,36 @@ impl<'a> Reader<'a> {
         section_number(&self.sections, name).ok_or(LineFault::UnknownName { word: at })
     }
 
+    /// Returns whether there is room for the bytes of one more name.
+    fn has_room(&self, name: &[u8]) -> bool
+        ensures { result ≡ nat_le (self.now.names + (length name.now + 1)) most_name_bytes }
+    {
+        self.names <= MAX_NAME_BYTES && name.len() + 1 <= MAX_NAME_BYTES - self.names
+    }
+
+    /// Refuses a name that exceeds the limits. That another entry has it is an earlier fault, so the table is searched for
+    /// it then. If there is room, the search is left to `declare`, so that a new name is hashed once.
+    pub fn test_room<T>(
+        &self,
+        table: &IndexMap<NameKey<'_>, T>,
+        limit: usize,
+        name: &[u8],
+    ) -> Result<(), LineFault>
+        ensures ok { OnOk result (first_met (counted_name_tests (so_far self.now) (names_in table.now.entries) limit name.now) ≡ (if is_repeated (names_in table.now.entries) name.now then Some (RepeatedName 1) else None)) }
+        ensures fault { IfErr result (λ fault. first_met (counted_name_tests (so_far self.now) (names_in table.now.entries) limit name.now) ≡ Some fault) }
+        ensures room { OnOk result (index_map_len table.now < limit) }
+        ensures bytes { OnOk result (self.now.names + (length name.now + 1) ≤ most_name_bytes) }
+    {
+        if table.len() < limit && self.has_room(name) {
+            return Ok(());
+        }
+        self.test_name(table, limit, name)
+    }
+
     /// Refuses a name that another entry of a table has, or that exceeds the limits.
     pub fn test_name<T>(
         &self,
-        table: &IndexMap<&[u8], T>,
+        table: &IndexMap<NameKey<'_>, T>,
         limit: usize,
         name: &[u8],
     ) -> Result<(), LineFault>
@@ -208,7 +235,7 @@ impl<'a> Reader<'a> {
         if table.len() >= limit {
             return Err(LineFault::TooMany { word: 1 });
         }
-        if self.names > MAX_NAME_BYTES || name.len() + 1 > MAX_NAME_BYTES - self.names {
+        if !self.has_room(name) {
             return Err(LineFault::TooMany { word: 1 });
         }
         Ok(())

@@ -7,7 +7,7 @@ pub returns-clause-ok : goal.returns-clause-ok
 returns-clause-ok c =
     NotesPlace-new c.args.places.now.entries c.args.name.now c.args.place _ (none_if _ (sym c.if-contains_key.ensures)) (record {
       own = c.in_ok-insert.ensures.updates.1;
-      others = λ other apart. c.in_ok-insert.ensures.updates.2 (record { ref_ptr = (0, 0); now = other }) apart;
+      others = λ other apart. c.in_ok-insert.ensures.updates.2 (record { bytes = record { ref_ptr = (0, 0); now = other } }) apart;
     })
 
 pub returns-then-contains_key : goal.returns-then-contains_key

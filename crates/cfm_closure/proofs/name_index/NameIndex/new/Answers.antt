@@ -19,7 +19,7 @@ loop-i-preserved c =
     let under = (c.in-Some.ensures.there).0 refl in
     let sets : SetsPlace c.loop-i.numbers.entries x.name (Some i) c.insert.new.self.entries = record {
       own = c.in_ok-insert.ensures.updates.1;
-      others = λ other apart. c.in_ok-insert.ensures.updates.2 (record { ref_ptr = (0, 0); now = other }) apart;
+      others = λ other apart. c.in_ok-insert.ensures.updates.2 (record { bytes = record { ref_ptr = (0, 0); now = other } }) apart;
     } in
     let above = both-below c.loop-i.longest long in
     let are = subst (λ n. IsIndexFrom l n c.loop-i.numbers.entries c.loop-i.longest) (sym before) c.loop-i.invariant in

@@ -15,7 +15,7 @@ invariant_of-self-2 c =
     let free : IsFreeFor pairs n.name c.args.place = subst (λ (ps : List Pair). IsFreeFor ps n.name c.args.place) view (record { inside = c.requires.place; free = c.requires.free; none = c.requires.name }) in
     let sets : SetsPlace c.self.inside.places.entries n.name (Some c.args.place) c.insert.new.self.entries = record {
       own = c.in_ok-insert.ensures.updates.1;
-      others = λ other apart. c.in_ok-insert.ensures.updates.2 (record { ref_ptr = (0, 0); now = other }) apart;
+      others = λ other apart. c.in_ok-insert.ensures.updates.2 (record { bytes = record { ref_ptr = (0, 0); now = other } }) apart;
     } in
     let items = map-set place_seen c.self.inside.pairs.items c.args.place (Some (c.args.name, c.args.bytes)) in
     rw items (record {

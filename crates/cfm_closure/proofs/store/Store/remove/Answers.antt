@@ -1,6 +1,7 @@
 -- The table of places has the next pair with the name, if there is one.
 use Rattle.std.proofs.Common.{◌≡◌, ℕ, ◌<◌, ◌∙◌, List, None, Some, Option, Bor, length, map, sym, ap, subst, set, get_or, arith}
 use Rattle.std.proofs.lemmas.List.{get_or_default, get_or-map, length-set, map-set}
+use Rattle.pef_names.specs.declared.name_key.NameKey.{NameKey}
 use Rattle.cfm_closure.specs.Additions.{without_pair}
 use Rattle.cfm_closure.specs.Kept.Places.{SetsPlace}
 use Rattle.cfm_closure.specs.Seen.{place_seen}
@@ -26,7 +27,7 @@ invariant_of-self-in-Some c =
     let sets = subst (λ (ps : List Pair). SetsPlace c.reserve.new.self.entries name (place_of ps name) c.note_removed.new.places.entries) (ap (map place_seen) c.deref.ensures.value ∙ left) c.note_removed.ensures in
     rw left (record {
       places = ArePlaces-removed pairs p name c.self.inside.places.entries c.note_removed.new.places.entries c.self.invariant.places named
-          (subst (λ (es : List (Bor (List ℕ) × ℕ)). SetsPlace es name (place_of (without_pair pairs p) name) c.note_removed.new.places.entries) c.in_ok-reserve.ensures.entries sets);
+          (subst (λ (es : List (NameKey × ℕ)). SetsPlace es name (place_of (without_pair pairs p) name) c.note_removed.new.places.entries) c.in_ok-reserve.ensures.entries sets);
       few = rw (length-set pairs p free_place) c.self.invariant.few;
     })
 
