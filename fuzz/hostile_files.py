@@ -263,10 +263,8 @@ class Hostile:
     more: float = 0
 
 
-# A preparation looks each name up whole, and compares it with each export that has its hash word or is in its slot. `load` takes as many
-# steps of programs as they ask for. The report on a file searches the rest of it for each container. A report verifies 67,108,864 words
-# of programs, however short the file is.
-PREPARING = ("load", "a context")
+# `load` takes as many steps of programs as they ask for. A report verifies 67,108,864 words of programs, however short the file is. What is
+# missing is known by names that are hashed whole.
 
 FILES: Dict[str, Hostile] = {
     "imports of one long name": Hostile(shared_imports(**in_turn(1), present=False)),
@@ -274,24 +272,24 @@ FILES: Dict[str, Hostile] = {
     "imports of 64 long names in turn": Hostile(shared_imports(**in_turn(64), present=False)),
     "imports of 3,000 names in turn": Hostile(shared_imports(**in_turn(3_000), present=False)),
     "imports of names in one another": Hostile(shared_imports(**NESTED, present=False)),
-    "imports of one long name that is missing": Hostile(shared_imports(**in_turn(1), present=True), leaves_out=PREPARING),
-    "imports of 64 long names that are missing": Hostile(shared_imports(**in_turn(64), present=True), leaves_out=PREPARING),
-    "imports of names of 64 KB that are missing": Hostile(long_export_names, leaves_out=PREPARING),
-    "libraries of one long name": Hostile(shared_libraries(**in_turn(1)), leaves_out=PREPARING),
-    "libraries of 64 long names in turn": Hostile(shared_libraries(**in_turn(64)), leaves_out=PREPARING),
-    "libraries of names in one another": Hostile(shared_libraries(**NESTED), leaves_out=PREPARING),
+    "imports of one long name that is missing": Hostile(shared_imports(**in_turn(1), present=True)),
+    "imports of 64 long names that are missing": Hostile(shared_imports(**in_turn(64), present=True)),
+    "imports of names of 64 KB that are missing": Hostile(long_export_names),
+    "libraries of one long name": Hostile(shared_libraries(**in_turn(1))),
+    "libraries of 64 long names in turn": Hostile(shared_libraries(**in_turn(64))),
+    "libraries of names in one another": Hostile(shared_libraries(**NESTED)),
     "missing libraries": Hostile(missing_libraries),
     "libraries of all imports": Hostile(libraries_of_all),
     "libraries of one import, the last one first": Hostile(libraries_of_one),
     "empty sections": Hostile(empty_sections(lambda number: 4)),
     "empty sections, each with another alignment": Hostile(empty_sections(lambda number: number % 13)),
     "sections of one long name": Hostile(named_sections),
-    "exports in one slot": Hostile(one_chain, leaves_out=PREPARING),
-    "exports with other keys": Hostile(irregular, leaves_out=PREPARING),
+    "exports in one slot": Hostile(one_chain),
+    "exports with other keys": Hostile(irregular),
     "a chain of exports": Hostile(reexports(ABSOLUTE)),
     "a ring of exports": Hostile(reexports(REEXPORTED), 65),
     "relocation headers": Hostile(relocation_headers),
     "a program of repeats": Hostile(repeats, 70, ("load",), more=1),
     "sections with pattern data": Hostile(packed_sections),
-    "tags": Hostile(tags, 3, ("inspect", "pef_report_open")),
+    "tags": Hostile(tags, 3),
 }
