@@ -18,7 +18,7 @@
  * - A context is used by one thread at a time; but several may read it at once by the calls whose names end in `_const`. A
  *   listing or a report is used by one thread at a time. Apart from that, several threads may make calls at once: the library has
  *   no state outside of contexts, listings and reports.
- * - A thread that makes calls has 64 KB of stack for them, and 112 KB for pef_report_open() and pef_report_open_container(). No call
+ * - A thread that makes calls has 64 KB of stack for them, and 96 KB for pef_report_open() and pef_report_open_container(). No call
  *   takes more, whatever it reads.
  * - No call is made from a signal handler.
  * - malloc, realloc and free are those of the C library, or others whose blocks are aligned to 16 bytes.

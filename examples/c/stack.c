@@ -2,7 +2,7 @@
  * Measures how much stack each call takes: stack FILE.. has every call read, list and prepare the containers of the files, and
  * then containers that were made to take much: libraries out of order, 256 fragments that need one another in a row, and a
  * chain of exports that are passed on. A call runs in a thread whose stack is full of one byte, and what it changed is counted.
- * A call that takes more than 64 KB, or one that opens a report and takes more than 112 KB, is told, and the status is then 1.
+ * A call that takes more than 64 KB, or one that opens a report and takes more than 96 KB, is told, and the status is then 1.
  */
 #define _DEFAULT_SOURCE
 #include "file.h"
@@ -12,7 +12,7 @@
 #include <string.h>
 #include <sys/mman.h>
 
-enum { STACK = 1 << 21, LIMIT = 1 << 16, REPORT_LIMIT = 112 << 10, FILLED = 0xA5, ROOM = 1 << 20, PLACES = 1024 };
+enum { STACK = 1 << 21, LIMIT = 1 << 16, REPORT_LIMIT = 96 << 10, FILLED = 0xA5, ROOM = 1 << 20, PLACES = 1024 };
 
 /* --- what a piece of work takes --- */
 

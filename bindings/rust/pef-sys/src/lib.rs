@@ -8,7 +8,7 @@
 //! - What a call fills, it fills whatever was there, so it may be uninitialized memory. What a call leaves unchanged keeps its bytes.
 //! - What a call writes overlaps nothing else that it takes.
 //! - A context is used by one thread at a time; but several may read it at once by the calls whose names end in `_const`.
-//! - A thread that makes calls has 64 KB of stack for them, and 112 KB for those that open a report.
+//! - A thread that makes calls has 64 KB of stack for them, and 96 KB for those that open a report.
 //!
 //! The crate compiles its own source in C. That has no contexts, scripts and listings. With the feature `native` the library of this machine
 //! is linked instead, which has them.

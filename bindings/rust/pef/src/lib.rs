@@ -37,7 +37,7 @@
 //! feature `std`, which is on by default, gives [`std::error::Error`], [`std::io::Read`] and contexts. Without it the crate needs
 //! `alloc` alone. The oldest compiler is 1.63.
 //!
-//! A call takes up to 112 KB of stack, and 256 KB without `native`. Each thread of std has more, unless it was made with less. Then a call
+//! A call takes up to 96 KB of stack, and 256 KB without `native`. Each thread of std has more, unless it was made with less. Then a call
 //! ends the process with a stack overflow, as any function does.
 #![cfg_attr(not(feature = "std"), no_std)]
 #![deny(unsafe_code)]
@@ -66,8 +66,8 @@ pub use code::Code;
 pub use container::{Container, Fixups, Sections};
 #[cfg(all(feature = "native", feature = "std"))]
 pub use context::{
-    Connection, Context, ContextOptions, Entries, Fragment, Fragments, Location, MissingLibrary, NearestExport, NewSection,
-    PlacedExport, PlacedSection, PlacedSections, Target,
+    Connection, Context, ContextOptions, Entries, Fragment, Fragments, Location, MissingLibrary, NearestExport, NewSection, PlacedExport,
+    PlacedSection, PlacedSections, Target,
 };
 pub use damaged::Damaged;
 pub use error::{Error, Part, Place};

@@ -27,8 +27,8 @@ fn done(answer: u32) -> Result<(), Number> {
     }
 }
 
-/// How much stack a call takes at most: 64 KB, 112 KB to open a report, and 256 KB in the portable source.
-const STACK: usize = if cfg!(feature = "native") { 112 << 10 } else { 256 << 10 };
+/// How much stack a call takes at most: 64 KB, 96 KB to open a report, and 256 KB in the portable source.
+const STACK: usize = if cfg!(feature = "native") { 96 << 10 } else { 256 << 10 };
 
 /// Touches the stack that a call takes, page after page, as the compiler does for each large frame. The library's code doesn't: in a thread
 /// with less it could pass the guard page.
