@@ -49,6 +49,19 @@ def prepared(pef, fragments, reserved=(), **options):
     return work
 
 
+def sought(pef, library, times):
+    """Looks so many times for a name that a present fragment doesn't export."""
+    context = pef.Context()
+    context.add("L", library)
+    fragment = context.prepare("L").fragments[0]
+
+    def work():
+        for _ in range(times):
+            assert fragment.export_named("none") is None
+
+    return work
+
+
 def many_users(pef, user, library):
     """A fragment that needs many fragments with the same container, and their library."""
     root = "".join(f"library u{number} 0 0 -\n" for number in range(USERS))
@@ -97,14 +110,19 @@ def read_imports(pef, contents, count):
 def compared(pef):
     """Yields what is done, how many times the slow way has to take at least, and the seconds of both."""
     # Each name is found by its hash word, if the table is regular.
-    library, user = exporting(pef, 5_000), importing(pef, 5_000)
-    fast = seconds(prepared(pef, [("A", user), ("L", library)]), 3)
-    yield "names in a regular table", 10, fast, seconds(prepared(pef, [("A", user), ("L", irregular(library, 5_000))]))
+    library = exporting(pef, 16_000)
+    fast, slow = (seconds(sought(pef, contents, 2_000)) for contents in (library, irregular(library, 16_000)))
+    yield "names in a regular table", 4, fast, slow
 
-    # A name that several fragments import is found once.
-    library, user = irregular(exporting(pef, 2_048), 2_048), importing(pef, 2_048)
+    # A preparation makes an index of a table that isn't regular. If it searched the table for each import, four times as many imports
+    # and exports would take sixteen times as long.
+    few, many = (prepared(pef, [("A", importing(pef, count)), ("L", irregular(exporting(pef, count), count))]) for count in (4_000, 16_000))
+    yield "imports from a table that isn't regular", 2, seconds(many, 3), 16 * seconds(few, 3)
+
+    # The index is made once for several fragments.
+    library, user = irregular(exporting(pef, 16_000), 16_000), importing(pef, 128)
     fast = seconds(prepared(pef, many_users(pef, user, library)), 3)
-    yield "names of several fragments", 8, fast, USERS * seconds(prepared(pef, [("A", user), ("L", library)]))
+    yield "an index for several fragments", 8, fast, USERS * seconds(prepared(pef, [("A", user), ("L", library)]))
 
     # What closures found is kept, also if a fragment is added that none of them lacked.
     fragments = [("A", importing(pef, 5_000)), ("L", exporting(pef, 5_000))]
