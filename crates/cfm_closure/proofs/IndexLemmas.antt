@@ -1,5 +1,5 @@
 -- The index of the exports by their names.
-use Rattle.std.proofs.Common.{◌≡◌, ℕ, ◌+◌, ◌-◌, ◌<◌, ◌≤◌, Bool, true, false, List, [], length, Option, None, Some, nat_cmp, is_lt, cond, refl, sym, ap, ◌∙◌, subst, arith}
+use Rattle.std.proofs.Common.{◌≡◌, ℕ, ◌+◌, ◌-◌, ◌<◌, ◌≤◌, Bool, true, false, List, length, Option, None, Some, nat_cmp, is_lt, cond, refl, sym, ap, ◌∙◌, subst, arith}
 use Rattle.std.specs.Ordering.{MatchOrdering, ord_max}
 use Rattle.std.specs.Str.{bytes_eq}
 use Rattle.std.specs.declared.cmp.Ordering.{Ordering}
@@ -8,7 +8,7 @@ use Rattle.std.proofs.lemmas.Cmp.{ranked}
 use Rattle.std.proofs.lemmas.Option.{same_Some}
 use Rattle.std.proofs.lemmas.Slice.Eq.{bytes_eq-Decides}
 use Rattle.pef_words.specs.Refusals.{◌>>=◌, first_among}
-use Rattle.pef_words.proofs.Laws.Refusals.{first_among-end, first_among-here, first_among-next}
+use Rattle.pef_words.proofs.Laws.Refusals.{first_among-here, first_among-next}
 use Rattle.pef_format.specs.Exports.{Export}
 use Rattle.pef_hash.specs.Exports.{Entry, export_named, name_of, named_at}
 use Rattle.pef_loader.specs.Export.{export_in, export_table}
@@ -37,13 +37,6 @@ both-below a b = by (nat_cmp b a) (ranked b a (nat_cmp b a) refl)
     by Less is = (omega arith, omega (arith, is))
     by Equal is = (omega (arith, is), omega arith)
     by Greater is = (omega (arith, is), omega arith)
-
--- no export, no name
-pub none-indexed : (l : Loaded) (entries : List (NameKey × ℕ)) → entries ≡ [] → IsIndexFrom l l.header.export_count entries 0
-none-indexed l entries empty = rw empty (record {
-  first = λ name. sym (first_among-end (named_at (export_table l.bytes l.header) name) l.header.export_count l.header.export_count (omega arith));
-  long = λ name longer. refl;
-})
 
 -- the export before them is the first with its name
 pub index-more : (l : Loaded) (i : ℕ) (x : Export) (m n : List (NameKey × ℕ)) (longest longer : ℕ) → i < l.header.export_count → export_of l i ≡ Some x → SetsPlace m x.name (Some i) n → longest ≤ longer → length x.name ≤ longer

@@ -1,0 +1,2 @@
+-- Definitions for proofs and private contracts alone.
+pub mod NameKeys
