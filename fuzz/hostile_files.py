@@ -264,7 +264,8 @@ class Hostile:
 
 
 # `load` takes as many steps of programs as they ask for. A report verifies 67,108,864 words of programs, however short the file is. A name
-# that is looked up is hashed whole: 64 KB for each import, and for a library that is missing as many bytes as it has.
+# that is looked up is read whole: 64 KB for each import. If many libraries that are missing have one name of a megabyte, it is compared for
+# each.
 
 FILES: Dict[str, Hostile] = {
     "imports of one long name": Hostile(shared_imports(**in_turn(1), present=False)),
@@ -277,7 +278,7 @@ FILES: Dict[str, Hostile] = {
     "imports of names of 64 KB that are missing": Hostile(long_export_names, more=1),
     "libraries of one long name": Hostile(shared_libraries(**in_turn(1)), leaves_out=("pef_missing",)),
     "libraries of 64 long names in turn": Hostile(shared_libraries(**in_turn(64))),
-    "libraries of names in one another": Hostile(shared_libraries(**NESTED), leaves_out=("pef_missing",)),
+    "libraries of names in one another": Hostile(shared_libraries(**NESTED)),
     "missing libraries": Hostile(missing_libraries),
     "libraries of all imports": Hostile(libraries_of_all),
     "libraries of one import, the last one first": Hostile(libraries_of_one),
