@@ -1,17 +1,19 @@
 ghost use Rattle.std.specs.Prelude.{◌≡◌, IfOk};
-ghost use Rattle.pef_loader.specs.Loader.{Loaded, named_of};
+ghost use Rattle.pef_loader.specs.Loader.{IsLoader, Loaded};
 ghost use Rattle.pef_loader.specs.Views.{loaded};
+ghost use Rattle.cfm_closure.specs.Kept.Exported.{MeansFirst};
 ghost use Rattle.cfm_closure.specs.Kept.NameIndexes.{IsIndex};
 
 use indexmap::IndexMap;
+use pef_format::ExportValue;
 use pef_loader::Loader;
 use pef_names::NameKey;
 use std::alloc::{AllocError, Global};
 
-/// The number of the first export with each name.
+/// What the first export with each name means.
 #[derive(Drop)]
 pub(crate) struct NameIndex<'a> {
-    numbers: IndexMap<NameKey<'a>, usize>,
+    values: IndexMap<NameKey<'a>, ExportValue>,
     /// The length of the longest name.
     longest: usize,
 }
@@ -21,26 +23,27 @@ impl<'a> NameIndex<'a> {
     pub fn new(alloc: Global, loader: &Loader<'a>) -> Result<NameIndex<'a>, AllocError>
         ensures { IfOk result (IsIndex (loaded loader.now)) }
     {
-        let mut numbers = IndexMap::new(alloc);
+        let mut values = IndexMap::new(alloc);
         let mut longest = 0;
         for i in (0..loader.exports()).rev() {
             let Some(export) = loader.export(i) else {
                 unreachable!()
             };
-            numbers.insert(NameKey { bytes: export.name }, i)?;
+            let key = NameKey { bytes: export.name };
+            values.insert(key, export.fields.value())?;
             longest = longest.max(export.name.len());
         }
-        Ok(NameIndex { numbers, longest })
+        Ok(NameIndex { values, longest })
     }
 
-    /// Returns the number of the first export with a name.
-    pub fn find(&self, name: &[u8]) -> Option<usize>
-        ensures { (l : Loaded) → IsIndex l self.now → result ≡ named_of l name.now }
+    /// Returns what the first export with a name means.
+    pub fn find(&self, name: &[u8]) -> Option<ExportValue>
+        ensures { (l : Loaded) → IsLoader l → IsIndex l self.now → MeansFirst l name.now result }
     {
         // a name of a file may be long, and most that no export has are known without reading them
         if name.len() > self.longest {
             return None;
         }
-        self.numbers.get(&NameKey { bytes: name }).copied()
+        self.values.get(&NameKey { bytes: name }).copied()
     }
 }

@@ -1,5 +1,4 @@
-ghost use Rattle.std.specs.Prelude.{◌≡◌, ℕ, List, IfOk, Some};
-ghost use Rattle.pef_loader.specs.Loader.{named_of};
+ghost use Rattle.std.specs.Prelude.{◌≡◌, IfOk};
 ghost use Rattle.pef_loader.specs.Views.{loaded};
 ghost use Rattle.cfm_closure.specs.Kept.Exported.{MeansFirst};
 
@@ -52,24 +51,13 @@ impl<'a> NamedExports<'a> {
         ensures value { IfOk result (MeansFirst self.old name.now) }
         ensures same { self.new ≡ self.old }
     {
-        match self.first_named(alloc, name)? {
-            Some(export) => Ok(self.value(export)),
-            None => Ok(None),
-        }
-    }
-
-    /// Returns the number of the first export with a name.
-    fn first_named(&mut self, alloc: Global, name: &[u8]) -> Result<Option<usize>, AllocError>
-        ensures number { IfOk result (λ found. found ≡ named_of self.old name.now) }
-        ensures same { self.new ≡ self.old }
-    {
         if let Some(index) = &self.index {
             return Ok(index.find(name));
         }
         if self.searched < MOST_SEARCHED {
             let search = self.loader.exports().saturating_add(name.len());
             self.searched = self.searched.saturating_add(search);
-            return Ok(self.loader.export_named(name));
+            return Ok(self.search(name));
         }
         let index = NameIndex::new(alloc, &self.loader)?;
         let found = index.find(name);
@@ -77,10 +65,11 @@ impl<'a> NamedExports<'a> {
         Ok(found)
     }
 
-    /// Returns what an export means.
-    fn value(&self, export: usize) -> Option<ExportValue>
-        ensures { (name : List ℕ) → named_of self.now name ≡ Some export → MeansFirst self.now name result }
+    /// Searches the export table for the first export with a name, and returns what it means.
+    fn search(&self, name: &[u8]) -> Option<ExportValue>
+        ensures { MeansFirst self.now name.now result }
     {
+        let export = self.loader.export_named(name)?;
         let export = self.loader.export(export)?;
         Some(export.fields.value())
     }

@@ -6,8 +6,8 @@ use Rattle.pef_names.specs.declared.name_key.NameKey.{NameKey}
 use Rattle.cfm_closure.specs.Stores.{Pair, place_of}
 use Rattle.cfm_closure.specs.Limits.{most_pairs}
 
--- the place that a table has for a name
-abbrev pub place_in : List (NameKey × ℕ) → List ℕ → Option ℕ
+-- the place, or what else a table has for a name
+abbrev pub place_in : {V : Type 0} → List (NameKey × V) → List ℕ → Option V
 place_in entries name = lookup (λ (k : NameKey). bytes_eq name k.bytes.now) entries
 
 -- a table of names has for each name the place of its first pair
@@ -25,6 +25,6 @@ abbrev pub NotesPlace : List (NameKey × ℕ) → List ℕ → ℕ → List (Nam
 NotesPlace old name place new = (pairs : List Pair) (x : Pair) → ArePlaces pairs old → x.name ≡ name → x.free ≡ false → place ≡ length pairs → ArePlaces (pairs ++ x ∷ []) new
 
 -- a name gets this place or none, and the others keep theirs
-pub record SetsPlace (old : List (NameKey × ℕ)) (name : List ℕ) (place : Option ℕ) (new : List (NameKey × ℕ)) : Type 0 where
+pub record SetsPlace {V : Type 0} (old : List (NameKey × V)) (name : List ℕ) (place : Option V) (new : List (NameKey × V)) : Type 0 where
   pub own : place_in new name ≡ place
   pub others : (other : List ℕ) → bytes_eq name other ≡ false → place_in new other ≡ place_in old other

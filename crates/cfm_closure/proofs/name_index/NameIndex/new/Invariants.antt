@@ -4,4 +4,4 @@ use Rattle.cfm_closure.specs.Kept.NameIndexes.{IsIndexFrom}
 use Rattle.cfm_closure.proofs.name_index.NameIndex.new.Given as goal
 
 abbrev pub invariant-loop-i : goal.invariant-loop-i
-invariant-loop-i l = IsIndexFrom (loaded l.loader) l.i l.numbers.entries l.longest
+invariant-loop-i l = IsIndexFrom (loaded l.loader) l.i l.values.entries l.longest
