@@ -1,4 +1,4 @@
-ghost use Rattle.std.specs.Prelude.{◌≡◌, ◌≤◌, ◌<◌, ◌^◌, length, IfOk, Ok, Err, nat_lt, if◌then◌else◌};
+ghost use Rattle.std.specs.Prelude.{◌≡◌, ◌≤◌, ◌<◌, ◌^◌, ℕ, length, IfOk, IfSome, Ok, Err, nat_lt, if◌then◌else◌};
 ghost use Rattle.pef_words.specs.Refusals.{result_map};
 ghost use Rattle.pef_pidata.specs.Instructions.{argument, counted};
 ghost use Rattle.pef_pidata.specs.Kept.Views.{argument_seen};
@@ -65,4 +65,34 @@ pub(crate) fn read_count(at: usize, low: u8, packed: &[u8]) -> Result<Argument<'
         value: u32::from(low),
         rest: packed,
     })
+}
+
+/// Reads a count that is in the first byte of an instruction, or in an argument of one or two bytes. Returns `None` for all others.
+#[inline(always)]
+#[tactic(auto, unfolding(crate::specs::Instructions::counted, crate::specs::Instructions::argument))]
+pub(crate) fn read_short_count(low: u8, packed: &[u8]) -> Option<Argument<'_>>
+    ensures read { IfSome result (λ c. (at : ℕ) → Ok (argument_seen c) ≡ counted at low packed.now) }
+    ensures shorter { IfSome result (λ c. length c.rest.now ≤ length packed.now) }
+{
+    if low > 0 {
+        return Some(Argument {
+            value: u32::from(low),
+            rest: packed,
+        });
+    }
+    let (first, rest) = packed.split_first()?;
+    if *first < MORE {
+        return Some(Argument {
+            value: u32::from(*first),
+            rest,
+        });
+    }
+    let (second, rest) = rest.split_first()?;
+    if *second < MORE {
+        return Some(Argument {
+            value: u32::from(*first % MORE) * u32::from(MORE) + u32::from(*second),
+            rest,
+        });
+    }
+    None
 }

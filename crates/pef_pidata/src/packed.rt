@@ -4,6 +4,7 @@ ghost use Rattle.pef_words.specs.Refusals.{result_map};
 ghost use Rattle.pef_pidata.specs.Pattern.{copied_len, next_output, output_of, pattern_text, spelled_len};
 ghost use Rattle.pef_pidata.specs.Kept.Views.{instruction_seen, step_seen};
 
+use crate::argument::read_short_count;
 use crate::fault::PackFault;
 use crate::instruction::{BLOCK, COUNTS, Decoded, Instruction, ZERO, read_instruction};
 
@@ -77,10 +78,10 @@ fn next_step(at: usize, packed: &[u8], room: usize) -> Result<Step<'_>, PackFaul
     step_of(at, decoded, room)
 }
 
-/// Reads an instruction that has its count in its first byte and spells zeros or the bytes that follow, if they are there and
-/// have room. Returns `None` for all others.
+/// Reads an instruction that spells zeros or the bytes that follow, if its count is in one byte or two, the bytes are there, and the
+/// output has room. Returns `None` for all others.
 #[inline(always)]
-#[tactic(auto, unfolding(crate::specs::Pattern::next_output, crate::specs::Pattern::output_of, crate::specs::Instructions::next_instruction, crate::specs::Instructions::by_opcode, crate::specs::Instructions::counted))]
+#[tactic(auto, unfolding(crate::specs::Pattern::next_output, crate::specs::Pattern::output_of, crate::specs::Instructions::next_instruction, crate::specs::Instructions::by_opcode))]
 fn short_step(packed: &[u8], room: usize) -> Option<Step<'_>>
     ensures step { IfSome result (λ s. (at : ℕ) → Ok (step_seen s) ≡ next_output at room packed.now) }
     ensures target { IfSome result (λ s. (s.len ≡ spelled_len s.instruction) × (s.len ≤ room)) }
@@ -88,16 +89,17 @@ fn short_step(packed: &[u8], room: usize) -> Option<Step<'_>>
     ensures shorter { IfSome result (λ s. length s.rest.now < length packed.now) }
 {
     let (first, rest) = packed.split_first()?;
-    let len = usize::from(*first % COUNTS);
+    let count = read_short_count(*first % COUNTS, rest)?;
+    let len = count.value as usize;
     let (instruction, copied) = match *first / COUNTS {
-        ZERO => (Instruction::Zeros(len as u32), 0),
-        BLOCK => (Instruction::Block(len as u32), len),
+        ZERO => (Instruction::Zeros(count.value), 0),
+        BLOCK => (Instruction::Block(count.value), len),
         _ => return None,
     };
-    if len == 0 || len > room || copied > rest.len() {
+    if len > room || copied > count.rest.len() {
         return None;
     }
-    let (bytes, rest) = rest.split_at(copied);
+    let (bytes, rest) = count.rest.split_at(copied);
     Some(Step {
         instruction,
         len,
