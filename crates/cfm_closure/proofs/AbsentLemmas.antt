@@ -8,7 +8,7 @@ use Rattle.cfm_closure.specs.Closures.{Closed, closed_of}
 use Rattle.cfm_closure.specs.Faults.{BindRefusal, library_missing}
 use Rattle.cfm_closure.specs.Fragments.{loader_at, part_place}
 use Rattle.cfm_closure.specs.Libraries.{absent_or, bound, bound_at, bound_to}
-use Rattle.cfm_closure.specs.Stores.{Pair, place_of}
+use Rattle.cfm_store.specs.Stores.{Pair, place_of}
 use Rattle.cfm_closure.proofs.BoundLemmas.{library_of-below}
 use Rattle.cfm_closure.proofs.ClosedLemmas.{closed-complete}
 use Rattle.cfm_closure.proofs.HopFacts.{loader_at-is}

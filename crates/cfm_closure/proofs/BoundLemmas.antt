@@ -10,8 +10,8 @@ use Rattle.pef_loader.specs.Library.{Library, library_in}
 use Rattle.pef_loader.specs.Loader.{Loaded, library_of}
 use Rattle.cfm_closure.specs.declared.versions.Fit.{Fit}
 use Rattle.cfm_closure.specs.declared.versions.Fit.TheVariants.{Fits, TooOld, TooNew}
-use Rattle.cfm_closure.specs.Stores.{Pair, pair_of, place_of}
-use Rattle.cfm_closure.proofs.PlaceLemmas.{place_of-below, place_of-first}
+use Rattle.cfm_store.specs.Stores.{Pair, pair_of, place_of}
+use Rattle.cfm_store.proofs.Laws.{place_of-below, place_of-first}
 use Rattle.cfm_closure.specs.Faults.{BindRefusal, library_missing, implementation_too_old, implementation_too_new}
 use Rattle.cfm_closure.specs.Fragments.{Fragment, fragment_of, part_place}
 use Rattle.cfm_closure.specs.Libraries.{absent_or, bound, bound_at, bound_by, bound_to, definition_of, fit_with, implementation_of, library_at}

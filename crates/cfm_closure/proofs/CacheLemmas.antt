@@ -8,8 +8,9 @@ use Rattle.std.proofs.lemmas.Bool.Decides.{eqb_tells}
 use Rattle.std.proofs.lemmas.List.{get_or-append_right, get_or-set_other, get_or-set_same, get_or_append_left, get_or_past, length-append, length-replicate, length-set}
 use Rattle.std.proofs.lemmas.List.Elements.{Contains-get_or}
 use Rattle.pef_loader.specs.Loader.{Loaded, library_of}
-use Rattle.cfm_closure.specs.Additions.{MayBeAdded, NamesLibrary, placed_at}
-use Rattle.cfm_closure.specs.Stores.{Pair, pair_of, place_of}
+use Rattle.cfm_store.specs.Additions.{placed_at}
+use Rattle.cfm_closure.specs.Additions.{MayBeAdded, NamesLibrary}
+use Rattle.cfm_store.specs.Stores.{Pair, pair_of, place_of}
 use Rattle.cfm_closure.specs.declared.fragment.FragmentView.{FragmentView}
 use Rattle.cfm_closure.specs.Fragments.{Fragment, fragment_of}
 use Rattle.cfm_closure.specs.Kept.Caches.{AreCached, AreKeptRows, AreOfKept, IsKeptRow, IsOfKept, KeepsFirst, MayTake, NoneNames}
@@ -19,8 +20,8 @@ use Rattle.cfm_closure.specs.Orders.{IsComplete}
 use Rattle.cfm_closure.proofs.ClosedLemmas.{closed-complete}
 use Rattle.cfm_closure.proofs.SameClosedLemmas.{closed-same, target-same}
 use Rattle.cfm_closure.proofs.SameLemmas.{AreSame, fragment_of-same}
-use Rattle.cfm_closure.proofs.PlaceLemmas.{IsFreeFor}
-use Rattle.cfm_closure.proofs.StoreLemmas.{may_take, placed-longer, placed-read, placed-same}
+use Rattle.cfm_store.proofs.Laws.{IsFreeFor, placed-longer}
+use Rattle.cfm_closure.proofs.StoreLemmas.{may_take, placed-read, placed-same}
 use Rattle.cfm_closure.proofs.LeadLemmas.{led-target, target-led}
 use Rattle.cfm_closure.proofs.RowLemmas.{none-at}
 

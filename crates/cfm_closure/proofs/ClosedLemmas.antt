@@ -5,7 +5,7 @@ use Rattle.std.specs.Option.{option_map_or}
 use Rattle.std.specs.Result.{result_err}
 use Rattle.pef_words.specs.Refusals.{unless}
 use Rattle.pef_words.proofs.Laws.Refusals.{neither, none_among, unless_ok}
-use Rattle.cfm_closure.specs.Stores.{Pair, pair_of}
+use Rattle.cfm_store.specs.Stores.{Pair, pair_of}
 use Rattle.cfm_closure.specs.Faults.{BindRefusal, reexport_loop}
 use Rattle.cfm_closure.specs.Fragments.{import_count, import_place}
 use Rattle.cfm_closure.specs.Orders.{EndsWith, IsComplete}

@@ -7,7 +7,7 @@ use Rattle.pef_words.specs.Refusals.{unless}
 use Rattle.pef_words.specs.Results.{◌>>=◌}
 use Rattle.pef_words.proofs.Laws.Refusals.{first_among-at, first_among-none, none_among, some_among}
 use Rattle.pef_format.specs.declared.place.Place.{Place}
-use Rattle.cfm_closure.specs.Stores.{Pair, pair_of}
+use Rattle.cfm_store.specs.Stores.{Pair, pair_of}
 use Rattle.cfm_closure.specs.Faults.{BindRefusal, implementation_too_new, implementation_too_old, init_loop, library_missing, no_container, no_loader, reexport_loop, symbol_missing}
 use Rattle.cfm_closure.specs.Fragments.{import_count, import_place}
 use Rattle.cfm_closure.specs.Walk.{order_of}

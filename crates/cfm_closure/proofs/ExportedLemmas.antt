@@ -8,7 +8,7 @@ use Rattle.pef_format.specs.declared.export.ExportValue.TheVariants.{InSection, 
 use Rattle.pef_format.specs.declared.export.ExportValue.TheVariants as value
 use Rattle.pef_loader.specs.Export.{is_there}
 use Rattle.pef_loader.specs.Loader.{Loaded}
-use Rattle.cfm_closure.specs.Stores.{Pair}
+use Rattle.cfm_store.specs.Stores.{Pair}
 use Rattle.cfm_closure.specs.Fragments.{Fragment, fragment_of, import_count}
 use Rattle.cfm_closure.specs.Targets.{hop_by, through}
 use Rattle.cfm_closure.specs.declared.hops.Hop.{Hop as CodeHop}

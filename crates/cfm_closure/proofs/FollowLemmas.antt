@@ -7,7 +7,7 @@ use Rattle.pef_format.specs.declared.export.ExportValue.TheVariants.{Reexport}
 use Rattle.pef_format.specs.Exports.{Export, value_of}
 use Rattle.pef_loader.specs.Loader.{Loaded, export_of}
 use Rattle.pef_loader.proofs.Laws.{named_is}
-use Rattle.cfm_closure.specs.Stores.{Pair}
+use Rattle.cfm_store.specs.Stores.{Pair}
 use Rattle.cfm_closure.specs.Faults.{BindRefusal}
 use Rattle.cfm_closure.specs.Fragments.{export_count, loader_at}
 use Rattle.cfm_closure.specs.Reexports.{MeetsAgain, hops, met, next_of}

@@ -13,7 +13,7 @@ use Rattle.pef_format.specs.declared.place.Part.TheVariants as part
 use Rattle.pef_loader.specs.Import.{import_in}
 use Rattle.pef_loader.specs.Loader.{Loaded, export_of, import_of, loaded_of, named_of}
 use Rattle.pef_loader.specs.declared.fault.LoaderFault.{LoaderFault}
-use Rattle.cfm_closure.specs.Stores.{Pair, pair_of}
+use Rattle.cfm_store.specs.Stores.{Pair, pair_of}
 use Rattle.cfm_closure.specs.Faults.{reexport_loop}
 use Rattle.cfm_closure.specs.Fragments.{Fragment, fragment_of, import_at, import_place, loader_at, part_place, place_at, with_container, with_loader}
 use Rattle.cfm_closure.specs.Libraries.{bound_to, library_at}

@@ -11,7 +11,7 @@ use Rattle.pef_loader.specs.Library.{Library}
 use Rattle.pef_loader.specs.Loader.{Loaded, library_of}
 use Rattle.pef_words.specs.Refusals.{first_among}
 use Rattle.pef_words.proofs.Laws.Refusals.{none_among, some_among}
-use Rattle.cfm_closure.specs.Stores.{Pair}
+use Rattle.cfm_store.specs.Stores.{Pair}
 use Rattle.cfm_closure.specs.Faults.{BindRefusal}
 use Rattle.cfm_closure.specs.Fragments.{Fragment, fragment_of, library_count}
 use Rattle.cfm_closure.specs.Libraries.{bound_to, library_at}

@@ -1,7 +1,5 @@
--- Facts of stores and closures, as `specs/` defines them, for the proofs of other crates.
+-- Facts of closures, as `specs/` defines them, for the proofs of other crates.
 
--- a name has the place of a pair of the store, which has that name and is the first with it
-pub use Rattle.cfm_closure.proofs.PlaceLemmas.{place_of-below, place_of-first, place_of-named}
 -- a closure is one of its store; its order has each fragment once, with all its libraries, and its root last
 pub use Rattle.cfm_closure.proofs.ClosedLemmas.{closed-complete, closed-root, closed-store}
 -- each fragment of the order is the root, or the first with its name
@@ -25,4 +23,4 @@ pub use Rattle.cfm_closure.proofs.EndlessLemmas.{closed-endless}
 -- their fragments and bindings stay the same
 pub use Rattle.cfm_closure.proofs.SameLemmas.{AreSame, SameAt, fragment_of-same}
 pub use Rattle.cfm_closure.proofs.SameClosedLemmas.{closed-same, target-same}
-pub use Rattle.cfm_closure.proofs.StoreLemmas.{new-longer, new-same, removed-longer, removed-same}
+pub use Rattle.cfm_closure.proofs.StoreLemmas.{new-same, removed-same}

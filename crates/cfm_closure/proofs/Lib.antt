@@ -8,11 +8,9 @@ mod ExportedLemmas
 mod FollowLemmas
 mod FragmentLemmas
 mod FrameLemmas
-mod GrowLemmas
 mod HopFacts
 mod HopLemmas
 mod ImportLemmas
-mod IndexLemmas
 mod InitLemmas
 mod InitOrderLemmas
 mod KnownLemmas
@@ -25,11 +23,9 @@ mod MetLemmas
 mod NameLemmas
 mod NoteLemmas
 mod NotedLemmas
-mod NumberLemmas
 mod OrderFacts
 mod PathLemmas
 mod Pigeons
-mod PlaceLemmas
 mod Ranks
 mod ReadLemmas
 mod RefusalLemmas

@@ -3,7 +3,7 @@ use Rattle.std.proofs.Common.{◌≡◌, ℕ, zero, suc, ◌+◌, ◌<◌, Bool,
 use Rattle.std.specs.Prelude.{◌⊎◌, Result}
 use Rattle.std.proofs.lemmas.List.Elements.{Contains-append_cases}
 use Rattle.pef_words.specs.Results.{◌>>=◌}
-use Rattle.cfm_closure.specs.Stores.{Pair, pair_of, place_of}
+use Rattle.cfm_store.specs.Stores.{Pair, pair_of, place_of}
 use Rattle.cfm_closure.specs.Faults.{BindRefusal}
 use Rattle.cfm_closure.specs.Fragments.{fragment_of}
 use Rattle.cfm_closure.specs.Libraries.{bound_to}

@@ -5,7 +5,7 @@ use Rattle.std.specs.Option.{option_map_or}
 use Rattle.std.proofs.lemmas.List.{length-set, set-get_or}
 use Rattle.pef_loader.specs.Loader.{Loaded}
 use Rattle.pef_words.proofs.Laws.Lists.{all-weaker}
-use Rattle.cfm_closure.specs.Stores.{Pair}
+use Rattle.cfm_store.specs.Stores.{Pair}
 use Rattle.cfm_closure.specs.Fragments.{import_count}
 use Rattle.cfm_closure.specs.Views.{fragment_seen}
 use Rattle.cfm_closure.specs.declared.fragment.ClosedFragment.{ClosedFragment}

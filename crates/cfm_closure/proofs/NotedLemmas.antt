@@ -2,15 +2,15 @@
 use Rattle.std.proofs.Common.{◌≡◌, ℕ, suc, ◌+◌, ◌-◌, ◌<◌, Bool, true, false, not, ◌&&◌, cond, List, [], ◌∷◌, ◌++◌, map, length, None, Some, refl, sym, ap, ◌∙◌, subst, get_or, set, arith}
 use Rattle.std.specs.Str.{bytes_eq}
 use Rattle.std.proofs.Math.Seq.{map-set_same}
-use Rattle.std.proofs.lemmas.List.{get_or-map, map-set, set-get_or}
+use Rattle.std.proofs.lemmas.List.{get_or-map, length-map, map-set, map_push, set-get_or}
 use Rattle.pef_names.specs.declared.name_key.NameKey.{NameKey}
 use Rattle.cfm_closure.specs.declared.missing.MissingLibrary.{MissingLibrary}
 use Rattle.cfm_closure.specs.Kept.Notes.{AreNamed, name_pair}
-use Rattle.cfm_closure.specs.Kept.Places.{ArePlaces}
+use Rattle.cfm_store.specs.Places.{ArePlaces}
 use Rattle.cfm_closure.specs.Missing.{Missing, noted, stricter}
-use Rattle.cfm_closure.specs.Stores.{Pair, no_pair, place_from, place_of, shown}
+use Rattle.cfm_store.specs.Stores.{Pair, no_pair, place_from, place_of, shown}
 use Rattle.cfm_closure.specs.Views.{missing_seen}
-use Rattle.cfm_closure.proofs.PlaceLemmas.{length-seen, place_from-inside, place_of-below, place_of-named, seen-push}
+use Rattle.cfm_store.proofs.Laws.{place_from-inside, place_of-below, place_of-named}
 
 -- a new name goes last
 noted_from-new : (at : ℕ) (ms : List Missing) (m : Missing) → place_from at (map name_pair ms) m.name ≡ None → noted ms m ≡ ms ++ m ∷ []
@@ -47,14 +47,14 @@ module _ (items : List MissingLibrary) (m : MissingLibrary) where
 
   pub noted-new : place_of (map name_pair (map missing_seen items)) m.name.now ≡ None → map missing_seen (items ++ m ∷ []) ≡ noted (map missing_seen items) (missing_seen m)
   unfolding place_of
-  noted-new none = seen-push missing_seen items m ∙ sym (noted_from-new 0 before (missing_seen m) none)
+  noted-new none = map_push missing_seen items m ∙ sym (noted_from-new 0 before (missing_seen m) none)
 
   module _ (at : ℕ) (d : MissingLibrary) (is : place_of (map name_pair (map missing_seen items)) m.name.now ≡ Some at) where
     pub known-inside : at < length items
     known-inside =
         let under = place_of-below names m.name.now at is in
-        let long = length-seen name_pair before in
-        let long' = length-seen missing_seen items in
+        let long = length-map before name_pair in
+        let long' = length-map items missing_seen in
         omega (arith, under, long, long')
 
     known-is : get_or before at (missing_seen m) ≡ missing_seen (get_or items at d)
@@ -86,7 +86,7 @@ module _ (items : List MissingLibrary) (m : MissingLibrary) where
     pub named-set : (entries : List (NameKey × ℕ)) → AreNamed (map missing_seen items) entries → AreNamed (map missing_seen (set items at m)) entries
     named-set entries are =
         let d : Missing = missing_seen m in
-        let inside : at < length before = let long = length-seen missing_seen items in let under = known-inside in omega (arith, long, under) in
+        let inside : at < length before = let long = length-map items missing_seen in let under = known-inside in omega (arith, long, under) in
         let name : m.name.now ≡ (get_or before at d).name = sym (place_of-named names m.name.now at is) ∙ ap (λ (p : Pair). (shown p).name) (get_or-map name_pair before at d no_pair inside) in
         let same : name_pair d ≡ name_pair (get_or before at d) = ap (λ n. name_pair (record d { name = n })) name in
         let all : map name_pair (map missing_seen (set items at m)) ≡ names = ap (map name_pair) (map-set missing_seen items at m) ∙ map-set_same name_pair before at d d same in

@@ -5,11 +5,11 @@ use Rattle.std.specs.List.{AllByRecursion}
 use Rattle.std.proofs.lemmas.List.{get_or-replicate, length-replicate}
 use Rattle.std.proofs.lemmas.List.Sums.{count_by-le-length}
 use Rattle.pef_words.proofs.Laws.Lists.{all-at}
-use Rattle.cfm_closure.specs.Stores.{Pair}
+use Rattle.cfm_store.specs.Stores.{Pair}
 use Rattle.pef_words.specs.Results.{◌>>=◌}
 use Rattle.cfm_closure.specs.Fragments.{Fragment, fragment_of}
 use Rattle.cfm_closure.specs.Libraries.{bound_to}
-use Rattle.cfm_closure.specs.Limits.{most_pairs}
+use Rattle.cfm_store.specs.Limits.{most_pairs}
 use Rattle.cfm_closure.specs.Orders.{EndsWith, HasLibrary, IsComplete, IsMember}
 use Rattle.cfm_closure.specs.Walk.{Walked, is_marked, joining, left, marking, order_of, unwalked, walk, walk_at, walks_from}
 use Rattle.cfm_closure.specs.Kept.Walks.{IsBound, IsTidy, Reaches}

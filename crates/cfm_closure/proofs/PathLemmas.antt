@@ -5,7 +5,7 @@ use Rattle.std.specs.Option.{option_map_or}
 use Rattle.std.proofs.lemmas.List.Sums.{count_by-le-length}
 use Rattle.pef_loader.specs.Library.{Library}
 use Rattle.pef_loader.specs.Loader.{library_of}
-use Rattle.cfm_closure.specs.Stores.{Pair}
+use Rattle.cfm_store.specs.Stores.{Pair}
 use Rattle.pef_words.specs.Results.{◌>>=◌}
 use Rattle.cfm_closure.specs.declared.fault.BindFault.{BindFault}
 use Rattle.cfm_closure.specs.declared.fault.BindFault.TheVariants as fault

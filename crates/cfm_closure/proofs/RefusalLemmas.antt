@@ -19,8 +19,8 @@ use Rattle.cfm_closure.specs.declared.versions.Definition.{Definition}
 use Rattle.cfm_closure.specs.declared.versions.Implementation.{Implementation}
 use Rattle.cfm_closure.specs.declared.versions.Fit.{Fit}
 use Rattle.cfm_closure.specs.declared.versions.Fit.TheVariants.{Fits, TooOld, TooNew}
-use Rattle.cfm_closure.specs.Stores.{Pair, pair_of, place_of}
-use Rattle.cfm_closure.proofs.PlaceLemmas.{place_of-below, place_of-first}
+use Rattle.cfm_store.specs.Stores.{Pair, pair_of, place_of}
+use Rattle.cfm_store.proofs.Laws.{place_of-below, place_of-first}
 use Rattle.cfm_closure.specs.Faults.{BindRefusal, implementation_too_new, implementation_too_old, init_loop, library_missing, no_container, no_loader, reexport_loop, symbol_missing}
 use Rattle.cfm_closure.specs.Fragments.{Fragment, fragment_of, import_at, import_count, import_place, loader_at, part_place, place_at, with_container, with_loader}
 use Rattle.cfm_closure.specs.Libraries.{absent_or, bound, bound_at, bound_by, bound_to, definition_of, fit_with, implementation_of, library_at}

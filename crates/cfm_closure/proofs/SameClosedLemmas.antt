@@ -5,7 +5,7 @@ use Rattle.pef_words.specs.Results.{◌>>=◌}
 use Rattle.cfm_closure.specs.Closures.{Closed, closed_of, first_refused}
 use Rattle.cfm_closure.specs.Initialization.{init_order_of}
 use Rattle.cfm_closure.specs.Orders.{IsComplete}
-use Rattle.cfm_closure.specs.Stores.{Pair}
+use Rattle.cfm_store.specs.Stores.{Pair}
 use Rattle.cfm_closure.specs.Targets.{target_of}
 use Rattle.cfm_closure.specs.Walk.{order_of}
 use Rattle.cfm_closure.proofs.ClosedLemmas.{closed-complete, is_closed}

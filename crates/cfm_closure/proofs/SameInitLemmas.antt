@@ -5,7 +5,7 @@ use Rattle.std.specs.Option.{is_none, option_and_then, option_map_or}
 use Rattle.pef_loader.specs.Library.{Library}
 use Rattle.pef_loader.specs.Loader.{Loaded, library_of}
 use Rattle.pef_words.specs.Refusals.{first_among}
-use Rattle.cfm_closure.specs.Stores.{Pair}
+use Rattle.cfm_store.specs.Stores.{Pair}
 use Rattle.cfm_closure.specs.Fragments.{library_count, loader_at}
 use Rattle.cfm_closure.specs.Libraries.{library_at}
 use Rattle.cfm_closure.specs.Initialization.{awaits, before_at, before_of, first_left, init_order_of, is_ready, next_ready, take_next, take_ready, taken_all}

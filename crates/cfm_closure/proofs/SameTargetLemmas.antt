@@ -8,7 +8,7 @@ use Rattle.pef_format.specs.Symbols.{Import}
 use Rattle.pef_format.specs.declared.place.Part.TheVariants as part
 use Rattle.pef_loader.specs.Loader.{Loaded, import_of}
 use Rattle.pef_words.specs.Refusals.{first_among}
-use Rattle.cfm_closure.specs.Stores.{Pair, pair_of}
+use Rattle.cfm_store.specs.Stores.{Pair, pair_of}
 use Rattle.cfm_closure.specs.Faults.{BindRefusal, reexport_loop}
 use Rattle.cfm_closure.specs.Fragments.{Fragment, export_count, import_at, import_count, import_place, loader_at, part_place, place_at}
 use Rattle.cfm_closure.specs.Libraries.{library_at}

@@ -7,7 +7,7 @@ use Rattle.pef_loader.specs.Library.{Library}
 use Rattle.pef_loader.specs.Loader.{library_of}
 use Rattle.pef_loader.specs.Views.{loaded}
 use Rattle.pef_words.specs.Results.{◌>>=◌}
-use Rattle.cfm_closure.specs.Stores.{Pair}
+use Rattle.cfm_store.specs.Stores.{Pair}
 use Rattle.cfm_closure.specs.declared.fault.BindFault.{BindFault}
 use Rattle.cfm_closure.specs.declared.search.Visit.{Visit}
 use Rattle.cfm_closure.specs.Faults.{Answers, BindRefusal}

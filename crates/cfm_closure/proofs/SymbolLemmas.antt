@@ -6,7 +6,7 @@ use Rattle.std.proofs.lemmas.Bool.Decides.{eqb_tells}
 use Rattle.std.proofs.lemmas.List.{get_or-set_same, get_or-set_other, length-set}
 use Rattle.pef_loader.specs.Loader.{Loaded, import_of}
 use Rattle.pef_format.specs.Symbols.{ImportView, import_seen}
-use Rattle.cfm_closure.specs.Stores.{Pair}
+use Rattle.cfm_store.specs.Stores.{Pair}
 use Rattle.cfm_closure.specs.Fragments.{import_at, library_count, loader_at}
 use Rattle.cfm_closure.specs.Kept.Symbols.{AreTables, table_at}
 

@@ -6,7 +6,7 @@ use Rattle.std.proofs.lemmas.Bool.Decides.{eqb_tells}
 use Rattle.std.proofs.lemmas.List.{get_or-set_same, get_or-set_other, length-replicate, length-set}
 use Rattle.pef_words.proofs.Laws.Lists.{all-append, all-weaker}
 use Rattle.pef_loader.specs.Loader.{Loaded}
-use Rattle.cfm_closure.specs.Stores.{Pair}
+use Rattle.cfm_store.specs.Stores.{Pair}
 use Rattle.cfm_closure.specs.Fragments.{import_count}
 use Rattle.cfm_closure.specs.declared.fragment.ClosedFragment.{ClosedFragment}
 use Rattle.cfm_closure.specs.declared.fragment.FragmentView.{FragmentView}

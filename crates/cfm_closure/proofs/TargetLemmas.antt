@@ -15,7 +15,7 @@ use Rattle.pef_loader.specs.Export.{has_section, is_there}
 use Rattle.pef_loader.specs.Loader.{Loaded, export_of, loaded_of, named_of}
 use Rattle.pef_loader.specs.declared.fault.LoaderFault.{LoaderFault}
 use Rattle.pef_loader.proofs.Laws.{loaded_of-ok, named_there}
-use Rattle.cfm_closure.specs.Stores.{Pair, pair_of}
+use Rattle.cfm_store.specs.Stores.{Pair, pair_of}
 use Rattle.cfm_closure.specs.Faults.{BindRefusal, reexport_loop, symbol_missing}
 use Rattle.cfm_closure.specs.Fragments.{Fragment, fragment_of, import_at, import_place, with_container, with_loader}
 use Rattle.cfm_closure.specs.Libraries.{library_at}

@@ -4,7 +4,7 @@ use Rattle.std.specs.Prelude.{ℕ, List, [], ◌∷◌, Option, None, Result, Ok
 use Rattle.std.specs.Option.{option_or}
 use Rattle.std.specs.Result.{result_err}
 use Rattle.pef_words.specs.Refusals.{first_among, unless}
-use Rattle.cfm_closure.specs.Stores.{Pair}
+use Rattle.cfm_store.specs.Stores.{Pair}
 use Rattle.cfm_closure.specs.Faults.{BindRefusal}
 use Rattle.cfm_closure.specs.Fragments.{import_count}
 use Rattle.cfm_closure.specs.Walk.{order_of}

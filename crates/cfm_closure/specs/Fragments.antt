@@ -14,7 +14,7 @@ use Rattle.pef_loader.specs.Faults.{fault_place as loader_fault_place}
 use Rattle.pef_loader.specs.Loader.{Loaded, import_of, loaded_of}
 use Rattle.pef_loader.specs.Places.{place_of as container_place}
 use Rattle.pef_loader.specs.declared.fault.LoaderFault.{LoaderFault}
-use Rattle.cfm_closure.specs.Stores.{Pair, pair_of}
+use Rattle.cfm_store.specs.Stores.{Pair, pair_of}
 use Rattle.cfm_closure.specs.Faults.{BindRefusal, no_container, no_loader}
 
 pub record Fragment : Type 0 where

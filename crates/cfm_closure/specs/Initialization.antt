@@ -7,7 +7,7 @@ use Rattle.pef_format.specs.Symbols.{options_of}
 use Rattle.pef_format.specs.declared.place.Part.TheVariants as part
 use Rattle.pef_loader.specs.Library.{Library}
 use Rattle.pef_loader.specs.Loader.{library_of}
-use Rattle.cfm_closure.specs.Stores.{Pair, pair_of}
+use Rattle.cfm_store.specs.Stores.{Pair, pair_of}
 use Rattle.cfm_closure.specs.Faults.{BindRefusal, init_loop}
 use Rattle.cfm_closure.specs.Fragments.{library_count, loader_at, place_at}
 use Rattle.cfm_closure.specs.Libraries.{library_at}

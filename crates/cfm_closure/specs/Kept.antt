@@ -2,16 +2,11 @@
 pub mod Bindings
 pub mod Caches
 pub mod Entries
-pub mod Exported
 pub mod Hops
 pub mod Imports
-pub mod Lending
-pub mod NameIndexes
 pub mod Names
 pub mod Notes
-pub mod Numbers
 pub mod Paths
-pub mod Places
 pub mod Resolutions
 pub mod Resolvers
 pub mod Rows

@@ -5,14 +5,10 @@ pub mod Fragments
 pub mod Initialization
 pub mod Kept
 pub mod Libraries
-pub mod Limits
 pub mod Missing
 pub mod Orders
 pub mod Promises
 pub mod Reexports
-pub mod Seen
-pub mod StoreFaults
-pub mod Stores
 pub mod Targets
 pub mod Versions
 pub mod Views

@@ -13,7 +13,7 @@ use Rattle.cfm_closure.specs.declared.versions.Definition.{Definition}
 use Rattle.cfm_closure.specs.declared.versions.Implementation.{Implementation}
 use Rattle.cfm_closure.specs.declared.versions.Fit.{Fit}
 use Rattle.cfm_closure.specs.declared.versions.Fit.TheVariants.{Fits, TooOld, TooNew}
-use Rattle.cfm_closure.specs.Stores.{Pair, place_of}
+use Rattle.cfm_store.specs.Stores.{Pair, place_of}
 use Rattle.cfm_closure.specs.Faults.{BindRefusal}
 use Rattle.cfm_closure.specs.Fragments.{Fragment, fragment_of}
 use Rattle.cfm_closure.specs.Libraries.{definition_of, fit_with, implementation_of}

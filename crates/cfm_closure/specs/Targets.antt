@@ -9,7 +9,7 @@ use Rattle.pef_format.specs.Exports.{Export, value_of}
 use Rattle.pef_format.specs.Symbols.{Import}
 use Rattle.pef_format.specs.declared.place.Place.{Place}
 use Rattle.pef_loader.specs.Loader.{Loaded, export_of, named_of}
-use Rattle.cfm_closure.specs.Stores.{Pair, pair_of}
+use Rattle.cfm_store.specs.Stores.{Pair, pair_of}
 use Rattle.cfm_closure.specs.Faults.{BindRefusal, reexport_loop, symbol_missing}
 use Rattle.cfm_closure.specs.Fragments.{export_count, import_at, import_place, loader_at}
 use Rattle.cfm_closure.specs.Libraries.{library_at}

@@ -1,7 +1,7 @@
 -- The closure of a fragment: the fragment and all that it needs, libraries before those that need them
 -- (Mac OS Runtime Architectures, "Code Fragment Manager", "Preparing a Fragment").
 use Rattle.std.specs.Prelude.{ℕ, zero, suc, ◌+◌, Bool, true, false, not, List, [], ◌∷◌, ◌++◌, length, replicate, count_by, slice_index_or, slice_set, Option, None, Some, Result, Ok}
-use Rattle.cfm_closure.specs.Stores.{Pair}
+use Rattle.cfm_store.specs.Stores.{Pair}
 use Rattle.pef_words.specs.Results.{◌>>=◌}
 use Rattle.cfm_closure.specs.Faults.{BindRefusal}
 use Rattle.cfm_closure.specs.Fragments.{fragment_of}

@@ -7,9 +7,8 @@ ghost use Rattle.cfm_closure.specs.Libraries.{bound, bound_at, bound_by, definit
 
 use crate::fault::BindFault;
 use crate::fragment::{FragmentView, read_at};
-use crate::place_table::PlaceTable;
-use crate::store::Store;
 use crate::versions::{Definition, Fit, Implementation, versions_fit};
+use cfm_store::{PlaceTable, Store};
 use pef_format::layout::{LIBRARY_NAME_OFFSET_AT, LIBRARY_OLD_IMP_VERSION_AT};
 use pef_loader::LibraryView;
 

@@ -1,5 +1,5 @@
 ghost use Rattle.std.specs.Prelude.{◌≡◌, ◌<◌, ◌≤◌, true, [], length, replicate, slice_index_or, option_map, Contains, None, Some, Ok, IfOk, IfSome};
-ghost use Rattle.cfm_closure.specs.Limits.{most_pairs};
+ghost use Rattle.cfm_store.specs.Limits.{most_pairs};
 ghost use Rattle.cfm_closure.specs.Faults.{Answers};
 ghost use Rattle.cfm_closure.specs.Fragments.{fragment_of, import_count, library_count};
 ghost use Rattle.cfm_closure.specs.Libraries.{bound_to};
@@ -15,10 +15,9 @@ ghost use Rattle.cfm_closure.specs.Views.{fragment_seen};
 use crate::cache::Cache;
 use crate::fault::BindFault;
 use crate::fragment::{ClosedFragment, FragmentView};
-use crate::place_table::PlaceTable;
-use crate::store::Store;
 use crate::targets::{Resolution, SharedTargets};
 use crate::walk::Walk;
+use cfm_store::{PlaceTable, Store};
 use std::alloc::{AllocError, Global};
 use std::marker::Model;
 
@@ -39,7 +38,7 @@ impl<'a> Model for Bindings<'a> {
     ghost Value = { Ordered };
 
     ghost use Rattle.std.specs.Prelude.{map};
-    ghost use Rattle.cfm_closure.specs.Seen.{place_seen};
+    ghost use Rattle.cfm_store.specs.Seen.{place_seen};
     ghost use Rattle.cfm_closure.specs.Kept.Bindings.{AreBindings};
     ghost use Rattle.cfm_closure.specs.Kept.Rows.{rows_of};
 

@@ -9,7 +9,7 @@ use crate::closures::Closure;
 use crate::fault::BindFault;
 use crate::init_order::initialized;
 use crate::resolve::resolve_targets;
-use crate::store::Store;
+use cfm_store::Store;
 use std::alloc::Global;
 
 /// Returns the closure of the fragment in a place of a store, as [`Store::find`] gives it for a name.

@@ -2,18 +2,17 @@ ghost use Rattle.std.specs.Prelude.{◌≡◌, ◌≢◌, ◌≤◌, ℕ, List, 
 ghost use Rattle.std.specs.Option.{option_and_then};
 ghost use Rattle.pef_loader.specs.Library.{Library};
 ghost use Rattle.pef_loader.specs.Loader.{library_of};
-ghost use Rattle.cfm_closure.specs.Additions.{placed_at};
+ghost use Rattle.cfm_store.specs.Additions.{placed_at};
 ghost use Rattle.cfm_closure.specs.Fragments.{loader_at};
 ghost use Rattle.cfm_closure.specs.Kept.Caches.{AreKeptRows, IsCache, IsOrderOfClosure, KeepsFirst, MayTake, NoneNames};
 ghost use Rattle.cfm_closure.specs.Kept.Targets.{AreResolved};
 ghost use Rattle.cfm_closure.specs.Kept.Views.{AreRead, AreViews};
-ghost use Rattle.cfm_closure.specs.Stores.{Pair};
+ghost use Rattle.cfm_store.specs.Stores.{Pair};
 
 use crate::bindings::Bindings;
 use crate::fragment::FragmentView;
-use crate::place_table::PlaceTable;
-use crate::store::Store;
 use crate::targets::SharedTargets;
+use cfm_store::{PlaceTable, Store};
 use std::alloc::{AllocError, Global};
 use std::mem;
 

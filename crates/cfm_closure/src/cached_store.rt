@@ -1,12 +1,12 @@
 ghost use Rattle.std.specs.Prelude.{◌≡◌, ◌<◌, ◌≤◌, ◌++◌, [], ◌∷◌, false, true, length, map, slice_get, option_map, nat_le, IfSome, OnOk, OnErr};
 ghost use Rattle.std.specs.Option.{option_and_then};
-ghost use Rattle.cfm_closure.specs.Additions.{has_room, with_put, without_pair};
+ghost use Rattle.cfm_store.specs.Additions.{has_room, with_put, without_pair};
 ghost use Rattle.cfm_closure.specs.Closures.{closed_of};
 ghost use Rattle.cfm_closure.specs.Faults.{Answers};
-ghost use Rattle.cfm_closure.specs.Limits.{most_pairs};
+ghost use Rattle.cfm_store.specs.Limits.{most_pairs};
 ghost use Rattle.cfm_closure.specs.Missing.{missing_of};
-ghost use Rattle.cfm_closure.specs.Seen.{pair_seen};
-ghost use Rattle.cfm_closure.specs.Stores.{place_of, taken};
+ghost use Rattle.cfm_store.specs.Seen.{pair_seen};
+ghost use Rattle.cfm_store.specs.Stores.{place_of, taken};
 ghost use Rattle.cfm_closure.specs.Views.{missing_seen};
 
 use crate::build::closure_with;
@@ -15,8 +15,7 @@ use crate::closures::Closure;
 use crate::fault::BindFault;
 use crate::missing::MissingLibrary;
 use crate::search::missing_with;
-use crate::store::Store;
-use crate::store_fault::StoreFault;
+use cfm_store::{Store, StoreFault};
 use std::alloc::Global;
 use std::fmt;
 use std::marker::Model;
@@ -33,7 +32,7 @@ pub struct CachedStore<'a> {
 
 impl<'a> Model for CachedStore<'a> {
     ghost use Rattle.std.specs.Prelude.{List};
-    ghost use Rattle.cfm_closure.specs.Stores.{Pair};
+    ghost use Rattle.cfm_store.specs.Stores.{Pair};
 
     ghost Value = { List Pair };
 

@@ -9,7 +9,7 @@ ghost use Rattle.cfm_closure.specs.Fragments.{container_at, import_count, librar
 ghost use Rattle.cfm_closure.specs.Libraries.{bound_to};
 ghost use Rattle.cfm_closure.specs.Orders.{IsComplete};
 ghost use Rattle.cfm_closure.specs.Promises.{LiesInside};
-ghost use Rattle.cfm_closure.specs.Stores.{pair_of};
+ghost use Rattle.cfm_store.specs.Stores.{pair_of};
 ghost use Rattle.cfm_closure.specs.Targets.{target_of};
 
 use crate::bindings::Bindings;

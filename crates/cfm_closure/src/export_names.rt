@@ -1,12 +1,11 @@
 ghost use Rattle.std.specs.Prelude.{◌≡◌, IfOk, IsSome, OnOk, Contains, None, Some, slice_index_or};
 ghost use Rattle.pef_loader.specs.Loader.{Loaded};
 ghost use Rattle.cfm_closure.specs.Fragments.{loader_at};
-ghost use Rattle.cfm_closure.specs.Kept.Exported.{MeansFirst};
+ghost use Rattle.cfm_store.specs.Exported.{MeansFirst};
 ghost use Rattle.cfm_closure.specs.Kept.Names.{AreNamesOf};
 
 use crate::bindings::Bindings;
-use crate::named_exports::NamedExports;
-use crate::place_table::PlaceTable;
+use cfm_store::{NamedExports, PlaceTable};
 use pef_format::ExportValue;
 use std::alloc::{AllocError, Global};
 

@@ -11,9 +11,8 @@ ghost use Rattle.cfm_closure.specs.Views.{fragment_seen};
 
 use crate::fault::BindFault;
 use crate::libraries::Libraries;
-use crate::place_table::PlaceTable;
-use crate::store::Store;
 use crate::targets::Targets;
+use cfm_store::{PlaceTable, Store};
 use pef_format::{Part, Place};
 use pef_loader::{Loader, place_in};
 use pef_views::Container;

@@ -8,9 +8,8 @@ ghost use Rattle.cfm_closure.specs.Missing.{serving};
 use crate::binding::{definition_of, implementation_of};
 use crate::fault::BindFault;
 use crate::fragment::{FragmentView, read_at};
-use crate::place_table::PlaceTable;
-use crate::store::Store;
 use crate::versions::{Definition, Fit, Implementation, versions_fit};
+use cfm_store::{PlaceTable, Store};
 use pef_loader::LibraryView;
 
 /// A library that a fragment names, and that no fragment of the store serves.

@@ -2,12 +2,12 @@ ghost use Rattle.std.specs.Prelude.{◌≡◌, ◌&&◌, [], map, not, IfErr, No
 ghost use Rattle.cfm_closure.specs.declared.fault.BindFault.TheVariants.{OutOfMemory};
 ghost use Rattle.cfm_closure.specs.Kept.Notes.{name_pair};
 ghost use Rattle.cfm_closure.specs.Missing.{noted};
-ghost use Rattle.cfm_closure.specs.Stores.{place_of};
+ghost use Rattle.cfm_store.specs.Stores.{place_of};
 ghost use Rattle.cfm_closure.specs.Views.{missing_seen};
 
 use crate::fault::BindFault;
 use crate::missing::MissingLibrary;
-use crate::store::note_place;
+use cfm_store::note_place;
 use indexmap::IndexMap;
 use pef_names::NameKey;
 use std::alloc::Global;

@@ -1,6 +1,6 @@
 ghost use Rattle.std.specs.Prelude.{◌≡◌, ◌<◌, ◌≤◌, ◌^◌, [], Ok, Err, Some, Option, Contains, IfOk, OnOk, length};
 ghost use Rattle.std.specs.List.{AllByRecursion};
-ghost use Rattle.cfm_closure.specs.Stores.{pair_of};
+ghost use Rattle.cfm_store.specs.Stores.{pair_of};
 ghost use Rattle.cfm_closure.specs.Faults.{Answers, FailsAs, reexport_loop};
 ghost use Rattle.cfm_closure.specs.Fragments.{import_count, import_place};
 ghost use Rattle.cfm_closure.specs.Closures.{first_refused, imports_refusal};

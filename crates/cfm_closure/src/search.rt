@@ -13,8 +13,7 @@ use crate::fault::BindFault;
 use crate::fragment::{FragmentView, read_at};
 use crate::missing::{MissingLibrary, Served, look_up};
 use crate::notes::Notes;
-use crate::place_table::PlaceTable;
-use crate::store::Store;
+use cfm_store::{PlaceTable, Store};
 use pef_loader::{LibraryView, Loader};
 use std::alloc::{AllocError, Global};
 

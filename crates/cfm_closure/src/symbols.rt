@@ -5,7 +5,7 @@ ghost use Rattle.cfm_closure.specs.Kept.Symbols.{AreSymbolsOf, table_at};
 
 use crate::bindings::Bindings;
 use crate::import_table::ImportTable;
-use crate::place_table::PlaceTable;
+use cfm_store::PlaceTable;
 use pef_format::ImportView;
 use std::alloc::{AllocError, Global};
 

@@ -2,7 +2,7 @@ ghost use Rattle.std.specs.Prelude.{◌≡◌, ◌+◌, ◌<◌, [], List, ℕ, 
 ghost use Rattle.std.specs.Option.{ForSome};
 ghost use Rattle.cfm_closure.specs.Faults.{Answers};
 ghost use Rattle.cfm_closure.specs.Walk.{is_marked, joining, order_of, unwalked};
-ghost use Rattle.cfm_closure.specs.Stores.{Pair};
+ghost use Rattle.cfm_store.specs.Stores.{Pair};
 ghost use Rattle.cfm_closure.specs.Fragments.{import_count};
 ghost use Rattle.cfm_closure.specs.Kept.Caches.{AreKeptRows};
 ghost use Rattle.cfm_closure.specs.Kept.Targets.{AreAllKnown, AreRight};
@@ -14,9 +14,8 @@ use crate::binding::bind;
 use crate::fault::BindFault;
 use crate::fragment::{ClosedFragment, FragmentView, read_at};
 use crate::libraries::Libraries;
-use crate::place_table::PlaceTable;
-use crate::store::Store;
 use crate::targets::{SharedTargets, Targets};
+use cfm_store::{PlaceTable, Store};
 use std::alloc::{AllocError, Global};
 
 /// A fragment that was visited and isn't done: the walk is in one of its libraries.

@@ -3,7 +3,7 @@ use Rattle.std.proofs.Common.{◌≡◌, ◌≤◌, ◌+◌, ℕ, List, [], ◌�
 use Rattle.cfm_memory.specs.Extents.{empty_memory}
 use Rattle.cfm_memory.specs.Instances.{Layout}
 use Rattle.cfm_memory.specs.Reservation.{Reserves, Unreserves, reserved_range, with_range, without_range}
-use Rattle.cfm_closure.specs.Stores.{Pair}
+use Rattle.cfm_store.specs.Stores.{Pair}
 use Rattle.cfm_prepare.specs.Options.{Choices}
 use Rattle.cfm_prepare.specs.Contexts.{ContextState, Open, added, made_state, open_of, removed, unused_state}
 use Rattle.cfm_prepare.specs.Runs.{Runs, Step, closed, freed, prepared, prepared_given, reserved, stored, taken_out}

@@ -1,7 +1,7 @@
 -- A refusal of an image or of a relocation header among some fragments is one of a fragment with the name that is reported.
 use Rattle.std.proofs.Common.{◌≡◌, ℕ, List, [], ◌∷◌, Option, None, Some, Contains, length, refl, sym, ap, arith}
 use Rattle.std.specs.Option.{option_or}
-use Rattle.cfm_closure.specs.Stores.{Pair, pair_of}
+use Rattle.cfm_store.specs.Stores.{Pair, pair_of}
 use Rattle.cfm_memory.specs.Extents.{ArePlacedBy, Rule, rule_after}
 use Rattle.cfm_memory.specs.Instances.{Layout}
 use Rattle.pef_loader.specs.declared.program_fault.ProgramFault.{ProgramFault}

@@ -4,7 +4,7 @@ use Rattle.cfm_memory.specs.Extents.{ArePlacedBy, LackPlaceBy, Rule, given_back,
 use Rattle.cfm_memory.specs.Instances.{Layout, bytes_at}
 use Rattle.cfm_memory.specs.declared.place.Place.{Place}
 use Rattle.cfm_memory.proofs.Laws.{extents-found, filled_elsewhere, filled_given_back, filled_stand, with_filled}
-use Rattle.cfm_closure.specs.Stores.{Pair, pair_of}
+use Rattle.cfm_store.specs.Stores.{Pair, pair_of}
 use Rattle.cfm_prepare.specs.declared.image_fault.ImageFault.{ImageFault}
 use Rattle.pef_loader.specs.declared.program_fault.ProgramFault.{ProgramFault}
 use Rattle.cfm_prepare.specs.Addresses.{first_bad_program, section_of}

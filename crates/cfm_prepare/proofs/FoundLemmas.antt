@@ -4,7 +4,7 @@ use Rattle.std.proofs.lemmas.Bool.Decides.{eqb_tells}
 use Rattle.cfm_memory.specs.Extents.{Rule}
 use Rattle.cfm_memory.specs.Instances.{Layout}
 use Rattle.cfm_memory.specs.declared.place.Place.{Place}
-use Rattle.cfm_closure.specs.Stores.{Pair}
+use Rattle.cfm_store.specs.Stores.{Pair}
 use Rattle.cfm_prepare.specs.Lists.{has, IsOnce}
 use Rattle.cfm_prepare.specs.Fragments.{Present, is_present, new_among, places_of, positions, present_at}
 use Rattle.cfm_prepare.specs.Kept.Ready.{AreAbsent, HavePlaced, found_in}

@@ -11,7 +11,7 @@ use Rattle.pef_reloc.specs.Applied.{Addresses}
 use Rattle.cfm_memory.specs.Extents.{ArePlacedBy, Extent, Rule, Stand}
 use Rattle.cfm_memory.specs.Instances.{Layout}
 use Rattle.cfm_memory.specs.declared.place.Place.{Place}
-use Rattle.cfm_closure.specs.Stores.{Pair, pair_of}
+use Rattle.cfm_store.specs.Stores.{Pair, pair_of}
 use Rattle.cfm_closure.specs.Fragments.{Fragment, container_at, fragment_of, loader_at, with_container, with_loader}
 use Rattle.cfm_closure.specs.Targets.{target_of}
 use Rattle.cfm_closure.specs.declared.targets.Target.{Target}

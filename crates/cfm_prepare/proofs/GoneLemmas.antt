@@ -4,7 +4,7 @@ use Rattle.std.specs.Prelude.{◌↔◌, option_map}
 use Rattle.std.proofs.lemmas.Bool.Decides.{eqb_tells}
 use Rattle.std.proofs.lemmas.List.{get_or-reverse, length-reverse, reverse-reverse}
 use Rattle.cfm_memory.specs.Extents.{Rule}
-use Rattle.cfm_closure.specs.Stores.{Pair}
+use Rattle.cfm_store.specs.Stores.{Pair}
 use Rattle.cfm_closure.specs.Closures.{Closed, closed_of}
 use Rattle.cfm_closure.proofs.Laws.{closed-init}
 use Rattle.cfm_prepare.specs.Contexts.{ContextState, Open, is_needed, made_state, open_of, open_without, opened}

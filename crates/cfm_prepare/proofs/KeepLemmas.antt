@@ -6,7 +6,7 @@ use Rattle.cfm_memory.specs.declared.place.Place.{Place}
 use Rattle.cfm_memory.specs.Instances.{Layout, bytes_at}
 use Rattle.cfm_memory.specs.Reservation.{Reserves, Unreserves}
 use Rattle.cfm_memory.proofs.Laws.{given_back_elsewhere}
-use Rattle.cfm_closure.specs.Stores.{Pair}
+use Rattle.cfm_store.specs.Stores.{Pair}
 use Rattle.cfm_prepare.specs.Addresses.{section_of}
 use Rattle.cfm_prepare.specs.Fragments.{Present, all_given_back, is_present, places_of, present_at}
 use Rattle.cfm_prepare.proofs.PlacedLemmas.{placed-pairs, placed-new}

@@ -5,7 +5,7 @@ use Rattle.std.proofs.lemmas.List.{length-append}
 use Rattle.cfm_memory.specs.Placement.{step_of, taken}
 use Rattle.pef_views.specs.Container.{Contained, Section, section_of}
 use Rattle.cfm_closure.specs.Fragments.{container_at}
-use Rattle.cfm_closure.specs.Stores.{Pair}
+use Rattle.cfm_store.specs.Stores.{Pair}
 use Rattle.cfm_prepare.specs.Images.{extent_in, extents_of}
 use Rattle.cfm_prepare.specs.NewSections.{container_sections, new_section, new_sections_of, sections_from}
 use Rattle.cfm_prepare.specs.Placing.{section_total}

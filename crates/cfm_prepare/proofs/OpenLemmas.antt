@@ -5,7 +5,7 @@ use Rattle.std.proofs.lemmas.List.{length-append}
 use Rattle.cfm_closure.proofs.Laws.{closed-init}
 use Rattle.cfm_closure.specs.Closures.{Closed, closed_of}
 use Rattle.cfm_closure.specs.Orders.{EndsWith}
-use Rattle.cfm_closure.specs.Stores.{Pair, place_of}
+use Rattle.cfm_store.specs.Stores.{Pair, place_of}
 use Rattle.cfm_memory.specs.Extents.{Rule, at_given, at_lowest}
 use Rattle.cfm_memory.specs.Instances.{Layout}
 use Rattle.cfm_prepare.specs.Bounds.{AreWithin, bytes_in, steps_in}

@@ -4,7 +4,7 @@ use Rattle.std.proofs.lemmas.List.{length-replicate}
 use Rattle.cfm_memory.specs.Extents.{ArePlacedBy, Rule, given_back, place_at, rule_after, zeros_at}
 use Rattle.cfm_memory.specs.Instances.{Layout, bytes_at}
 use Rattle.cfm_memory.proofs.Laws.{after-both, after-none, placed_apart, placed_given_back, placed_new, placed_stand, placed_stays, stand_held}
-use Rattle.cfm_closure.specs.Stores.{Pair}
+use Rattle.cfm_store.specs.Stores.{Pair}
 use Rattle.cfm_prepare.specs.Fragments.{Present, StandAll, all_given_back, extents_in, present_at}
 use Rattle.cfm_prepare.specs.Placing.{AllPlacedBy, Fits}
 use Rattle.cfm_prepare.specs.Kept.Ready.{AllApart, AllHeld, OwnApart, place_count}

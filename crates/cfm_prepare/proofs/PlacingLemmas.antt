@@ -6,7 +6,7 @@ use Rattle.cfm_memory.specs.Instances.{Layout}
 use Rattle.cfm_memory.specs.Placement.{with_new}
 use Rattle.cfm_memory.specs.declared.place.Place.{Place}
 use Rattle.pef_format.specs.declared.place.Place.{Place as ContainerPlace}
-use Rattle.cfm_closure.specs.Stores.{Pair, pair_of}
+use Rattle.cfm_store.specs.Stores.{Pair, pair_of}
 use Rattle.cfm_prepare.specs.Fragments.{Present, extents_in, positions}
 use Rattle.cfm_prepare.specs.Placing.{AllPlacedBy, HasNoPlaceAt, LacksPlaceAt, LacksPlaceBy, LacksPlaceFor}
 use Rattle.cfm_prepare.specs.Refusals.{MayNotPrepareNewBy}

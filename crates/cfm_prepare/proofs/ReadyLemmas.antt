@@ -9,7 +9,7 @@ use Rattle.cfm_memory.specs.Extents.{AreApart, AreHeld, Rule, given_back, place_
 use Rattle.cfm_memory.specs.Instances.{Layout, bytes_at, has_length}
 use Rattle.cfm_memory.specs.declared.place.Place.{Place}
 use Rattle.cfm_memory.proofs.Laws.{given_back_elsewhere}
-use Rattle.cfm_closure.specs.Stores.{Pair}
+use Rattle.cfm_store.specs.Stores.{Pair}
 use Rattle.cfm_prepare.specs.Fragments.{Present, all_given_back, places_of, present_at}
 use Rattle.cfm_prepare.specs.Placing.{AllPlacedBy}
 use Rattle.cfm_prepare.specs.Kept.Ready.{AllApart, AllHeld, AreReady}

@@ -2,14 +2,16 @@
 use Rattle.std.proofs.Common.{◌≡◌, ℕ, ◌==◌, ◌<◌, ◌≤◌, Bool, true, false, List, [], ◌∷◌, ◌++◌, Ok, Some, cond, refl, sym, ap, subst, ◌∙◌, inl, inr, length, arith}
 use Rattle.std.proofs.lemmas.Bool.Decides.{eqb_tells}
 use Rattle.cfm_memory.specs.Extents.{Rule}
-use Rattle.cfm_closure.specs.Stores.{Pair, place_of}
+use Rattle.cfm_store.specs.Stores.{Pair, place_of}
 use Rattle.std.specs.Prelude.{option_map, IsSome, ◌⊎◌}
 use Rattle.std.specs.Result.{result_ok}
-use Rattle.cfm_closure.specs.Additions.{MayBeAdded, NamesLibrary, with_put, without_pair}
+use Rattle.cfm_store.specs.Additions.{with_put, without_pair}
+use Rattle.cfm_closure.specs.Additions.{MayBeAdded, NamesLibrary}
 use Rattle.cfm_closure.specs.Fragments.{Fragment, fragment_of}
 use Rattle.cfm_closure.specs.Targets.{target_of}
 use Rattle.cfm_closure.specs.Closures.{Closed, closed_of}
-use Rattle.cfm_closure.proofs.Laws.{AreSame, closed-complete, closed-same, closed-store, fragment_of-same, new-longer, new-same, place_of-below, removed-longer, removed-same, target-same}
+use Rattle.cfm_store.proofs.Laws.{new-longer, place_of-below, removed-longer}
+use Rattle.cfm_closure.proofs.Laws.{AreSame, closed-complete, closed-same, closed-store, fragment_of-same, new-same, removed-same, target-same}
 use Rattle.cfm_prepare.specs.Lists.{has}
 use Rattle.cfm_prepare.proofs.ListLemmas.{has-at, has-contains}
 use Rattle.cfm_prepare.specs.Fragments.{Present, is_present, new_among}

@@ -6,7 +6,7 @@ use Rattle.std.specs.Result.{result_unwrap_or}
 use Rattle.cfm_memory.specs.Extents.{place_at}
 use Rattle.pef_reloc.specs.Applied.{Addresses}
 use Rattle.pef_loader.specs.declared.program_fault.ProgramFault.{ProgramFault}
-use Rattle.cfm_closure.specs.Stores.{Pair}
+use Rattle.cfm_store.specs.Stores.{Pair}
 use Rattle.cfm_closure.specs.Fragments.{import_count}
 use Rattle.cfm_closure.specs.Targets.{target_of}
 use Rattle.cfm_closure.specs.declared.targets.Target.{Target}

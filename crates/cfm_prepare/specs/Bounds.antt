@@ -6,7 +6,7 @@ use Rattle.std.specs.Option.{option_map_or}
 use Rattle.cfm_memory.specs.Extents.{Extent}
 use Rattle.cfm_memory.specs.Placement.{taken}
 use Rattle.cfm_closure.specs.Fragments.{loader_at}
-use Rattle.cfm_closure.specs.Stores.{Pair}
+use Rattle.cfm_store.specs.Stores.{Pair}
 use Rattle.cfm_prepare.specs.Fragments.{extents_in}
 use Rattle.pef_loader.specs.Loader.{Loaded, reloc_of}
 use Rattle.pef_reloc.specs.Headers.{steps_by}

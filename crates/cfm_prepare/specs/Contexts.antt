@@ -6,8 +6,8 @@ use Rattle.std.specs.Prelude.{◌==◌, ℕ, Bool, false, true, List, [], ◌∷
 use Rattle.cfm_memory.specs.Extents.{empty_memory}
 use Rattle.cfm_memory.specs.Instances.{Layout}
 use Rattle.cfm_memory.specs.declared.place.Reserved.{Reserved}
-use Rattle.cfm_closure.specs.Additions.{with_put, without_pair}
-use Rattle.cfm_closure.specs.Stores.{Pair}
+use Rattle.cfm_store.specs.Additions.{with_put, without_pair}
+use Rattle.cfm_store.specs.Stores.{Pair}
 use Rattle.cfm_closure.specs.Closures.{Closed}
 use Rattle.cfm_prepare.specs.Fragments.{Present, new_among}
 use Rattle.cfm_prepare.specs.Lists.{has}

@@ -9,7 +9,7 @@ use Rattle.cfm_memory.specs.declared.place.Place.{Place}
 use Rattle.cfm_prepare.specs.declared.image_fault.ImageFault.{ImageFault}
 use Rattle.pef_reloc.specs.Applied.{Addresses}
 use Rattle.pef_loader.specs.declared.program_fault.ProgramFault.{ProgramFault}
-use Rattle.cfm_closure.specs.Stores.{Pair, pair_of}
+use Rattle.cfm_store.specs.Stores.{Pair, pair_of}
 use Rattle.cfm_closure.specs.Fragments.{container_at, loader_at}
 use Rattle.cfm_prepare.specs.Images.{extents_of, filled_at, first_image_refusal}
 use Rattle.cfm_prepare.specs.Prepared.{first_reloc_refusal, prepared_at}

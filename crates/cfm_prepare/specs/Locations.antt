@@ -8,7 +8,7 @@ use Rattle.pef_format.specs.declared.export.ExportValue.{ExportValue}
 use Rattle.pef_format.specs.declared.export.ExportValue.TheVariants.{Absolute, InSection, Reexport}
 use Rattle.pef_loader.specs.Loader.{Loaded, export_of}
 use Rattle.cfm_closure.specs.Fragments.{loader_at}
-use Rattle.cfm_closure.specs.Stores.{Pair}
+use Rattle.cfm_store.specs.Stores.{Pair}
 use Rattle.cfm_prepare.specs.Contexts.{ContextState, Open}
 use Rattle.cfm_prepare.specs.FragmentExports.{PlacedExport, meant, placed_export_at, placed_seen}
 use Rattle.cfm_prepare.specs.Fragments.{Present, places_of}

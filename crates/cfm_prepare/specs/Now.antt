@@ -3,7 +3,7 @@
 use Rattle.std.specs.Prelude.{ℕ, List}
 use Rattle.cfm_memory.specs.Extents.{ArePlacedBy, Rule, Stand}
 use Rattle.cfm_memory.specs.Instances.{Layout}
-use Rattle.cfm_closure.specs.Stores.{Pair}
+use Rattle.cfm_store.specs.Stores.{Pair}
 use Rattle.cfm_prepare.specs.Addresses.{section_of}
 use Rattle.cfm_prepare.specs.Fragments.{extents_in, places_of, present_of}
 use Rattle.cfm_prepare.specs.Contexts.{ContextState}

@@ -10,7 +10,7 @@ use Rattle.pef_format.specs.declared.place.Part.TheVariants as part
 use Rattle.pef_format.specs.declared.place.Place.{Place as ContainerPlace}
 use Rattle.pef_loader.specs.Places.{place_of}
 use Rattle.cfm_closure.specs.Fragments.{container_at}
-use Rattle.cfm_closure.specs.Stores.{Pair, pair_of}
+use Rattle.cfm_store.specs.Stores.{Pair, pair_of}
 use Rattle.cfm_prepare.specs.Addresses.{first_bad_program, section_of}
 use Rattle.cfm_prepare.specs.Fragments.{Present, StandAll, all_given_back, extents_in, first_bad_image, positions}
 

@@ -10,7 +10,7 @@ use Rattle.pef_format.specs.Exports.{value_of}
 use Rattle.pef_views.specs.Container.{section_of}
 use Rattle.pef_views.specs.declared.section.SectionHeader.{SectionHeader}
 use Rattle.pef_loader.specs.Loader.{export_of, init_of, main_of, named_of, term_of}
-use Rattle.cfm_closure.specs.Stores.{Pair, place_of}
+use Rattle.cfm_store.specs.Stores.{Pair, place_of}
 use Rattle.cfm_closure.specs.Fragments.{container_at, import_count, loader_at}
 use Rattle.cfm_closure.specs.Targets.{target_of}
 use Rattle.cfm_closure.specs.declared.targets.Target.TheVariants.{At}

@@ -1,7 +1,7 @@
 -- A fragment is removed from the store of a context, and why it isn't. The order of the refusals is this project's own rule
 -- (docs/RULES.md, "Binding").
 use Rattle.std.specs.Prelude.{◌≡◌, ℕ, List, None, Some, false, true}
-use Rattle.cfm_closure.specs.Stores.{place_of}
+use Rattle.cfm_store.specs.Stores.{place_of}
 use Rattle.cfm_prepare.specs.Contexts.{ContextState, removed}
 use Rattle.cfm_prepare.specs.Fragments.{is_present}
 use Rattle.cfm_prepare.specs.Steps.{AnyNames}

@@ -4,8 +4,9 @@ use Rattle.std.specs.Prelude.{◌≡◌, ◌⊎◌, IsSome, ◌≤◌, ◌<◌, 
 use Rattle.cfm_memory.specs.Extents.{Rule, at_given, at_lowest}
 use Rattle.cfm_memory.specs.Instances.{Layout}
 use Rattle.cfm_memory.specs.Reservation.{Reserves, Unreserves}
-use Rattle.cfm_closure.specs.Additions.{NamesLibrary, has_room}
-use Rattle.cfm_closure.specs.Stores.{pair_of, place_of}
+use Rattle.cfm_store.specs.Additions.{has_room}
+use Rattle.cfm_closure.specs.Additions.{NamesLibrary}
+use Rattle.cfm_store.specs.Stores.{pair_of, place_of}
 use Rattle.cfm_closure.specs.Faults.{FailsAs}
 use Rattle.cfm_closure.specs.Closures.{Closed, closed_of}
 use Rattle.cfm_prepare.specs.Bounds.{AreWithin, PassesAt, bytes_in, steps_in}

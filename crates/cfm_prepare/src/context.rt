@@ -1,7 +1,7 @@
 ghost use Rattle.std.specs.Prelude.{◌≡◌, ◌<◌, ◌≤◌, ◌+◌, ℕ, List, IfErr, IfOk, IfSome, MatchOption, None, Ok, OnErr, OnOk, Some, length, map, option_map, false, true};
 ghost use Rattle.std.specs.Option.{option_and_then, option_copied};
 ghost use Rattle.cfm_closure.specs.Closures.{Closed, closed_of};
-ghost use Rattle.cfm_closure.specs.Stores.{name_at, place_of};
+ghost use Rattle.cfm_store.specs.Stores.{name_at, place_of};
 ghost use Rattle.cfm_closure.specs.Views.{missing_seen};
 ghost use Rattle.cfm_memory.specs.Placement.{IsClear};
 ghost use Rattle.cfm_memory.specs.Reservation.{IsNoRange, MayNotReserve};

@@ -1,8 +1,8 @@
 //! Laws of the definitions, for the proofs of other crates. The functions do nothing.
 ghost use Rattle.std.specs.Prelude.{◌≡◌, ◌↔◌, ◌++◌, ℕ, List, [], ◌∷◌, Contains, Some, false, option_map, true};
 ghost use Rattle.cfm_memory.specs.Extents.{Rule};
-ghost use Rattle.cfm_closure.specs.Additions.{with_put, without_pair};
-ghost use Rattle.cfm_closure.specs.Stores.{Pair};
+ghost use Rattle.cfm_store.specs.Additions.{with_put, without_pair};
+ghost use Rattle.cfm_store.specs.Stores.{Pair};
 ghost use Rattle.cfm_prepare.specs.Fragments.{is_present, places_of};
 ghost use Rattle.cfm_prepare.specs.Contexts.{ContextState, added, made_state, is_needed, open_of, removed, unused_state};
 ghost use Rattle.cfm_prepare.specs.Now.{IsPreparedNow};

@@ -1,14 +1,15 @@
 -- If a preparation reports an error of a fragment's bytes, an error is found in them.
 use Rattle.std.proofs.Common.{◌≡◌, ◌∙◌, ℕ, ◌≤◌, List, ◌++◌, None, Some, Ok, Err, Contains, inl, inr, sym, ap, subst, arith}
 use Rattle.std.proofs.lemmas.List.Elements.{All-contains}
-use Rattle.cfm_closure.specs.Stores.{Pair, pair_of, place_of}
+use Rattle.cfm_store.specs.Stores.{Pair, pair_of, place_of}
 use Rattle.cfm_closure.specs.Closures.{closed_of}
 use Rattle.cfm_closure.specs.Faults.{BindRefusal, FailsAs, no_container, no_loader}
 use Rattle.cfm_closure.specs.Faults as binds
 use Rattle.cfm_closure.specs.Promises.{IsOfUnread}
 use Rattle.cfm_closure.specs.declared.fault.BindFault.{BindFault}
 use Rattle.cfm_closure.specs.declared.fault.BindFault.TheVariants as bind
-use Rattle.cfm_closure.proofs.Laws.{closed-met, closed-no_container, closed-no_loader, place_of-below, place_of-named}
+use Rattle.cfm_store.proofs.Laws.{place_of-below, place_of-named}
+use Rattle.cfm_closure.proofs.Laws.{closed-met, closed-no_container, closed-no_loader}
 use Rattle.cfm_memory.specs.Extents.{Rule}
 use Rattle.cfm_prepare.specs.Addresses.{addresses_of}
 use Rattle.cfm_prepare.specs.Contexts.{ContextState}

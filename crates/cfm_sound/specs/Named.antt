@@ -1,6 +1,6 @@
 -- Which fragment a preparation names if its bytes are refused, and what is found in them.
 use Rattle.std.specs.Prelude.{◌≡◌, ◌≢◌, ◌≤◌, ℕ, List, [], Some}
-use Rattle.cfm_closure.specs.Stores.{Pair, pair_of, place_of}
+use Rattle.cfm_store.specs.Stores.{Pair, pair_of, place_of}
 use Rattle.cfm_closure.specs.declared.fault.BindFault.{BindFault}
 use Rattle.cfm_closure.specs.declared.fault.BindFault.TheVariants as bind
 use Rattle.cfm_memory.specs.Extents.{Rule}

@@ -1,7 +1,7 @@
 -- What a preparation places is sound.
 use Rattle.std.specs.Prelude.{ℕ, List}
 use Rattle.std.specs.List.{AllByRecursion}
-use Rattle.cfm_closure.specs.Stores.{pair_of}
+use Rattle.cfm_store.specs.Stores.{pair_of}
 use Rattle.cfm_memory.specs.Extents.{Rule}
 use Rattle.cfm_prepare.specs.Contexts.{ContextState}
 use Rattle.cfm_prepare.specs.Fragments.{Present}

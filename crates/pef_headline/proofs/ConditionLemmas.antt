@@ -1,7 +1,7 @@
 -- A preparation that gives a connection met the conditions of the headline: places are unique, and nothing was refused.
 use Rattle.std.proofs.Common.{◌≡◌, ℕ, zero, suc, ◌<◌, List, [], ◌∷◌, ◌++◌, Option, None, Some, Contains, length, slice_index_or, inl, inr, refl, sym, ap₂, subst, ◌∙◌, arith}
 use Rattle.std.specs.Option.{option_or}
-use Rattle.cfm_closure.specs.Stores.{Pair}
+use Rattle.cfm_store.specs.Stores.{Pair}
 use Rattle.cfm_memory.specs.Extents.{ArePlacedBy, Extent, HasNoPlaceBy, IsPlaceBy, LackPlaceBy, Rule, at_given, at_lowest, rule_after}
 use Rattle.cfm_memory.specs.Instances.{Layout}
 use Rattle.cfm_memory.specs.Placement.{IsRoom, with_new}

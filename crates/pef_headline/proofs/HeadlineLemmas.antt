@@ -5,7 +5,7 @@ use Rattle.cfm_memory.specs.Extents.{ArePlacedBy, Rule, at_given, at_lowest}
 use Rattle.cfm_memory.specs.Instances.{Layout}
 use Rattle.cfm_prepare.specs.Addresses.{addresses_of}
 use Rattle.cfm_prepare.specs.Fragments.{Present, extents_in, image_refusal_in, is_present, reloc_refusal_in}
-use Rattle.cfm_closure.specs.Stores.{Pair}
+use Rattle.cfm_store.specs.Stores.{Pair}
 use Rattle.cfm_prepare.specs.Contexts.{ContextState}
 use Rattle.cfm_prepare.specs.Steps.{HasClosure, MayNotPrepareBy, PreparesBy, new_of}
 use Rattle.cfm_prepare.specs.Faults.{fault_number}

@@ -4,7 +4,7 @@ use Rattle.std.specs.List.{slice_get}
 use Rattle.std.specs.Option.{option_and_then, option_map_or}
 use Rattle.std.specs.Result.{result_unwrap_or}
 use Rattle.std.proofs.lemmas.Option.{slice_get-get_or}
-use Rattle.cfm_closure.specs.Stores.{Pair, pair_of}
+use Rattle.cfm_store.specs.Stores.{Pair, pair_of}
 use Rattle.cfm_closure.specs.Fragments.{Fragment, fragment_of, import_at}
 use Rattle.cfm_closure.specs.Libraries.{bound, bound_to, library_at}
 use Rattle.cfm_closure.specs.Targets.{hop, hop_from, hop_of}

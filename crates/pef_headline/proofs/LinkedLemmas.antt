@@ -1,6 +1,6 @@
 -- Linked bytes are read back as the script's container, under any name and in any store.
 use Rattle.std.proofs.Common.{◌≡◌, List, ℕ, Ok, ap, ◌∙◌}
-use Rattle.cfm_closure.specs.Stores.{Pair, pair_of}
+use Rattle.cfm_store.specs.Stores.{Pair, pair_of}
 use Rattle.cfm_closure.specs.Fragments.{Fragment, fragment_of, with_container, with_loader}
 use Rattle.pef_loader.specs.Loader.{Loaded}
 use Rattle.pef_script.specs.Script.{DescribedScript}

@@ -2,7 +2,7 @@
 use Rattle.std.proofs.Common.{◌≡◌, ℕ, Bool, true, false, List, [], None, Some, Ok, Contains, length, option_map, refl, sym, ap, subst, ◌∙◌, inl, inr, arith}
 use Rattle.std.specs.Option.{option_and_then, option_map_or}
 use Rattle.std.specs.Result.{result_ok}
-use Rattle.cfm_closure.specs.Stores.{Pair, pair_of}
+use Rattle.cfm_store.specs.Stores.{Pair, pair_of}
 use Rattle.cfm_closure.specs.Fragments.{Fragment, container_at, fragment_of, import_count, loader_at}
 use Rattle.cfm_prepare.specs.Images.{extents_of, first_image_refusal}
 use Rattle.cfm_prepare.specs.Prepared.{addresses_at, first_reloc_refusal, prepared_at}

@@ -1,7 +1,7 @@
 -- In which memory a fragment was placed: by a preparation, and by the last one of a run before which it wasn't present.
 use Rattle.std.proofs.Common.{◌≡◌, ◌⊎◌, ℕ, length, Bool, true, false, List, [], ◌∷◌, ◌++◌, cond, inl, inr, refl, sym, ap, subst, ◌∙◌}
 use Rattle.std.proofs.lemmas.Bool.Decides.{eqb_tells}
-use Rattle.cfm_closure.specs.Stores.{Pair}
+use Rattle.cfm_store.specs.Stores.{Pair}
 use Rattle.cfm_memory.specs.Extents.{ArePlacedBy, Extent, Rule, at_given, at_lowest, rule_after}
 use Rattle.cfm_memory.proofs.Laws.{after-both, after-none}
 use Rattle.cfm_memory.specs.Instances.{Layout}

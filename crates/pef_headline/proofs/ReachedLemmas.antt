@@ -1,6 +1,6 @@
 -- Which states are reached, and that a fragment that stays is present in each state that a run comes through.
 use Rattle.std.proofs.Common.{ℕ, List, [], ◌∷◌, ◌++◌, inl, inr, refl, sym, subst}
-use Rattle.cfm_closure.specs.Stores.{Pair}
+use Rattle.cfm_store.specs.Stores.{Pair}
 use Rattle.cfm_memory.specs.declared.place.Place.{Place}
 use Rattle.cfm_prepare.specs.Contexts.{ContextState, made_state}
 use Rattle.cfm_prepare.specs.Options.{Choices}

@@ -7,12 +7,13 @@ use Rattle.std.proofs.lemmas.List.{get_or-map, length-map}
 use Rattle.std.proofs.lemmas.List.Elements.{Contains-push}
 use Rattle.std.proofs.lemmas.Option.{slice_get-get_or, slice_get_past}
 use Rattle.cfm_closure.specs.Promises.{LiesInside}
-use Rattle.cfm_closure.specs.Stores.{Pair, place_of}
+use Rattle.cfm_store.specs.Stores.{Pair, place_of}
 use Rattle.cfm_closure.specs.Targets.{target_of}
 use Rattle.cfm_closure.specs.Fragments.{import_count}
 use Rattle.cfm_closure.specs.declared.targets.Target.{Target}
 use Rattle.cfm_closure.specs.declared.targets.Target.TheVariants.{Absolute, At}
-use Rattle.cfm_closure.proofs.Laws.{closed-complete, closed-root, closed-target, place_of-below, target-inside}
+use Rattle.cfm_store.proofs.Laws.{place_of-below}
+use Rattle.cfm_closure.proofs.Laws.{closed-complete, closed-root, closed-target, target-inside}
 use Rattle.cfm_memory.specs.Extents.{Rule, Stand, place_at}
 use Rattle.cfm_memory.specs.Instances.{Layout}
 use Rattle.cfm_memory.specs.declared.place.Place.{Place}

@@ -1,7 +1,8 @@
 -- If new fragments are refused for an image or a relocation header, one of them has bytes that weren't linked.
 use Rattle.std.proofs.Common.{◌≡◌, ℕ, List, ◌++◌, None, Some, Ok, Err, Contains, inl, inr, refl, sym, ap, subst, ◌∙◌, arith}
-use Rattle.cfm_closure.specs.Stores.{Pair, pair_of, place_of}
-use Rattle.cfm_closure.proofs.Laws.{place_of-below, place_of-named, closed-no_container, closed-no_loader}
+use Rattle.cfm_store.specs.Stores.{Pair, pair_of, place_of}
+use Rattle.cfm_store.proofs.Laws.{place_of-below, place_of-named}
+use Rattle.cfm_closure.proofs.Laws.{closed-no_container, closed-no_loader}
 use Rattle.cfm_closure.specs.Faults.{BindRefusal, FailsAs, no_container, no_loader}
 use Rattle.cfm_closure.specs.Faults as binds
 use Rattle.cfm_closure.specs.declared.fault.BindFault.{BindFault}

@@ -12,7 +12,7 @@ use Rattle.cfm_closure.specs.Faults.{BindRefusal, reexport_loop, symbol_missing}
 use Rattle.cfm_closure.specs.Fragments.{Fragment, import_at, import_count, import_place, loader_at}
 use Rattle.cfm_closure.specs.Libraries.{bound, bound_to, library_at}
 use Rattle.cfm_closure.specs.Orders.{HasLibrary, IsComplete, IsMember}
-use Rattle.cfm_closure.specs.Stores.{Pair, pair_of}
+use Rattle.cfm_store.specs.Stores.{Pair, pair_of}
 use Rattle.cfm_closure.specs.Targets.{Hop, ends, exported, exports_in, follow, followed, hop, hop_by, hop_to, symbol_of as import_name, target_of, through}
 use Rattle.cfm_closure.specs.declared.targets.Target.{Target}
 use Rattle.cfm_closure.specs.declared.targets.Target.TheVariants.{Absolute, At}

@@ -3,7 +3,7 @@
 -- no more halfwords than any repeat-free program that makes the script's fixups, each once and in address order."
 use Rattle.std.specs.Prelude.{◌≡◌, ℕ, ◌<◌, true, List, ◌++◌, None, Some, Result, Ok, Err, Contains, slice_get}
 use Rattle.cfm_memory.specs.Extents.{Rule, at_given, at_lowest}
-use Rattle.cfm_closure.specs.Stores.{Pair, pair_of, place_of}
+use Rattle.cfm_store.specs.Stores.{Pair, pair_of, place_of}
 use Rattle.cfm_closure.specs.Fragments.{Fragment, fragment_of}
 use Rattle.cfm_closure.specs.Closures.{Closed, closed_of}
 use Rattle.cfm_prepare.specs.Addresses.{addresses_of}

@@ -2,7 +2,7 @@
 -- and `import`; PEFImportedSymbol and PEFImportedLibrary of PEFBinaryFormat.h).
 use Rattle.std.specs.Prelude.{◌≡◌, ℕ, List, None, Ok, Some, length, slice_get}
 use Rattle.std.specs.Result.{result_unwrap_or}
-use Rattle.cfm_closure.specs.Stores.{Pair}
+use Rattle.cfm_store.specs.Stores.{Pair}
 use Rattle.cfm_closure.specs.Fragments.{Fragment, fragment_of}
 use Rattle.cfm_closure.specs.Libraries.{bound}
 use Rattle.cfm_closure.specs.Targets.{hop, hop_from}

@@ -1,7 +1,7 @@
 -- From a text to the bytes that a caller of the library reads (docs/SCRIPTS.md; docs/EMBEDDING.md). The words are those
 -- of the calls' own clauses: what a text is, which bytes `link` gives, what `prepare` does, and what the readers return.
 use Rattle.std.specs.Prelude.{◌≡◌, ℕ, ◌+◌, ◌<◌, ◌≤◌, ◌%◌, ◌^◌, List, Option, None, Some, Ok, length}
-use Rattle.cfm_closure.specs.Stores.{Pair}
+use Rattle.cfm_store.specs.Stores.{Pair}
 use Rattle.cfm_closure.specs.Targets.{target_of}
 use Rattle.cfm_closure.specs.declared.targets.Target.{Target}
 use Rattle.cfm_closure.specs.declared.targets.Target.TheVariants.{Absolute, At}

@@ -1,7 +1,7 @@
 -- When a fragment of a context has the memory that a script describes (docs/SCRIPTS.md, `section`, `bytes`, `fix`,
 -- `tvector`), with the present addresses.
 use Rattle.std.specs.Prelude.{ℕ, List, length, map}
-use Rattle.cfm_closure.specs.Stores.{Pair}
+use Rattle.cfm_store.specs.Stores.{Pair}
 use Rattle.cfm_prepare.specs.Prepared.{addresses_at}
 use Rattle.cfm_memory.specs.Extents.{ArePlacedBy, Extent, Rule, Stand}
 use Rattle.cfm_memory.specs.Instances.{Layout}

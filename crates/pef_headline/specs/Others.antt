@@ -1,6 +1,6 @@
 -- Fragments that are refused, and that the linker doesn't write.
 use Rattle.std.specs.Prelude.{◌≡◌, ℕ, List, Contains, Some}
-use Rattle.cfm_closure.specs.Stores.{Pair, pair_of, place_of}
+use Rattle.cfm_store.specs.Stores.{Pair, pair_of, place_of}
 use Rattle.pef_headline.specs.Headline.{IsForeign}
 
 -- one of some fragments of a store has this name and is foreign

@@ -1,7 +1,7 @@
 //! The headline, and the laws of its conditions, of refusals, of imports, and from a text to memory. They are laws of the
 //! definitions in which the crates below state their contracts. The functions do nothing.
 ghost use Rattle.std.specs.Prelude.{◌≡◌, ℕ, List, None, Some, Err, Contains, Result, slice_get, true};
-ghost use Rattle.cfm_closure.specs.Stores.{Pair, place_of};
+ghost use Rattle.cfm_store.specs.Stores.{Pair, place_of};
 ghost use Rattle.cfm_closure.specs.Faults.{no_container, no_loader};
 ghost use Rattle.cfm_closure.specs.Closures.{closed_of};
 ghost use Rattle.cfm_closure.specs.Fragments.{import_at};

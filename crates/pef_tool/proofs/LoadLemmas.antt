@@ -1,7 +1,7 @@
 -- Files that are read one after the other, and the fragment that is prepared from them.
 use Rattle.std.proofs.Common.{◌≡◌, ℕ, zero, suc, ◌+◌, ◌<◌, ◌≤◌, ◌==◌, ◌^◌, Bool, false, List, [], ◌∷◌, ◌++◌, Ok, inl, inr, length, get_or, map, take, drop, refl, sym, ap, subst, ◌∙◌, arith}
 use Rattle.std.proofs.lemmas.List.{map_more, take-map, take_all}
-use Rattle.cfm_closure.specs.Stores.{Pair}
+use Rattle.cfm_store.specs.Stores.{Pair}
 use Rattle.cfm_memory.specs.Extents.{given_back}
 use Rattle.cfm_memory.specs.Instances.{Layout, with_instances, without}
 use Rattle.cfm_memory.specs.declared.place.Place.{Place}

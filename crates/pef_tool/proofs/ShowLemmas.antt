@@ -2,7 +2,7 @@
 -- missing, and its bytes are never the reason.
 use Rattle.std.proofs.Common.{◌≡◌, ℕ, zero, suc, List, [], ◌∷◌, Some, Ok, Err, Contains, codes, inl, inr, refl, sym, ap, subst, ◌∙◌, arith}
 use Rattle.std.specs.Option.{option_and_then, option_map_or, unwrap_or}
-use Rattle.cfm_closure.specs.Stores.{Pair, name_at, pair_of}
+use Rattle.cfm_store.specs.Stores.{Pair, name_at, pair_of}
 use Rattle.cfm_closure.specs.Faults.{BindRefusal, FailsAs}
 use Rattle.cfm_closure.specs.Fragments.{loader_at}
 use Rattle.cfm_closure.specs.declared.fault.BindFault.{BindFault}

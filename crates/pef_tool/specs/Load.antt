@@ -2,7 +2,7 @@
 -- them. Then it prepares the fragment of the first name in a store of all files, and prints the memory of its closure.
 -- It makes no other call on files.
 use Rattle.std.specs.Prelude.{◌≡◌, ◌⊎◌, ℕ, ◌<◌, List, [], ◌∷◌, ◌++◌, Ok, Err, false, length, take}
-use Rattle.cfm_closure.specs.Stores.{Pair}
+use Rattle.cfm_store.specs.Stores.{Pair}
 use Rattle.cfm_prepare.specs.Contexts.{ContextState, fresh_state}
 use Rattle.cfm_prepare.specs.Steps.{MayNotPrepare, Prepares}
 use Rattle.cfm_prepare.specs.declared.fault.PrepareFault.{PrepareFault}

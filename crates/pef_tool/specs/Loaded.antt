@@ -3,7 +3,7 @@
 -- termination routines in the reverse order.
 use Rattle.std.specs.Prelude.{ℕ, List, [], ◌∷◌, ◌++◌, Option, codes, map}
 use Rattle.std.specs.Option.{option_and_then, option_map_or, unwrap_or}
-use Rattle.cfm_closure.specs.Stores.{name_at}
+use Rattle.cfm_store.specs.Stores.{name_at}
 use Rattle.cfm_prepare.specs.Fragments.{places_of}
 use Rattle.cfm_prepare.specs.Contexts.{ContextState, open_of}
 use Rattle.cfm_prepare.specs.Readers.{entries_of, main_address}

@@ -1,8 +1,8 @@
 -- The tables of a closure order: its fragments and the fragments of their library entries.
 use Rattle.std.specs.Prelude.{◌≡◌, ℕ, ◌≤◌, List, length, Option}
 use Rattle.std.specs.List.{AllByRecursion}
-use Rattle.cfm_closure.specs.Stores.{Pair}
-use Rattle.cfm_closure.specs.Limits.{most_pairs}
+use Rattle.cfm_store.specs.Stores.{Pair}
+use Rattle.cfm_store.specs.Limits.{most_pairs}
 use Rattle.cfm_closure.specs.declared.fragment.ClosedFragment.{ClosedFragment}
 use Rattle.cfm_closure.specs.Orders.{IsComplete}
 use Rattle.cfm_closure.specs.Kept.Paths.{IsWalked}

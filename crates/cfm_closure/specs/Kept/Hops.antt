@@ -1,6 +1,6 @@
 -- The next steps in the code.
 use Rattle.std.specs.Prelude.{◌≡◌, ℕ, ◌<◌, List, Result, Ok, Err, Contains}
-use Rattle.cfm_closure.specs.Stores.{Pair}
+use Rattle.cfm_store.specs.Stores.{Pair}
 use Rattle.cfm_closure.specs.declared.fault.BindFault.{BindFault}
 use Rattle.cfm_closure.specs.Faults.{BindRefusal, FailsAs}
 use Rattle.cfm_closure.specs.Fragments.{import_count}

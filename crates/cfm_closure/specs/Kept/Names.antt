@@ -1,7 +1,7 @@
 -- The exports of a closure's fragments by their names, as far as they were asked for.
 use Rattle.std.specs.Prelude.{◌≡◌, ℕ, List, length, slice_index_or, Option, None, Some}
 use Rattle.pef_loader.specs.Loader.{Loaded}
-use Rattle.cfm_closure.specs.Stores.{Pair}
+use Rattle.cfm_store.specs.Stores.{Pair}
 use Rattle.cfm_closure.specs.Fragments.{loader_at}
 use Rattle.cfm_closure.specs.Orders.{IsComplete}
 use Rattle.cfm_closure.specs.declared.export_names.ExportNames.{ExportNames}

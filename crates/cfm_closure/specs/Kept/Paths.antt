@@ -2,7 +2,7 @@
 -- library entries that are.
 use Rattle.std.specs.Prelude.{◌≡◌, ℕ, ◌+◌, ◌-◌, ◌*◌, ◌<◌, ◌≤◌, Bool, false, List, [], ◌∷◌, length, slice_get, slice_index_or, Option, None, Some, Result, Ok, Err}
 use Rattle.std.specs.List.{AllByRecursion}
-use Rattle.cfm_closure.specs.Stores.{Pair}
+use Rattle.cfm_store.specs.Stores.{Pair}
 use Rattle.pef_words.specs.Results.{◌>>=◌}
 use Rattle.cfm_closure.specs.declared.fault.BindFault.{BindFault}
 use Rattle.cfm_closure.specs.declared.fragment.ClosedFragment.{ClosedFragment}

@@ -1,6 +1,6 @@
 -- The state of the search for targets.
 use Rattle.std.specs.Prelude.{◌≡◌, ℕ, ◌≤◌, ◌^◌, List}
-use Rattle.cfm_closure.specs.Stores.{Pair}
+use Rattle.cfm_store.specs.Stores.{Pair}
 use Rattle.cfm_closure.specs.declared.resolve.Resolver.{Resolver}
 use Rattle.cfm_closure.specs.Targets.{exports_among}
 use Rattle.cfm_closure.specs.Kept.Names.{AreNamesOf}

@@ -11,7 +11,7 @@ use Rattle.cfm_closure.specs.declared.search.Visit.{Visit}
 use Rattle.cfm_closure.specs.Faults.{BindRefusal, FailsAs}
 use Rattle.cfm_closure.specs.Kept.Views.{AreRead}
 use Rattle.cfm_closure.specs.Missing.{Sought, search, search_from, was_visited}
-use Rattle.cfm_closure.specs.Stores.{Pair}
+use Rattle.cfm_store.specs.Stores.{Pair}
 use Rattle.cfm_closure.specs.Walk.{left}
 
 -- a served entry has a fragment of the store

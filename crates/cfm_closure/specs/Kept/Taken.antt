@@ -1,6 +1,6 @@
 -- The state while fragments are taken for initialization.
 use Rattle.std.specs.Prelude.{◌≡◌, ℕ, ◌<◌, List, [], length, replicate, slice_index_or, false, None}
-use Rattle.cfm_closure.specs.Stores.{Pair}
+use Rattle.cfm_store.specs.Stores.{Pair}
 use Rattle.cfm_closure.specs.Orders.{IsComplete}
 use Rattle.cfm_closure.specs.Walk.{Walked}
 use Rattle.cfm_closure.specs.declared.init_order.InitState.{InitState}

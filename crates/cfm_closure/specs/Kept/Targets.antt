@@ -1,7 +1,7 @@
 -- The known targets of imports while they are searched.
 use Rattle.std.specs.Prelude.{◌≡◌, ℕ, ◌<◌, List, [], length, slice_index_or, Option, None, Some, Result, Ok, Err, Contains, IsSome}
 use Rattle.pef_words.specs.Refusals.{unless}
-use Rattle.cfm_closure.specs.Stores.{Pair}
+use Rattle.cfm_store.specs.Stores.{Pair}
 use Rattle.cfm_closure.specs.declared.fault.BindFault.{BindFault}
 use Rattle.cfm_closure.specs.Faults.{BindRefusal, FailsAs}
 use Rattle.cfm_closure.specs.Fragments.{import_count}

@@ -1,7 +1,7 @@
 -- The effect of a walk.
 use Rattle.std.specs.Prelude.{◌≡◌, ◌≢◌, ℕ, ◌+◌, ◌<◌, ◌≤◌, Bool, true, false, List, length, slice_index_or, Option, None, Some, Ok, Contains, AllPairs, ◌⊎◌, if◌then◌else◌}
 use Rattle.std.specs.Option.{option_and_then}
-use Rattle.cfm_closure.specs.Stores.{Pair}
+use Rattle.cfm_store.specs.Stores.{Pair}
 use Rattle.cfm_closure.specs.Fragments.{Fragment, fragment_of}
 use Rattle.cfm_closure.specs.Libraries.{bound_to}
 use Rattle.cfm_closure.specs.Walk.{Walked, is_marked, left}

@@ -1,7 +1,7 @@
 -- What is left of a bound, fragment by fragment.
 use Rattle.std.specs.Prelude.{◌≡◌, ℕ, ◌-◌, List, [], ◌∷◌, Option, None, Some, if◌then◌else◌, nat_le}
 use Rattle.std.specs.Option.{option_map_or}
-use Rattle.cfm_closure.specs.Stores.{Pair, pair_of}
+use Rattle.cfm_store.specs.Stores.{Pair, pair_of}
 use Rattle.cfm_prepare.specs.Bounds.{AreWithin, PassesAt, bytes_in, steps_in}
 use Rattle.cfm_prepare.specs.Options.{Bounds}
 use Rattle.cfm_prepare.specs.declared.bounds.Measure.{Measure}

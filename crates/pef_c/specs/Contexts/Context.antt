@@ -1,6 +1,6 @@
 -- What the calls return and write that change a context. 202 means that it isn't open.
 use Rattle.std.specs.Prelude.{◌≡◌, ◌==◌, ℕ, List, [], Option, None, Some, MatchBool, MatchOption}
-use Rattle.cfm_closure.specs.Stores.{place_of}
+use Rattle.cfm_store.specs.Stores.{place_of}
 use Rattle.cfm_memory.specs.Faults.{fault_number as memory_fault_number}
 use Rattle.cfm_memory.specs.Reservation.{IsNoRange, MayNotReserve}
 use Rattle.cfm_memory.specs.declared.place.MemoryFault.{MemoryFault}

@@ -2,7 +2,7 @@
 //! the caller's memory.
 ghost use Rattle.std.specs.Prelude.{◌≡◌, Some, length, option_map};
 ghost use Rattle.std.specs.Option.{option_and_then, option_copied};
-ghost use Rattle.cfm_closure.specs.Stores.{name_at};
+ghost use Rattle.cfm_store.specs.Stores.{name_at};
 ghost use Rattle.cfm_prepare.specs.Contexts.{open_of};
 ghost use Rattle.cfm_prepare.specs.Fragments.{places_of};
 ghost use Rattle.cfm_prepare.specs.Readers.{entries_of, has_present, symbol_of};

@@ -1,6 +1,6 @@
 -- How the preparation of one fragment, in a context of its own, ends, and the answer for each end.
 use Rattle.std.specs.Prelude.{ℕ, List}
-use Rattle.cfm_closure.specs.Stores.{Pair}
+use Rattle.cfm_store.specs.Stores.{Pair}
 use Rattle.cfm_prepare.specs.Contexts.{ContextState, fresh_state}
 use Rattle.cfm_prepare.specs.Steps.{MayNotPrepare, Prepares}
 use Rattle.cfm_prepare.specs.declared.fault.PrepareFault.{PrepareFault}

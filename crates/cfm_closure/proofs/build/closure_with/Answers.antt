@@ -4,7 +4,7 @@ use Rattle.cfm_closure.specs.Closures.{first_refused}
 use Rattle.cfm_closure.specs.Initialization.{init_order_of}
 use Rattle.cfm_closure.specs.Kept.Caches.{IsOrderOfClosure}
 use Rattle.cfm_closure.specs.Kept.Targets.{Ordered}
-use Rattle.cfm_closure.specs.Stores.{Pair}
+use Rattle.cfm_store.specs.Stores.{Pair}
 use Rattle.cfm_closure.proofs.ClosedLemmas.{closed-made}
 use Rattle.cfm_closure.proofs.build.closure_with.Goals as goal
 

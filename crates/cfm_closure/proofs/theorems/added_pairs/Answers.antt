@@ -1,9 +1,10 @@
 use Rattle.std.proofs.Common.{None, ap, ◌∙◌}
 use Rattle.std.specs.Prelude.{is_some}
-use Rattle.cfm_closure.specs.Additions.{with_pair}
+use Rattle.cfm_store.specs.Additions.{with_pair}
 use Rattle.cfm_closure.proofs.AbsentLemmas.{closed-missing}
 use Rattle.cfm_closure.proofs.SameLemmas.{fragment_of-same}
-use Rattle.cfm_closure.proofs.StoreLemmas.{closed-placed, pair_of-with, placed-place, target-placed}
+use Rattle.cfm_store.proofs.Laws.{pair_of-with, placed-place}
+use Rattle.cfm_closure.proofs.StoreLemmas.{closed-placed, target-placed}
 use Rattle.cfm_closure.proofs.theorems.added_pairs.Goals as goal
 
 pub returns : goal.returns

@@ -1,4 +1,5 @@
-use Rattle.cfm_closure.proofs.StoreLemmas.{closed-removed, fragment-removed, removed-place, target-removed}
+use Rattle.cfm_store.proofs.Laws.{removed-place}
+use Rattle.cfm_closure.proofs.StoreLemmas.{closed-removed, fragment-removed, target-removed}
 use Rattle.cfm_closure.proofs.theorems.removed_pairs.Goals as goal
 
 pub returns : goal.returns

@@ -1,5 +1,6 @@
-use Rattle.cfm_closure.specs.Additions.{free_for, with_put}
-use Rattle.cfm_closure.proofs.StoreLemmas.{closed-placed, fragment-new, free-place, new-end, place_of-new, target-placed}
+use Rattle.cfm_store.specs.Additions.{free_for, with_put}
+use Rattle.cfm_store.proofs.Laws.{free-place, new-end, place_of-new}
+use Rattle.cfm_closure.proofs.StoreLemmas.{closed-placed, fragment-new, target-placed}
 use Rattle.cfm_closure.proofs.theorems.stored_pairs.Goals as goal
 
 pub returns : goal.returns

@@ -1,6 +1,6 @@
 -- A fragment of the order is in its place.
 use Rattle.std.proofs.Common.{◌≡◌, ◌∙◌, Some, ap, map, sym, subst}
-use Rattle.cfm_closure.specs.Seen.{place_seen}
+use Rattle.cfm_store.specs.Seen.{place_seen}
 use Rattle.cfm_closure.specs.Kept.Paths.{IsClosed, IsWalked}
 use Rattle.cfm_closure.specs.Kept.Rows.{row_of}
 use Rattle.cfm_closure.proofs.OrderFacts.{all-contains}

@@ -1,6 +1,6 @@
 -- The row of the fragment has the target.
 use Rattle.std.proofs.Common.{map}
-use Rattle.cfm_closure.specs.Seen.{place_seen}
+use Rattle.cfm_store.specs.Seen.{place_seen}
 use Rattle.cfm_closure.specs.Kept.Resolutions.{meant}
 use Rattle.cfm_closure.proofs.NoteLemmas.{are-noted, keeps-noted, known-in, same-noted}
 use Rattle.cfm_closure.proofs.bindings.Bindings.note.Goals as goal

@@ -1,6 +1,6 @@
 -- The tables of the walk are those of its order.
 use Rattle.std.proofs.Common.{map, ap, sym, subst, ◌∙◌, rules}
-use Rattle.cfm_closure.specs.Seen.{place_seen}
+use Rattle.cfm_store.specs.Seen.{place_seen}
 use Rattle.cfm_closure.specs.Kept.Bindings.{AreBindings}
 use Rattle.cfm_closure.proofs.OrderFacts.{order-complete}
 use Rattle.cfm_closure.proofs.bindings.Bindings.of.Goals as goal

@@ -1,7 +1,7 @@
 -- A pair whose name the store has, or no fragment that is kept has as a library, changes no targets.
 use Rattle.std.proofs.Common.{◌∙◌, ℕ, Option, false, not, ap, subst, inl, inr}
 use Rattle.std.specs.Prelude.{IsSome}
-use Rattle.cfm_closure.specs.Stores.{Pair}
+use Rattle.cfm_store.specs.Stores.{Pair}
 use Rattle.cfm_closure.proofs.CacheLemmas.{cache_stays, cache_with}
 use Rattle.cfm_closure.proofs.cache.Cache.forget_changed.Goals as goal
 use Rattle.cfm_closure.proofs.cache.Cache.forget_changed.Goals.{else-is_none-via-then-is_none+else-names_library, else-is_none-via-else-is_none}

@@ -6,7 +6,7 @@ use Rattle.pef_loader.specs.Library.{Library}
 use Rattle.pef_loader.specs.Loader.{library_of}
 use Rattle.cfm_closure.specs.Fragments.{loader_at}
 use Rattle.cfm_closure.specs.Kept.Views.{AreRead}
-use Rattle.cfm_closure.specs.Stores.{Pair}
+use Rattle.cfm_store.specs.Stores.{Pair}
 use Rattle.cfm_closure.proofs.cache.Cache.names_library.Given as goal
 
 abbrev pub invariant-loop-p : goal.invariant-loop-p

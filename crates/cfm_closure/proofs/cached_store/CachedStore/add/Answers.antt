@@ -1,7 +1,7 @@
 -- What is kept stays right, with the pair and without it.
 use Rattle.std.proofs.Common.{None, false, inl, refl}
 use Rattle.cfm_closure.proofs.CacheLemmas.{cache_added}
-use Rattle.cfm_closure.specs.Additions.{with_pair}
+use Rattle.cfm_store.specs.Additions.{with_pair}
 use Rattle.cfm_closure.proofs.cached_store.CachedStore.add.Goals as goal
 
 pub invariant_of-self : goal.invariant_of-self

@@ -2,7 +2,7 @@
 use Rattle.std.proofs.Common.{map, ap}
 use Rattle.cfm_closure.specs.Kept.Notes.{name_pair}
 use Rattle.cfm_closure.specs.Views.{missing_seen}
-use Rattle.cfm_closure.proofs.PlaceLemmas.{ArePlaces-nil}
+use Rattle.cfm_store.proofs.Laws.{ArePlaces-nil}
 use Rattle.cfm_closure.proofs.notes.Notes.new.Goals as goal
 
 pub invariant_of-result : goal.invariant_of-result

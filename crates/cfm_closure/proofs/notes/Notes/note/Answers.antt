@@ -3,7 +3,7 @@ use Rattle.std.proofs.Common.{◌∙◌, ◌&&◌, not, List, map, sym, ap, arit
 use Rattle.cfm_closure.specs.declared.missing.MissingLibrary.{MissingLibrary}
 use Rattle.cfm_closure.specs.Kept.Notes.{name_pair}
 use Rattle.cfm_closure.specs.Missing.{Missing, noted}
-use Rattle.cfm_closure.specs.Stores.{place_of}
+use Rattle.cfm_store.specs.Stores.{place_of}
 use Rattle.cfm_closure.specs.Views.{missing_seen}
 use Rattle.cfm_closure.proofs.NotedLemmas.{known-inside, named-set, noted-same, noted-stricter}
 use Rattle.cfm_closure.proofs.notes.Notes.note.Goals as goal

@@ -1,6 +1,6 @@
 -- There are as many addresses as new sections, or that is why nothing is prepared.
 use Rattle.std.proofs.Common.{◌≡◌, Some, length, sym, subst, arith}
-use Rattle.cfm_closure.specs.Stores.{place_of}
+use Rattle.cfm_store.specs.Stores.{place_of}
 use Rattle.cfm_memory.specs.Extents.{at_given}
 use Rattle.cfm_prepare.specs.Contexts.{ContextState}
 use Rattle.cfm_prepare.specs.NewSections.{AreNewSections}

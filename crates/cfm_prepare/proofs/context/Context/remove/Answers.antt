@@ -1,6 +1,6 @@
 -- The store alone changes.
 use Rattle.std.proofs.Common.{List, ap, sym}
-use Rattle.cfm_closure.specs.Stores.{Pair}
+use Rattle.cfm_store.specs.Stores.{Pair}
 use Rattle.cfm_prepare.specs.Contexts.{ContextState}
 use Rattle.cfm_prepare.specs.Made.{choices_of}
 use Rattle.cfm_prepare.proofs.context.Context.remove.Goals as goal

@@ -2,7 +2,7 @@
 use Rattle.std.proofs.Common.{◌≡◌, ◌<◌, List, Some, sym, ap, subst, ◌∙◌}
 use Rattle.std.proofs.lemmas.Result.{err_from_is_err_and}
 use Rattle.cfm_closure.specs.Closures.{closed_of}
-use Rattle.cfm_closure.specs.Stores.{Pair, place_of}
+use Rattle.cfm_store.specs.Stores.{Pair, place_of}
 use Rattle.cfm_closure.specs.Faults.{FailsAs}
 use Rattle.cfm_closure.proofs.Laws.{closed-store}
 use Rattle.cfm_prepare.specs.Contexts.{ContextState}

@@ -1,0 +1,7 @@
+mod ChangeLemmas
+mod GrowLemmas
+mod IndexLemmas
+pub mod Laws
+mod NameLemmas
+mod NumberLemmas
+mod PlaceLemmas

@@ -1,0 +1,4 @@
+-- Definitions for private contracts and proofs. No public clause cites them.
+pub mod NameIndexes
+pub mod Numbers
+pub mod Places

@@ -1,0 +1,9 @@
+pub mod Additions
+pub mod Exported
+pub mod Kept
+pub mod Lending
+pub mod Limits
+pub mod Places
+pub mod Seen
+pub mod StoreFaults
+pub mod Stores
