@@ -1,13 +1,12 @@
 -- A closure stays what it is when a pair is put into the store, and when one is removed.
-use Rattle.std.proofs.Common.{◌≡◌, ℕ, ◌<◌, ◌≤◌, Bool, true, false, List, [], ◌∷◌, length, Option, None, Some, Ok, Err, cond, refl, sym, ap, ◌∙◌, subst, inl, inr, arith, Contains, get_or, set}
+use Rattle.std.proofs.Common.{◌≡◌, ℕ, ◌<◌, List, length, Option, None, Some, Ok, Err, sym, ap, ◌∙◌, subst, inl, inr, Contains, get_or, set}
 use Rattle.std.specs.Prelude.{IfSome, IsSome, is_some, Result}
 use Rattle.std.proofs.lemmas.Bool.{cases_lt}
-use Rattle.std.proofs.lemmas.Bool.Decides.{eqb_tells}
-use Rattle.std.proofs.lemmas.List.{get_or-set_other, get_or_append_left, get_or_past, length-set, length_push}
+use Rattle.std.proofs.lemmas.List.{get_or_past}
 use Rattle.pef_views.specs.Container.{container_of}
 use Rattle.pef_views.specs.Header.{header_of}
 use Rattle.pef_words.specs.Bytes.{number_at}
-use Rattle.cfm_store.specs.Additions.{free_for, free_from, placed_at, with_put, with_pair, without_pair}
+use Rattle.cfm_store.specs.Additions.{free_for, placed_at, with_put, without_pair}
 use Rattle.cfm_closure.specs.Additions.{MayBeAdded, MayBeRemoved, NamesLibrary}
 use Rattle.cfm_closure.specs.Closures.{Closed, closed_of}
 use Rattle.cfm_closure.specs.Faults.{BindRefusal}
