@@ -1,19 +1,12 @@
 -- New instances at some places, with bytes that are given.
-use Rattle.std.proofs.Common.{◌≡◌, ◌≢◌, ℕ, zero, suc, ◌<◌, List, [], ◌∷◌, length, refl, sym, ap, ◌∙◌, arith}
-use Rattle.cfm_memory.specs.Extents.{AreApart, Stand, given_back, place_at}
-use Rattle.cfm_memory.specs.Instances.{Layout, bytes_at, with_instance, with_instances, without}
+use Rattle.std.proofs.Common.{◌≡◌, ◌≢◌, ℕ, zero, suc, ◌-◌, ◌<◌, ◌≤◌, List, [], ◌∷◌, ◌++◌, length, replicate, refl, sym, ap, ◌∙◌, arith, length-append}
+use Rattle.std.proofs.lemmas.List.{length-replicate}
+use Rattle.pef_words.specs.Bytes.{filled}
+use Rattle.cfm_memory.specs.Extents.{AreApart, Stand, given_back, place_at, with_filled, with_one}
+use Rattle.cfm_memory.specs.Instances.{Layout, bytes_at, with_instances, without}
 use Rattle.cfm_memory.specs.declared.place.Place.{Place}
 use Rattle.cfm_memory.proofs.Contents.{placed_here, placed_other}
 use Rattle.cfm_memory.proofs.GivenBack.{given_back_without, without_new}
-
--- memory with one new instance more
-abbrev with_one : Layout → Place → List ℕ → Layout
-with_one m p bytes = with_instances m (with_instance m.instances (record { address = p.address; bytes = bytes }))
-
--- memory with a new instance at each of some places, each with the bytes that are given for its number
-abbrev pub with_filled : Layout → List Place → (ℕ → List ℕ) → Layout
-with_filled m [] bytes = m
-with_filled m (p ∷ places) bytes = with_filled (with_one m p (bytes 0)) places (λ k. bytes (suc k))
 
 -- new instances that are removed leave the earlier instances
 pub filled_given_back : (m : Layout) (places : List Place) (bytes : ℕ → List ℕ) → given_back (with_filled m places bytes) places ≡ m
@@ -39,3 +32,12 @@ filled_stand m (p ∷ places) bytes apart zero under =
     ∙ placed_here m.instances (record { address = p.address; bytes = bytes 0 })
 filled_stand m (p ∷ places) bytes apart (suc k) under =
     filled_stand (with_one m p (bytes 0)) places (λ j. bytes (suc j)) (λ i j less low. apart (suc i) (suc j) (omega (arith, less)) (omega (arith, low))) k (omega (arith, under))
+
+-- one place more
+pub filled_next : (m : Layout) (places : List Place) (p : Place) (bytes : ℕ → List ℕ) → with_filled m (places ++ p ∷ []) bytes ≡ with_one (with_filled m places bytes) p (bytes (length places))
+filled_next m [] p bytes = refl
+filled_next m (q ∷ places) p bytes = filled_next (with_one m q (bytes 0)) places p (λ k. bytes (suc k))
+
+-- an image and the zeros after it have the length that is given
+pub length_filled : (image : List ℕ) (size : ℕ) → length image ≤ size → length (filled image size) ≡ size
+length_filled image size fits = omega (arith, fits, length-append image (replicate (size - length image) 0), length-replicate {A = ℕ} (size - length image) 0)

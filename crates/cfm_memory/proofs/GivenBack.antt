@@ -1,7 +1,7 @@
 -- A memory after some instances are removed, whatever was written to them.
 use Rattle.std.proofs.Common.{◌<◌, ◌==◌, ◌∙◌, ◌∷◌, ◌≡◌, ◌≢◌, IsTrue, List, [], ap, arith, inl, inr, length, refl, suc, sym, zero, ℕ}
 use Rattle.std.proofs.lemmas.Bool.Decides.{eqb_tells, leb_tells}
-use Rattle.cfm_memory.specs.Extents.{ArePlacedBy, Extent, Rule, given_back, place_at, rule_after}
+use Rattle.cfm_memory.specs.Extents.{ArePlacedBy, Extent, Rule, given_back, place_at, rule_after, with_one}
 use Rattle.cfm_memory.specs.Instances.{Instance, Layout, bytes_at, has_length, holds_place, with_bytes, with_instance, with_instances, without}
 use Rattle.cfm_memory.specs.Placement.{with_new}
 use Rattle.cfm_memory.specs.declared.place.Place.{Place}
@@ -21,8 +21,8 @@ without_new (x ∷ xs) y =
       | inr above ↦ rw above.0 (elim (eqb_tells y.address y.address) [ inl same ↦ rw same.0 refl | inr other ↦ absurd (other.1 refl) ])
     ]
 
-pub new_given_back : (m : Layout) (p : Place) → with_instances (with_new m p) (without (with_new m p).instances p.address) ≡ m
-new_given_back m p = ap (with_instances m) (without_new m.instances (record { address = p.address; bytes = replicate p.size 0 }))
+pub one_given_back : (m : Layout) (p : Place) (bytes : List ℕ) → with_instances (with_one m p bytes) (without (with_one m p bytes).instances p.address) ≡ m
+one_given_back m p bytes = ap (with_instances m) (without_new m.instances (record { address = p.address; bytes = bytes }))
 
 -- two instances may be removed in either order
 without_both : (xs : List Instance) (a b : ℕ) → without (without xs a) b ≡ without (without xs b) a
@@ -53,7 +53,7 @@ placed_given_back rule m (e ∷ extents) [] after placed = absurd placed
 placed_given_back rule m (e ∷ extents) (p ∷ places) after placed =
     given_back_without after p.address places
     ∙ ap (λ (k : Layout). with_instances k (without k.instances p.address)) (placed_given_back (rule_after rule 1) (with_new m p) extents places after placed.1)
-    ∙ new_given_back m p
+    ∙ one_given_back m p (replicate p.size 0)
 
 -- bytes written to an instance are removed with it
 without_written : (xs : List Instance) (address : ℕ) (w : List ℕ) → without (with_bytes xs address w) address ≡ without xs address

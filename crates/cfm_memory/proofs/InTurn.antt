@@ -2,7 +2,7 @@
 use Rattle.std.proofs.Common.{◌≡◌, ◌≢◌, ℕ, zero, suc, ◌+◌, ◌<◌, List, [], ◌∷◌, ◌++◌, Option, None, Some, length, get_or, replicate, refl, sym, ap, subst, ◌∙◌, inl, inr, IsTrue, arith, rules}
 use Rattle.std.proofs.lemmas.Bool.{cases_lt}
 use Rattle.std.proofs.lemmas.List.{drop-drop, get_or_default, length-replicate}
-use Rattle.cfm_memory.specs.Extents.{AreApart, AreHeld, ArePlacedBy, Extent, HasRoom, IsPlaceBy, Rule, Stand, at_given, at_lowest, place_at, rule_after, zeros_at}
+use Rattle.cfm_memory.specs.Extents.{AreApart, AreHeld, ArePlacedBy, Extent, HasRoom, IsPlaceBy, Rule, Stand, at_given, at_lowest, place_at, rule_after, with_one, zeros_at}
 use Rattle.cfm_memory.specs.Instances.{Layout, bytes_at, holds_place}
 use Rattle.cfm_memory.specs.Placement.{taken, with_new}
 use Rattle.cfm_memory.specs.declared.place.Place.{Place}
@@ -143,6 +143,6 @@ pub placed_held : (rule : Rule) (m : Layout) (extents : List Extent) (places : L
 placed_held rule m extents places after placed =
     stand_held after places (zeros_at places) (placed_stand rule m extents places after placed) (λ k under. length-replicate {A = ℕ} (place_at places k).size 0)
 
--- also a single one
-pub new_held : (m : Layout) (p : Place) → IsTrue (holds_place (with_new m p) p)
-new_held m p = is_held (with_new m p) p (replicate p.size 0) (placed_here m.instances (record { address = p.address; bytes = replicate p.size 0 })) (length-replicate {A = ℕ} p.size 0)
+-- also a single one, whatever bytes it has
+pub one_held : (m : Layout) (p : Place) (bytes : List ℕ) → length bytes ≡ p.size → IsTrue (holds_place (with_one m p bytes) p)
+one_held m p bytes len = is_held (with_one m p bytes) p bytes (placed_here m.instances (record { address = p.address; bytes = bytes })) len

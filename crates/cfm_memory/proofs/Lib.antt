@@ -12,4 +12,5 @@ mod Ranges
 mod Remembered
 mod Reserving
 mod Rooms
+mod Shapes
 pub mod Laws

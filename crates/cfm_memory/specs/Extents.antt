@@ -2,8 +2,8 @@
 -- their places, and the memory after they are removed. A section header says how much memory a section needs and how it
 -- is aligned (Mac OS Runtime Architectures, "PEF Structure", section headers: totalSize, alignment). That
 -- places are given in turn is this project's own rule of placement.
-use Rattle.std.specs.Prelude.{◌≡◌, ◌≢◌, ◌⊎◌, ℕ, ◌<◌, List, [], ◌∷◌, All, IsTrue, Some, drop, length, replicate, slice_index_or}
-use Rattle.cfm_memory.specs.Instances.{Layout, bytes_at, holds_place, with_instances, without}
+use Rattle.std.specs.Prelude.{◌≡◌, ◌≢◌, ◌⊎◌, ℕ, suc, ◌<◌, List, [], ◌∷◌, All, IsTrue, Some, drop, length, replicate, slice_index_or}
+use Rattle.cfm_memory.specs.Instances.{Layout, bytes_at, holds_place, with_instance, with_instances, without}
 use Rattle.cfm_memory.specs.Limits.{grain}
 use Rattle.cfm_memory.specs.Placement.{IsLowest, IsRoom, with_new}
 use Rattle.cfm_memory.specs.declared.place.Place.{Place}
@@ -101,3 +101,20 @@ AreApart places = (j k : ℕ) → j < k → k < length places → (place_at plac
 abbrev pub given_back : Layout → List Place → Layout
 given_back m [] = m
 given_back m (p ∷ places) = given_back (with_instances m (without m.instances p.address)) places
+
+-- memory with one new instance more
+abbrev pub with_one : Layout → Place → List ℕ → Layout
+with_one m p bytes = with_instances m (with_instance m.instances (record { address = p.address; bytes = bytes }))
+
+-- memory with a new instance at each of some places, each with the bytes that are given for its number
+abbrev pub with_filled : Layout → List Place → (ℕ → List ℕ) → Layout
+with_filled m [] bytes = m
+with_filled m (p ∷ places) bytes = with_filled (with_one m p (bytes 0)) places (λ k. bytes (suc k))
+
+-- new instances of some extents were placed in a memory, in order, by a rule, and each has the bytes that are given for its
+-- number. That gave another memory
+pub record ArePlacedWith (rule : Rule) (m : Layout) (extents : List Extent) (bytes : ℕ → List ℕ) (places : List Place) (after : Layout) : Type 0 where
+  pub empty : Layout
+  pub placed : ArePlacedBy rule m extents places empty
+  pub lengths : (k : ℕ) → k < length places → length (bytes k) ≡ (place_at places k).size
+  pub filled : after ≡ with_filled m places bytes

@@ -9,6 +9,7 @@ use Rattle.cfm_memory.specs.declared.place.Reserved.{Reserved}
 use Rattle.cfm_memory.specs.declared.place.MemoryFault.{MemoryFault}
 use Rattle.cfm_memory.specs.declared.place.MemoryFault.TheVariants.{NoRoom, OutOfMemory}
 use Rattle.cfm_memory.specs.Limits.{first_address}
+use Rattle.pef_words.specs.Bytes.{filled}
 
 -- the bytes that an instance of some size takes: at least one, rounded up to a multiple of the granule
 unfoldable pub taken : ℕ → ℕ → ℕ
@@ -48,6 +49,10 @@ pub record IsLowest (m : Layout) (size alignment address : ℕ) : Type 0 where
 -- the memory with a new instance at a place, all zeros
 abbrev pub with_new : Layout → Place → Layout
 with_new m place = with_instances m (with_instance m.instances (record { address = place.address; bytes = replicate place.size 0 }))
+
+-- the memory with a new instance at a place: an image, and zeros after it
+abbrev pub with_image : Layout → Place → List ℕ → Layout
+with_image m place image = with_instances m (with_instance m.instances (record { address = place.address; bytes = filled image place.size }))
 
 -- when an instance may be refused: for no room if no address has it, and for a failed allocation only if
 -- one has

@@ -1,4 +1,4 @@
-ghost use Rattle.std.specs.Prelude.{◌≡◌, ℕ, ◌+◌, ◌*◌, ◌/◌, ◌^◌, ◌<◌, ◌≤◌, [], insert, length, leb, map, replicate, take, IfOk, IfSome, MatchOption, IsTrue, OnOk, OnSome, Some, false, true};
+ghost use Rattle.std.specs.Prelude.{◌≡◌, ℕ, ◌+◌, ◌*◌, ◌/◌, ◌^◌, ◌<◌, ◌≤◌, [], insert, length, leb, map, take, IfOk, IfSome, MatchOption, IsTrue, OnOk, OnSome, Some, false, true};
 ghost use Rattle.std.specs.Option.{IfNone, option_copied};
 ghost use Rattle.std.specs.Result.{IfErr, OnErr};
 ghost use Rattle.std.specs.Borrow.{sem};
@@ -6,9 +6,10 @@ ghost use Rattle.cfm_memory.specs.Extents.{empty_memory, no_instances};
 ghost use Rattle.cfm_memory.specs.Instances.{bytes_at, holds_place, range_at, with_instances, without};
 ghost use Rattle.cfm_memory.specs.Lending.{LendsPart};
 ghost use Rattle.cfm_memory.specs.Limits.{first_address, greatest_alignment};
-ghost use Rattle.cfm_memory.specs.Placement.{taken, AreClear, AreInTurn, IsClear, IsFree, IsInOrder, IsLowest, IsRoom, MayRefuse, MayRefuseAt, with_new};
+ghost use Rattle.cfm_memory.specs.Placement.{taken, AreClear, AreInTurn, IsClear, IsFree, IsInOrder, IsLowest, IsRoom, MayRefuse, MayRefuseAt, with_image, with_new};
 ghost use Rattle.cfm_memory.specs.Reservation.{IsNoRange, IsVacant, MayNotReserve, Reserves, Unreserves, reserved_range, with_range};
 ghost use Rattle.cfm_memory.specs.declared.place.MemoryFault.TheVariants.{OutOfMemory};
+ghost use Rattle.pef_words.specs.Bytes.{filled};
 ghost use Rattle.cfm_memory.specs.Kept.Searches.{AllPassed, IsBarren, IsFirstFree, IsFirstVacant, IsPast, part_of, range_number};
 
 use crate::granule::{Granule, step_by, taken_by};
@@ -115,11 +116,35 @@ impl Memory {
         ensures unchanged { OnErr result (self.new ≡ self.old) }
         ensures in_order { IsInOrder self.old }
     {
+        self.place_image(size, alignment, &[])
+    }
+
+    /// Places a new instance of `size` bytes as [`place`](Self::place) does. It begins with an image, and zeros follow.
+    ///
+    /// # Errors
+    ///
+    /// Those of `place`.
+    #[tactic(auto, using(crate::proofs::Changes::in_order_seen))]
+    pub fn place_image(
+        &mut self,
+        size: u32,
+        alignment: u8,
+        image: &[u8],
+    ) -> Result<Place, MemoryFault>
+        requires alignment { alignment ≤ greatest_alignment }
+        requires image { length image.now ≤ size }
+        ensures lowest { IfOk result (λ place. IsLowest self.old size alignment place.address) }
+        ensures size { IfOk result (λ place. place.size ≡ size) }
+        ensures placed { IfOk result (λ place. self.new ≡ with_image self.old place image.now) }
+        ensures refused { IfErr result (λ fault. MayRefuse self.old size alignment fault) }
+        ensures unchanged { OnErr result (self.new ≡ self.old) }
+        ensures in_order { IsInOrder self.old }
+    {
         let address = match self.lowest_room(size, alignment) {
             Some(address) => address,
             None => return Err(MemoryFault::NoRoom),
         };
-        self.put(size, alignment, address)
+        self.put(size, alignment, address, image)
     }
 
     /// Places a new instance of `size` zero bytes at an address that is given.
@@ -140,10 +165,33 @@ impl Memory {
         ensures refused { IfErr result (λ fault. MayRefuseAt self.old size alignment address fault) }
         ensures unchanged { OnErr result (self.new ≡ self.old) }
     {
+        self.place_image_at(size, alignment, address, &[])
+    }
+
+    /// Places a new instance of `size` bytes as [`place_at`](Self::place_at) does. It begins with an image, and zeros follow.
+    ///
+    /// # Errors
+    ///
+    /// Those of `place_at`.
+    pub fn place_image_at(
+        &mut self,
+        size: u32,
+        alignment: u8,
+        address: u32,
+        image: &[u8],
+    ) -> Result<Place, MemoryFault>
+        requires alignment { alignment ≤ greatest_alignment }
+        requires image { length image.now ≤ size }
+        ensures room { OnOk result (IsRoom self.old size alignment address) }
+        ensures here { IfOk result (λ place. place ≡ record { address = address; size = size }) }
+        ensures placed { IfOk result (λ place. self.new ≡ with_image self.old place image.now) }
+        ensures refused { IfErr result (λ fault. MayRefuseAt self.old size alignment address fault) }
+        ensures unchanged { OnErr result (self.new ≡ self.old) }
+    {
         if !self.has_room(size, alignment, address) {
             return Err(MemoryFault::NoRoom);
         }
-        self.put(size, alignment, address)
+        self.put(size, alignment, address, image)
     }
 
     /// Returns whether an address has room for an instance of `size` bytes.
@@ -164,17 +212,24 @@ impl Memory {
             && rank_of(&self.reserved, range).is_some()
     }
 
-    /// Puts a new instance of `size` zero bytes at an address that has room for it.
+    /// Puts a new instance of `size` bytes, an image and zeros, at an address that has room for it.
     #[tactic(auto, using(crate::proofs::Changes::in_order_seen))]
-    fn put(&mut self, size: u32, alignment: u8, address: u32) -> Result<Place, MemoryFault>
-        requires { IsRoom self.old size alignment address }
+    fn put(
+        &mut self,
+        size: u32,
+        alignment: u8,
+        address: u32,
+        image: &[u8],
+    ) -> Result<Place, MemoryFault>
+        requires room { IsRoom self.old size alignment address }
+        requires image { length image.now ≤ size }
         ensures here { IfOk result (λ place. place ≡ record { address = address; size = size }) }
-        ensures placed { IfOk result (λ place. self.new ≡ with_new self.old place) }
+        ensures placed { IfOk result (λ place. self.new ≡ with_image self.old place image.now) }
         ensures refused { IfErr result (λ fault. fault ≡ OutOfMemory) }
         ensures unchanged { OnErr result (self.new ≡ self.old) }
         ensures in_order { IsInOrder self.old }
     {
-        let bytes = zeros(self.alloc, size as usize)?;
+        let bytes = filled(self.alloc, image, size as usize)?;
         self.instances.insert(address, bytes)?;
         Ok(Place { address, size })
     }
@@ -510,9 +565,13 @@ fn range_of(bytes: &[u8], from: u32, len: u32) -> Option<&[u8]>
     Some(&bytes[from..from + len])
 }
 
-/// Returns `len` zero bytes.
-fn zeros(alloc: Global, len: usize) -> Result<Vec<u8>, AllocError>
-    ensures { IfOk result (λ bytes. bytes.items ≡ replicate len 0) }
+/// Returns an image and the zeros after it, `len` bytes together.
+fn filled(alloc: Global, image: &[u8], len: usize) -> Result<Vec<u8>, AllocError>
+    requires { length image.now ≤ len }
+    ensures { IfOk result (λ bytes. bytes.items ≡ filled image.now len) }
 {
-    vec![in alloc; 0; len]
+    let mut bytes = Vec::with_capacity(alloc, len)?;
+    bytes.extend_from_slice(image)?;
+    bytes.resize(len, 0)?;
+    Ok(bytes)
 }
