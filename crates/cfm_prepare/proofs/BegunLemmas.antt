@@ -1,6 +1,6 @@
 -- New fragments, from their placing to the end of their preparation or its first refusal.
 use Rattle.std.proofs.Common.{◌≡◌, ℕ, zero, suc, ◌<◌, Bool, true, false, List, [], ◌∷◌, ◌++◌, None, Some, Result, Ok, Err, All, Contains, OnOk, IfErr, length, get_or, cond, refl, sym, ap, subst, ◌∙◌, arith}
-use Rattle.cfm_memory.specs.Extents.{Rule, zeros_at}
+use Rattle.cfm_memory.specs.Extents.{Rule}
 use Rattle.cfm_memory.specs.Instances.{Layout}
 use Rattle.cfm_store.specs.Stores.{Pair}
 use Rattle.cfm_prepare.specs.Addresses.{first_bad_program, section_of}
@@ -8,23 +8,29 @@ use Rattle.cfm_prepare.specs.Lists.{has}
 use Rattle.cfm_prepare.specs.Fragments.{Present, StandAll, first_bad_image, is_present, new_among}
 use Rattle.cfm_prepare.specs.Placing.{AreNewBy, ArePreparedBy}
 use Rattle.cfm_prepare.specs.Refusals.{MayNotPrepareNewBy}
+use Rattle.cfm_prepare.specs.Kept.Begun.{HavePlacedWith, section_placed}
 use Rattle.cfm_prepare.specs.Kept.Ready.{AllHeld, AreAbsent, AreLaidOut, AreReady, ChangesIn, FillsUpTo, HaveBegun, HavePlaced, RelocatesUpTo, found_in}
 use Rattle.cfm_prepare.specs.declared.fragment_fault.FragmentFault.{FragmentFault}
 use Rattle.cfm_prepare.specs.declared.fragment_fault.FragmentFault.TheVariants as fault
+use Rattle.cfm_prepare.proofs.FilledLemmas.{have-back, have-held, have-stand}
 use Rattle.cfm_prepare.proofs.FoundLemmas.{found-fresh, present-has}
 use Rattle.cfm_prepare.proofs.ListLemmas.{contains-next}
-use Rattle.cfm_prepare.proofs.PlacedLemmas.{placed-apart, placed-back, placed-fit, placed-held, placed-own, placed-zeros}
+use Rattle.cfm_prepare.proofs.PlacedLemmas.{placed-apart, placed-back, placed-fit, placed-held, placed-own}
 use Rattle.cfm_prepare.proofs.ReadyLemmas.{held-rejoined, ready-after}
 
 -- the fragments that were placed can be released
-pub begun-of : {rule : Rule} (pairs : List Pair) (m : Layout) (there now : List Present) (ps new : List ℕ) (after : Layout) → AreReady m there → ((p : ℕ) → has ps p ≡ true → has new p ≡ true) → HavePlaced rule pairs m there ps now after → HaveBegun m there new now after
-begun-of {rule} pairs m there now ps new after ready inside have = record {
-  fresh = have.fresh;
-  behind = have.behind;
-  are = λ p there. inside p (ap (λ qs. has qs p) (sym have.are) ∙ (sym (present-has have.fresh p) ∙ there));
-  others = placed-back rule pairs m have.fresh after have.placed;
-  ready = subst (λ fs. AreReady after fs) (sym have.behind) (ready-after rule pairs m there have.fresh after ready have.placed);
-}
+pub begun-of : {rule : Rule} (pairs : List Pair) (m : Layout) (there now : List Present) (ps new : List ℕ) (after : Layout) → AreReady m there → ((p : ℕ) → has ps p ≡ true → has new p ≡ true) → HavePlacedWith rule pairs m there ps now after → HaveBegun m there new now after
+begun-of {rule} pairs m there now ps new after ready inside all =
+    let fresh = all.have.fresh in
+    let back = have-back pairs m there now ps after all in
+    record {
+      fresh = fresh;
+      behind = all.have.behind;
+      are = λ p there. inside p (ap (λ qs. has qs p) (sym all.have.are) ∙ (sym (present-has fresh p) ∙ there));
+      others = back;
+      ready = subst (λ fs. AreReady after fs) (sym all.have.behind)
+          (held-rejoined all.empty after there fresh (ready-after rule pairs m there fresh all.empty ready all.have.placed) (have-held pairs m there now ps after all) (back ∙ sym (placed-back rule pairs m fresh all.empty all.have.placed)));
+    }
 
 -- new fragments that were placed, as they are found among all, can be filled and relocated
 pub found-laid : {rule : Rule} (pairs : List Pair) (m mid : Layout) (there now : List Present) (ps : List ℕ) → AreAbsent there ps → HavePlaced rule pairs m there ps now mid → AreLaidOut pairs (found_in now ps)
@@ -35,13 +41,20 @@ found-laid {rule} pairs m mid there now ps absent have =
     } in
     subst (λ (fs : List Present). AreLaidOut pairs fs) (sym (found-fresh pairs m mid there now ps absent have)) laid
 
-pub found-zeros : {rule : Rule} (pairs : List Pair) (m mid : Layout) (there now : List Present) (ps : List ℕ) → AreAbsent there ps → HavePlaced rule pairs m there ps now mid → StandAll mid (found_in now ps) (λ (f : Present). zeros_at f.places)
-found-zeros {rule} pairs m mid there now ps absent have =
-    subst (λ (fs : List Present). StandAll mid fs (λ (f : Present). zeros_at f.places)) (sym (found-fresh pairs m mid there now ps absent have)) (placed-zeros rule pairs m have.fresh mid have.placed)
+pub found-placed : {rule : Rule} (pairs : List Pair) (m mid : Layout) (there now : List Present) (ps : List ℕ) → AreAbsent there ps → HavePlacedWith rule pairs m there ps now mid → StandAll mid (found_in now ps) (λ (f : Present). section_placed pairs f.position)
+found-placed pairs m mid there now ps absent all =
+    subst (λ (fs : List Present). StandAll mid fs (λ (f : Present). section_placed pairs f.position)) (sym (found-fresh pairs m all.empty there now ps absent all.have)) (have-stand pairs m there now ps mid all)
 
-pub found-held : {rule : Rule} (pairs : List Pair) (m mid : Layout) (there now : List Present) (ps : List ℕ) → AreAbsent there ps → HavePlaced rule pairs m there ps now mid → AllHeld mid (found_in now ps)
-found-held {rule} pairs m mid there now ps absent have =
-    subst (λ (fs : List Present). AllHeld mid fs) (sym (found-fresh pairs m mid there now ps absent have)) (placed-held rule pairs m have.fresh mid have.placed)
+-- so far they alone changed
+pub found-changes : {rule : Rule} (pairs : List Pair) (m mid : Layout) (there now : List Present) (ps : List ℕ) → AreAbsent there ps → (all : HavePlacedWith rule pairs m there ps now mid) → ChangesIn all.empty (found_in now ps) mid
+found-changes {rule} pairs m mid there now ps absent all =
+    let fresh = all.have.fresh in
+    subst (λ (fs : List Present). ChangesIn all.empty fs mid) (sym (found-fresh pairs m all.empty there now ps absent all.have))
+    (record { others = have-back pairs m there now ps mid all ∙ sym (placed-back rule pairs m fresh all.empty all.have.placed); held = λ was. have-held pairs m there now ps mid all })
+
+pub found-held : {rule : Rule} (pairs : List Pair) (m mid : Layout) (there now : List Present) (ps : List ℕ) → AreAbsent there ps → HavePlacedWith rule pairs m there ps now mid → AllHeld mid (found_in now ps)
+found-held pairs m mid there now ps absent all =
+    subst (λ (fs : List Present). AllHeld mid fs) (sym (found-fresh pairs m all.empty there now ps absent all.have)) (have-held pairs m there now ps mid all)
 
 -- a change after another one
 pub changes-then : (m mid after : Layout) (fs : List Present) → ChangesIn m fs mid → ChangesIn mid fs after → ChangesIn m fs after

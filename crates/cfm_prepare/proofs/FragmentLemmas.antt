@@ -15,6 +15,7 @@ use Rattle.cfm_store.specs.Stores.{Pair, pair_of}
 use Rattle.cfm_closure.specs.Fragments.{Fragment, container_at, fragment_of, loader_at, with_container, with_loader}
 use Rattle.cfm_closure.specs.Targets.{target_of}
 use Rattle.cfm_closure.specs.declared.targets.Target.{Target}
+use Rattle.cfm_prepare.specs.Kept.Begun.{placed_at, section_placed}
 use Rattle.cfm_prepare.specs.Images.{extents_of, filled_at, first_image_refusal}
 use Rattle.cfm_prepare.specs.Prepared.{first_reloc_refusal, prepared_at}
 use Rattle.cfm_prepare.proofs.PlaceLemmas.{length-fragment}
@@ -60,6 +61,9 @@ image-there pairs p c n is count =
 -- the same for a fragment that is relocated
 pub stand-there : (pairs : List Pair) (p : ℕ) (c : Contained) (m : Layout) (places : List Place) → container_at pairs p ≡ Some c → Stand m places (section_filled pairs p) → Stand m places (filled_at c)
 stand-there pairs p c m places is stand = λ k under. stand k under ∙ ap Some (filled-there pairs p c k is)
+
+pub begun-there : (pairs : List Pair) (p : ℕ) (c : Contained) (m : Layout) (places : List Place) → container_at pairs p ≡ Some c → Stand m places (section_placed pairs p) → Stand m places (placed_at c)
+begun-there pairs p c m places is stand = λ k under. stand k under ∙ ap Some (ap (λ o. option_map_or (λ (d : Contained). placed_at d k) o []) is)
 
 pub prepared-there : (pairs : List Pair) (p : ℕ) (c : Contained) (l : Loaded) (a : Addresses) (m : Layout) (places : List Place) → container_at pairs p ≡ Some c → loader_at pairs p ≡ Some l
     → Stand m places (prepared_at c l a) → Stand m places (prepared_in pairs a p)

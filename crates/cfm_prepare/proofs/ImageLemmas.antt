@@ -1,5 +1,5 @@
 -- The images of sections.
-use Rattle.std.proofs.Common.{◌≡◌, ℕ, ◌++◌, List, [], length, drop, replicate, refl, ap, ◌∙◌}
+use Rattle.std.proofs.Common.{◌≡◌, ℕ, true, ◌-◌, arith, ◌++◌, List, [], length, drop, replicate, refl, ap, ◌∙◌}
 use Rattle.std.specs.Prelude.{Result, Ok, Err, OnOk, Some, option_map}
 use Rattle.std.specs.Result.{result_err, result_unwrap_or}
 use Rattle.std.proofs.lemmas.List.{drop-replicate}
@@ -7,6 +7,8 @@ use Rattle.pef_pidata.specs.declared.fault.PackFault.{PackFault}
 use Rattle.pef_views.specs.Container.{Contained, Section, section_of}
 use Rattle.pef_words.specs.Bytes.{filled}
 use Rattle.pef_words.specs.Refusals.{result_map}
+use Rattle.pef_format.specs.Sections.{is_packed, kind_of}
+use Rattle.cfm_prepare.specs.Kept.Begun.{placed_at, placed_in}
 use Rattle.cfm_prepare.specs.Images.{fault_in_image, filled_at, filled_in, image_of, image_refusal}
 
 -- zeros with an image at their front
@@ -41,3 +43,12 @@ filled_there c k s is = rw (← is) refl
 pub on_ok : {A : Type 0} (r : Result A PackFault) {P Q : Type 0} → (P → Q) → OnOk r P → OnOk r Q
 on_ok (Ok x) gives holds = gives holds
 on_ok (Err e) gives holds = tt
+
+pub placed_there : (c : Contained) (k : ℕ) (s : Section) → Some s ≡ section_of c k → placed_at c k ≡ placed_in s
+placed_there c k s is = rw (← is) refl
+
+-- a packed section is placed as zeros
+pub packed_zeros : (s : Section) → is_packed (kind_of s.header.section_kind) ≡ true → placed_in s ≡ replicate s.header.total_size 0
+packed_zeros s packed =
+    let all : s.header.total_size - 0 ≡ s.header.total_size = omega arith in
+    rw packed (ap (λ n. replicate n 0) all)

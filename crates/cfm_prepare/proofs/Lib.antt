@@ -5,6 +5,7 @@ mod BoundLemmas
 mod ConnectionLemmas
 mod EnoughLemmas
 mod ExportLemmas
+mod FilledLemmas
 mod FoundLemmas
 mod FragmentLemmas
 mod GoneLemmas

@@ -1,6 +1,6 @@
 -- The extents of a container's sections, one after the other.
 use Rattle.std.proofs.Common.{◌≡◌, ℕ, zero, suc, ◌+◌, ◌-◌, ◌<◌, List, [], ◌∷◌, ◌++◌, refl, sym, ap, subst, ◌∙◌, length, get_or, arith}
-use Rattle.cfm_memory.specs.Extents.{ArePlacedBy, Extent, HasNoPlaceBy, IsPlaceBy, Rule, place_at, rule_after}
+use Rattle.cfm_memory.specs.Extents.{ArePlacedBy, ArePlacedWith, Extent, HasNoPlaceBy, IsPlaceBy, Rule, place_at, rule_after, with_filled, with_one}
 use Rattle.cfm_memory.specs.Instances.{Layout}
 use Rattle.cfm_memory.specs.Placement.{with_new}
 use Rattle.cfm_prepare.specs.Placing.{LacksPlaceFor}
@@ -8,7 +8,7 @@ use Rattle.cfm_prepare.specs.Kept.Unplaced.{MayNotPlaceAll, MayRefuseFor}
 use Rattle.cfm_prepare.specs.declared.places.Unplaced.{Unplaced}
 use Rattle.cfm_prepare.specs.declared.places.Unplaced.TheVariants.{NoRoom, OutOfMemory}
 use Rattle.cfm_memory.specs.declared.place.Place.{Place}
-use Rattle.cfm_memory.proofs.Laws.{after-both, after-none, length-placed, no_extent, placed-append, placed_size}
+use Rattle.cfm_memory.proofs.Laws.{SameShape, after-both, after-none, filled_next, length-placed, no_extent, placed-append, placed_size, shape_back, shape_lack, shape_place, shape_self, with_shape}
 use Rattle.pef_views.specs.Container.{Contained}
 use Rattle.cfm_prepare.specs.Images.{extent_at, extents_from, extents_of}
 
@@ -52,7 +52,7 @@ pub count-placed : (rule : Rule) (c : Contained) (m mid : Layout) (places : List
 count-placed rule c m mid places i placed = length-placed rule m (extents_from c 0 i) places mid placed ∙ length-extents c 0 i
 
 -- a section more is placed
-pub placed_next : (rule : Rule) (c : Contained) (m mid : Layout) (places : List Place) (i : ℕ) (p : Place) → ArePlacedBy rule m (extents_from c 0 i) places mid → IsPlaceBy (rule_after rule i) mid (extent_at c i) p
+placed_next : (rule : Rule) (c : Contained) (m mid : Layout) (places : List Place) (i : ℕ) (p : Place) → ArePlacedBy rule m (extents_from c 0 i) places mid → IsPlaceBy (rule_after rule i) mid (extent_at c i) p
     → ArePlacedBy rule m (extents_from c 0 (i + 1)) (places ++ p ∷ []) (with_new mid p)
 placed_next rule c m mid places i p placed is =
     let P : ℕ → Type 0 = λ n. IsPlaceBy (rule_after rule n) mid (extent_at c i) p in
@@ -72,7 +72,7 @@ lacks_at rule m mid (x ∷ xs) e others (p ∷ places) placed none =
     (p, placed.0, lacks_at (rule_after rule 1) (with_new m p) mid xs e others places placed.1 rest)
 
 -- a section that is refused is the first of them
-pub refused_here : (fault : Unplaced) (rule : Rule) (c : Contained) (m mid : Layout) (places : List Place) (i n : ℕ) → i < n → ArePlacedBy rule m (extents_from c 0 i) places mid → MayRefuseFor (rule_after rule i) mid (extent_at c i) i fault
+refused_here : (fault : Unplaced) (rule : Rule) (c : Contained) (m mid : Layout) (places : List Place) (i n : ℕ) → i < n → ArePlacedBy rule m (extents_from c 0 i) places mid → MayRefuseFor (rule_after rule i) mid (extent_at c i) i fault
     → MayNotPlaceAll fault rule m (extents_from c 0 n)
 refused_here (NoRoom section) rule c m mid places i n under placed refused =
     let rest = extents_from c (i + 1) (n - (i + 1)) in
@@ -82,6 +82,45 @@ refused_here (NoRoom section) rule c m mid places i n under placed refused =
     subst P (sym (extents_around c i n under))
     (subst Q (length-extents c 0 i ∙ sym refused.0) (lacks_at rule m mid (extents_from c 0 i) (extent_at c i) rest places placed (subst N (sym (length-extents c 0 i)) refused.1)))
 refused_here OutOfMemory rule c m mid places i n under placed refused = tt
+
+-- the same in memory that has other bytes
+refuse-moved : (rule : Rule) (m n : Layout) (e : Extent) (k : ℕ) (fault : Unplaced) → SameShape m n → MayRefuseFor rule m e k fault → MayRefuseFor rule n e k fault
+refuse-moved rule m n e k (NoRoom section) shape refused = (refused.0, shape_lack rule m n e shape refused.1)
+refuse-moved rule m n e k OutOfMemory shape refused = tt
+
+pub refused_with : (fault : Unplaced) (rule : Rule) (c : Contained) (bytes : ℕ → List ℕ) (m mid : Layout) (places : List Place) (i n : ℕ) → i < n → ArePlacedWith rule m (extents_from c 0 i) bytes places mid → MayRefuseFor (rule_after rule i) mid (extent_at c i) i fault
+    → MayNotPlaceAll fault rule m (extents_from c 0 n)
+refused_with fault rule c bytes m mid places i n under all refused =
+    let moved = with_shape rule m m (extents_from c 0 i) bytes places mid (shape_self m) all in
+    refused_here fault rule c m moved.0 places i n under moved.1 (refuse-moved (rule_after rule i) mid moved.0 (extent_at c i) i fault (shape_back moved.0 mid moved.2) refused)
+
+-- the bytes that are given for one place more have its size
+sizes-next : (bytes : ℕ → List ℕ) (places : List Place) (p : Place) → ((k : ℕ) → k < length places → length (bytes k) ≡ (place_at places k).size) → length (bytes (length places)) ≡ p.size
+    → (k : ℕ) → k < length (places ++ p ∷ []) → length (bytes k) ≡ (place_at (places ++ p ∷ []) k).size
+sizes-next bytes [] p sizes last zero under = last
+sizes-next bytes [] p sizes last (suc k) under = absurd (omega (arith, under))
+sizes-next bytes (q ∷ places) p sizes last zero under = sizes 0 (omega arith)
+sizes-next bytes (q ∷ places) p sizes last (suc k) under = sizes-next (λ j. bytes (suc j)) places p (λ j low. sizes (suc j) (omega (arith, low))) last k (omega (arith, under))
+
+-- no section is placed yet
+pub none_placed : (rule : Rule) (m : Layout) (bytes : ℕ → List ℕ) (places : List Place) → places ≡ [] → ArePlacedWith rule m [] bytes places m
+none_placed rule m bytes places none =
+    let P : List Place → Type 0 = λ ps. ArePlacedWith rule m [] bytes ps m in
+    subst P (sym none) (record { empty = m; placed = refl; lengths = λ k under. absurd (omega (arith, under)); filled = refl })
+
+-- a section more is placed with its bytes
+pub placed_with_next : (rule : Rule) (c : Contained) (bytes : ℕ → List ℕ) (m mid : Layout) (places : List Place) (i : ℕ) (p : Place) → ArePlacedWith rule m (extents_from c 0 i) bytes places mid → IsPlaceBy (rule_after rule i) mid (extent_at c i) p
+    → length (bytes i) ≡ p.size → ArePlacedWith rule m (extents_from c 0 (i + 1)) bytes (places ++ p ∷ []) (with_one mid p (bytes i))
+placed_with_next rule c bytes m mid places i p all is len =
+    let count = count-placed rule c m all.empty places i all.placed in
+    let moved = with_shape rule m m (extents_from c 0 i) bytes places mid (shape_self m) all in
+    let last : length (bytes (length places)) ≡ p.size = ap (λ n. length (bytes n)) count ∙ len in
+    record {
+      empty = with_new moved.0 p;
+      placed = placed_next rule c m moved.0 places i p moved.1 (shape_place (rule_after rule i) mid moved.0 (extent_at c i) p (shape_back moved.0 mid moved.2) is);
+      lengths = sizes-next bytes places p all.lengths last;
+      filled = ap (λ (k : Layout). with_one k p (bytes i)) all.filled ∙ ap (λ n. with_one (with_filled m places bytes) p (bytes n)) (sym count) ∙ sym (filled_next m places p bytes);
+    }
 
 -- there are as many places as instantiated sections
 pub length-fragment : (rule : Rule) (c : Contained) (m after : Layout) (places : List Place) → ArePlacedBy rule m (extents_of c) places after → length places ≡ c.header.instantiated_section_count

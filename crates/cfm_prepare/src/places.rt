@@ -1,16 +1,16 @@
-ghost use Rattle.std.specs.Prelude.{◌≡◌, ◌≤◌, ◌++◌, ℕ, [], ◌∷◌, Err, IfErr, IfOk, IsTrue, OnErr, OnOk};
-ghost use Rattle.cfm_memory.specs.Extents.{AreApart, AreHeld, ArePlacedBy, HasNoPlaceBy, IsPlaceBy, given_back, rule_after};
+ghost use Rattle.std.specs.Prelude.{◌≡◌, ◌≤◌, ◌++◌, ℕ, [], ◌∷◌, Err, IfErr, IfOk, IsTrue, OnErr, OnOk, length};
+ghost use Rattle.cfm_memory.specs.Extents.{AreApart, AreHeld, ArePlacedWith, IsPlaceBy, given_back, rule_after, with_one};
 ghost use Rattle.cfm_memory.specs.Instances.{holds_place, with_instances, without};
-ghost use Rattle.cfm_memory.specs.Limits.{greatest_alignment};
-ghost use Rattle.cfm_memory.specs.Placement.{with_new};
 ghost use Rattle.cfm_prepare.specs.declared.places.Unplaced.TheVariants as Unplaced;
 ghost use Rattle.cfm_prepare.specs.Kept.Rules.{rule_of};
 ghost use Rattle.cfm_prepare.specs.Kept.Unplaced.{MayNotPlaceAll, MayRefuseFor, MayRefuseBy};
-ghost use Rattle.pef_views.specs.Views.{contained};
-ghost use Rattle.cfm_prepare.specs.Images.{extents_from, extents_of};
+ghost use Rattle.cfm_prepare.specs.Kept.Begun.{first_image, placed_at, placed_in};
+ghost use Rattle.pef_views.specs.Container.{IsInstantiable};
+ghost use Rattle.pef_views.specs.Views.{contained, seen};
+ghost use Rattle.cfm_prepare.specs.Images.{extent_in, extents_from, extents_of};
 
 use cfm_memory::{Memory, MemoryFault, Place};
-use pef_views::Container;
+use pef_views::{Container, SectionView};
 use std::alloc::Global;
 
 /// Why the sections of a container aren't placed.
@@ -45,7 +45,8 @@ impl<'p> PlaceRule<'p> {
     }
 }
 
-/// Places the instantiated sections of a container, each in turn by a rule. They are zeros.
+/// Places the instantiated sections of a container, each in turn by a rule. Each has its image, and zeros after it; one whose image
+/// is packed is all zeros.
 ///
 /// # Errors
 ///
@@ -57,7 +58,7 @@ pub(crate) fn place_sections(
     container: &Container<'_>,
     rule: PlaceRule<'_>,
 ) -> Result<Vec<Place>, Unplaced>
-    ensures placed { IfOk result (λ places. ArePlacedBy (rule_of rule.entry) memory.old (extents_of (contained container.now)) places.items memory.new) }
+    ensures placed { IfOk result (λ places. ArePlacedWith (rule_of rule.entry) memory.old (extents_of (contained container.now)) (placed_at (contained container.now)) places.items memory.new) }
     ensures refused { IfErr result (λ fault. MayNotPlaceAll fault (rule_of rule.entry) memory.old (extents_of (contained container.now))) }
     ensures unchanged { OnErr result (memory.new ≡ memory.old) }
 {
@@ -79,64 +80,79 @@ fn place_each(
     places: &mut Vec<Place>,
 ) -> Result<(), Unplaced>
     requires { places.old.items ≡ [] }
-    ensures placed { OnOk result (ArePlacedBy (rule_of rule.entry) memory.old (extents_of (contained container.now)) places.new.items memory.new) }
+    ensures placed { OnOk result (ArePlacedWith (rule_of rule.entry) memory.old (extents_of (contained container.now)) (placed_at (contained container.now)) places.new.items memory.new) }
     ensures refused { IfErr result (λ fault. MayNotPlaceAll fault (rule_of rule.entry) memory.old (extents_of (contained container.now))) }
-    ensures so_far { (n : ℕ) × ArePlacedBy (rule_of rule.entry) memory.old (extents_from (contained container.now) 0 n) places.new.items memory.new }
+    ensures so_far { (n : ℕ) × ArePlacedWith (rule_of rule.entry) memory.old (extents_from (contained container.now) 0 n) (placed_at (contained container.now)) places.new.items memory.new }
 {
     let count = usize::from(container.header().instantiated_section_count);
     for i in 0..count {
         let Some(section) = container.section(i) else {
             unreachable!()
         };
-        let header = section.header;
         let rest = rule.after(i);
-        let place = place_section(memory, header.total_size, header.alignment, rest, i as u32)?;
+        let place = place_section(memory, &section, rest, i as u32)?;
         keep(memory, places, place)?;
     }
     Ok(())
 }
 
-/// Places a section of `size` bytes by a rule.
+/// Places a section by a rule.
 fn place_section(
     memory: &mut Memory,
-    size: u32,
-    alignment: u8,
+    section: &SectionView<'_>,
     rule: PlaceRule<'_>,
-    section: u32,
+    number: u32,
 ) -> Result<Place, Unplaced>
-    requires { alignment ≤ greatest_alignment }
-    ensures place { IfOk result (λ place. IsPlaceBy (rule_of rule.entry) memory.old (record { size = size; alignment = alignment }) place) }
-    ensures placed { IfOk result (λ place. memory.new ≡ with_new memory.old place) }
-    ensures refused { IfErr result (λ fault. MayRefuseFor (rule_of rule.entry) memory.old (record { size = size; alignment = alignment }) section fault) }
+    requires { IsInstantiable (seen section.now) }
+    ensures place { IfOk result (λ place. IsPlaceBy (rule_of rule.entry) memory.old (extent_in (seen section.now)) place) }
+    ensures size { IfOk result (λ place. length (placed_in (seen section.now)) ≡ place.size) }
+    ensures placed { IfOk result (λ place. memory.new ≡ with_one memory.old place (placed_in (seen section.now))) }
+    ensures refused { IfErr result (λ fault. MayRefuseFor (rule_of rule.entry) memory.old (extent_in (seen section.now)) number fault) }
     ensures unchanged { OnErr result (memory.new ≡ memory.old) }
 {
-    match place_by(memory, size, alignment, rule) {
+    match place_by(memory, section, rule) {
         Ok(place) => Ok(place),
-        Err(MemoryFault::NoRoom) => Err(Unplaced::NoRoom { section }),
+        Err(MemoryFault::NoRoom) => Err(Unplaced::NoRoom { section: number }),
         Err(MemoryFault::OutOfMemory) => Err(Unplaced::OutOfMemory),
     }
 }
 
-/// Places an instance of `size` bytes by a rule.
+/// Places an instance for a section by a rule.
 fn place_by(
     memory: &mut Memory,
-    size: u32,
-    alignment: u8,
+    section: &SectionView<'_>,
     rule: PlaceRule<'_>,
 ) -> Result<Place, MemoryFault>
-    requires { alignment ≤ greatest_alignment }
-    ensures place { IfOk result (λ place. IsPlaceBy (rule_of rule.entry) memory.old (record { size = size; alignment = alignment }) place) }
-    ensures placed { IfOk result (λ place. memory.new ≡ with_new memory.old place) }
-    ensures refused { IfErr result (λ fault. MayRefuseBy (rule_of rule.entry) memory.old (record { size = size; alignment = alignment }) fault) }
+    requires { IsInstantiable (seen section.now) }
+    ensures place { IfOk result (λ place. IsPlaceBy (rule_of rule.entry) memory.old (extent_in (seen section.now)) place) }
+    ensures size { IfOk result (λ place. length (placed_in (seen section.now)) ≡ place.size) }
+    ensures placed { IfOk result (λ place. memory.new ≡ with_one memory.old place (placed_in (seen section.now))) }
+    ensures refused { IfErr result (λ fault. MayRefuseBy (rule_of rule.entry) memory.old (extent_in (seen section.now)) fault) }
     ensures unchanged { OnErr result (memory.new ≡ memory.old) }
 {
+    let size = section.header.total_size;
+    let alignment = section.header.alignment;
+    let image = first_image(section);
     match rule {
-        PlaceRule::Lowest => memory.place(size, alignment),
+        PlaceRule::Lowest => memory.place_image(size, alignment, image),
         PlaceRule::Given(addresses) => match addresses.split_first() {
-            Some((address, _)) => memory.place_at(size, alignment, *address),
+            Some((address, _)) => memory.place_image_at(size, alignment, *address, image),
             None => Err(MemoryFault::NoRoom),
         },
     }
+}
+
+/// Returns the image that a section is placed with. It is empty if the image is packed.
+fn first_image<'a>(section: &SectionView<'a>) -> &'a [u8]
+    requires { IsInstantiable (seen section.now) }
+    ensures image { result.now ≡ first_image (seen section.now) }
+    ensures fits { length result.now ≤ section.now.header.total_size }
+{
+    if section.header.kind().is_packed() {
+        return &[];
+    }
+    let (image, _) = section.raw.split_at(section.header.unpacked_size as usize);
+    image
 }
 
 /// Appends the place of an instance. If an allocation fails, the instance is released.

@@ -1,12 +1,13 @@
 ghost use Rattle.std.specs.Prelude.{◌≡◌, ◌++◌, ℕ, List, [], ◌∷◌, All, Contains, IfErr, IfOk, OnErr, OnOk, false, length, take};
-ghost use Rattle.cfm_memory.specs.Extents.{AreHeld, ArePlacedBy, Stand, rule_after, zeros_at};
+ghost use Rattle.cfm_memory.specs.Extents.{AreHeld, ArePlacedWith, Stand, rule_after};
 ghost use Rattle.cfm_memory.specs.declared.place.Place.{Place};
 ghost use Rattle.cfm_prepare.specs.Addresses.{addresses_of, first_bad_program, section_of};
 ghost use Rattle.cfm_prepare.specs.Fragments.{IsGivenBack, Present, StandAll, all_given_back, extents_in, first_bad_image, image_refusal_in, is_present, named, places_of, present_of, reloc_refusal_in, section_filled};
 ghost use Rattle.cfm_prepare.specs.Placing.{ArePreparedBy};
 ghost use Rattle.cfm_prepare.specs.Refusals.{MayNotPrepareNewBy};
 ghost use Rattle.cfm_prepare.specs.Kept.Rules.{rule_of};
-ghost use Rattle.cfm_prepare.specs.Kept.Ready.{AllHeld, AreAbsent, AreLaidOut, AreReady, ChangesAt, ChangesIn, FillsUpTo, HaveBegun, HavePlaced, IsLaidOut, IsNotPlaced, RelocatesUpTo, found_in, others_of, these_of};
+ghost use Rattle.cfm_prepare.specs.Kept.Begun.{HavePlacedWith, section_placed};
+ghost use Rattle.cfm_prepare.specs.Kept.Ready.{AllHeld, AreAbsent, AreLaidOut, AreReady, ChangesAt, ChangesIn, FillsUpTo, HaveBegun, IsLaidOut, IsNotPlaced, RelocatesUpTo, found_in, others_of, these_of};
 
 use crate::addresses::{import_addresses, section_addresses};
 use crate::fragment_fault::FragmentFault;
@@ -22,7 +23,8 @@ use pef_loader::{ProgramFault, place_in};
 use std::alloc::Global;
 
 /// The preparation of new fragments of a closure. All are placed by a rule, then filled with their images, then
-/// relocated, each time in their order.
+/// relocated, each time in their order. An image that isn't packed is written when its section is placed, so that its memory isn't
+/// cleared first.
 ///
 /// Each step is passed the memory, and the fragments that are present in it.
 #[derive(Clone, Copy)]
@@ -85,9 +87,9 @@ impl<'a> Preparation<'_, 'a> {
     fn place(&self, memory: &mut Memory, present: &mut Slots) -> Result<(), FragmentFault<'a>>
         requires members { All (λ p. Contains self.now.closure.now.order p) self.now.new.now }
         requires new { AreAbsent present.old.items self.now.new.now }
-        ensures placed { OnOk result (HavePlaced (rule_of self.now.rule) self.now.closure.now.pairs memory.old present.old.items self.now.new.now present.new.items memory.new) }
+        ensures placed { OnOk result (HavePlacedWith (rule_of self.now.rule) self.now.closure.now.pairs memory.old present.old.items self.now.new.now present.new.items memory.new) }
         ensures refused { IfErr result (λ fault. MayNotPrepareNewBy (rule_of self.now.rule) self.now.closure.now.pairs present.old.items memory.old self.now.new.now fault) }
-        ensures so_far { (n : ℕ) × HavePlaced (rule_of self.now.rule) self.now.closure.now.pairs memory.old present.old.items (take n self.now.new.now) present.new.items memory.new }
+        ensures so_far { (n : ℕ) × HavePlacedWith (rule_of self.now.rule) self.now.closure.now.pairs memory.old present.old.items (take n self.now.new.now) present.new.items memory.new }
     {
         let mut rule = self.rule;
         for position in self.new {
@@ -107,7 +109,7 @@ impl<'a> Preparation<'_, 'a> {
     ) -> Result<usize, FragmentFault<'a>>
         requires member { Contains self.now.closure.now.order position }
         requires absent { is_present present.old.items position ≡ false }
-        ensures placed { IfOk result (λ count. (places : List Place) × ArePlacedBy (rule_of rule.entry) memory.old (extents_in self.now.closure.now.pairs position) places memory.new × (present.new.items ≡ present.old.items ++ (record { position = position; places = places }) ∷ []) × (count ≡ length places)) }
+        ensures placed { IfOk result (λ count. (places : List Place) × ArePlacedWith (rule_of rule.entry) memory.old (extents_in self.now.closure.now.pairs position) (section_placed self.now.closure.now.pairs position) places memory.new × (present.new.items ≡ present.old.items ++ (record { position = position; places = places }) ∷ []) × (count ≡ length places)) }
         ensures refused { IfErr result (λ fault. IsNotPlaced (rule_of rule.entry) self.now.closure.now.pairs position memory.old fault) }
         ensures unchanged { OnErr result ((memory.new ≡ memory.old) × (present.new.items ≡ present.old.items)) }
     {
@@ -127,11 +129,11 @@ impl<'a> Preparation<'_, 'a> {
         }
     }
 
-    /// Fills the sections of the new fragments, all zeros, with their images, up to the first that is refused.
+    /// Fills the sections of the new fragments, as they were placed, with their images, up to the first that is refused.
     fn fill(&self, memory: &mut Memory, present: &Slots) -> Result<(), FragmentFault<'a>>
         requires members { All (λ p. Contains self.now.closure.now.order p) self.now.new.now }
         requires laid { AreLaidOut self.now.closure.now.pairs (found_in present.now.items self.now.new.now) }
-        requires zeros { StandAll memory.old (found_in present.now.items self.now.new.now) (λ f. zeros_at f.places) }
+        requires first { StandAll memory.old (found_in present.now.items self.now.new.now) (λ f. section_placed self.now.closure.now.pairs f.position) }
         ensures refused { FillsUpTo result (first_bad_image self.now.closure.now.pairs (found_in present.now.items self.now.new.now)) }
         ensures filled { OnOk result (StandAll memory.new (found_in present.now.items self.now.new.now) (λ f. section_filled self.now.closure.now.pairs f.position)) }
         ensures changes { ChangesIn memory.old (found_in present.now.items self.now.new.now) memory.new }
@@ -151,7 +153,7 @@ impl<'a> Preparation<'_, 'a> {
     ) -> Result<(), FragmentFault<'a>>
         requires member { Contains self.now.closure.now.order position }
         requires laid { IsLaidOut self.now.closure.now.pairs (record { position = position; places = places.now }) }
-        requires zeros { Stand memory.old places.now (zeros_at places.now) }
+        requires first { Stand memory.old places.now (section_placed self.now.closure.now.pairs position) }
         ensures refused { FillsUpTo result (named self.now.closure.now.pairs position (image_refusal_in self.now.closure.now.pairs position)) }
         ensures filled { OnOk result (Stand memory.new places.now (section_filled self.now.closure.now.pairs position)) }
         ensures changes { ChangesAt memory.old places.now memory.new }

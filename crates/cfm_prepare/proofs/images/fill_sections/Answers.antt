@@ -43,7 +43,7 @@ loop-k-preserved c =
             let P : ℕ → Type 0 = λ i. bytes_at c.fill_section.new.memory.instances (place_at places i).address ≡ Some (filled_at container i) in
             subst P same (done.here ∙ ap Some (sym (filled_there container at.k (seen c.in-Some.section) c.in-Some.ensures.value))))
       ];
-      zeros = λ j low under. done.elsewhere (place_at places j).address (λ same. c.requires.apart at.k j (omega (arith, low)) under (sym same)) ∙ at.invariant.zeros j (omega (arith, low)) under;
+      first = λ j low under. done.elsewhere (place_at places j).address (λ same. c.requires.apart at.k j (omega (arith, low)) under (sym same)) ∙ at.invariant.first j (omega (arith, low)) under;
       others = done.others places at.k c.loop-k-test.true refl ∙ at.invariant.others;
       held = λ before i d low. done.held _ (at.invariant.held before i d low);
     }

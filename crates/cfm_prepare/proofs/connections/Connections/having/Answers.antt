@@ -1,9 +1,9 @@
 -- A connection that has the fragment decides.
-use Rattle.std.proofs.Common.{◌≡◌, ◌∙◌, ◌+◌, Option, None, drop, ap, sym}
+use Rattle.std.proofs.Common.{◌∙◌, ◌+◌, Option, None, drop, ap, sym}
 use Rattle.std.specs.Option.{option_copied, option_or}
 use Rattle.std.proofs.lemmas.List.{get_or_default}
 use Rattle.cfm_prepare.specs.Contexts.{Open}
-use Rattle.cfm_prepare.specs.Kept.Connections.{Numbered, having_in, open_in, slot_of}
+use Rattle.cfm_prepare.specs.Kept.Connections.{Numbered, having_in, open_in}
 use Rattle.cfm_prepare.specs.Locations.{first_having}
 use Rattle.cfm_prepare.specs.declared.connections.Slot.{Slot}
 use Rattle.cfm_prepare.proofs.LocationLemmas.{having-at}

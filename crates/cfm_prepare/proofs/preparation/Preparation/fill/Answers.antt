@@ -2,10 +2,11 @@
 use Rattle.std.proofs.Common.{◌≤◌, ℕ, List, Err, Option, length, refl, sym, ap, subst, ◌∙◌, arith}
 use Rattle.std.proofs.lemmas.List.{drop_all}
 use Rattle.std.proofs.lemmas.Result.{err_from_is_err_and}
-use Rattle.cfm_memory.specs.Extents.{Stand, zeros_at}
+use Rattle.cfm_memory.specs.Extents.{Stand}
 use Rattle.cfm_store.specs.Stores.{Pair}
 use Rattle.cfm_prepare.specs.Fragments.{Present, first_bad_image, image_refusal_in, named}
 use Rattle.cfm_prepare.specs.declared.image_fault.ImageFault.{ImageFault}
+use Rattle.cfm_prepare.specs.Kept.Begun.{section_placed}
 use Rattle.cfm_prepare.specs.Kept.Ready.{FillsUpTo, IsLaidOut, found_in}
 use Rattle.cfm_prepare.proofs.FoundLemmas.{found-here, length-found}
 use Rattle.cfm_prepare.proofs.StepLemmas.{changed-next, changes-one, fills-first, first-here, first-next}
@@ -20,11 +21,11 @@ fill_fragment-requires-clause-laid c =
     let here = found-here c.args.present.now.items c.args.self.now.new.now c.loop-position.position-index c.places.result.now c.loop-position-test.true c.places.ensures in
     subst (λ (f : Present). IsLaidOut c.args.self.now.closure.now.pairs f) (sym here.1) (c.requires.laid.each c.loop-position.position-index here.0)
 
-pub fill_fragment-requires-clause-zeros : goal.fill_fragment-requires-clause-zeros
-fill_fragment-requires-clause-zeros c =
+pub fill_fragment-requires-clause-first : goal.fill_fragment-requires-clause-first
+fill_fragment-requires-clause-first c =
     let at = c.loop-position in
     let here = found-here c.args.present.now.items c.args.self.now.new.now at.position-index c.places.result.now c.loop-position-test.true c.places.ensures in
-    subst (λ (f : Present). Stand at.memory f.places (zeros_at f.places)) (sym here.1) (at.invariant.1.left at.position-index (omega arith) here.0)
+    subst (λ (f : Present). Stand at.memory f.places (section_placed c.args.self.now.closure.now.pairs f.position)) (sym here.1) (at.invariant.1.left at.position-index (omega arith) here.0)
 
 pub loop-position-preserved : goal.loop-position-preserved
 loop-position-preserved c =

@@ -4,7 +4,7 @@ use Rattle.pef_views.specs.Views.{contained}
 use Rattle.cfm_closure.specs.Fragments.{container_at}
 use Rattle.cfm_prepare.proofs.PlaceLemmas.{size-fragment}
 use Rattle.cfm_prepare.specs.Fragments.{named}
-use Rattle.cfm_prepare.proofs.FragmentLemmas.{image-there, length-there, placed-there}
+use Rattle.cfm_prepare.proofs.FragmentLemmas.{begun-there, image-there, length-there, placed-there}
 use Rattle.cfm_prepare.proofs.preparation.Preparation.fill_fragment.Goals as goal
 
 pub fill_sections-requires-clause-there : goal.fill_sections-requires-clause-there
@@ -20,6 +20,10 @@ fill_sections-requires-clause-sizes c =
     let is : container_at c.args.self.now.closure.now.pairs c.args.position ≡ Some container = c.container-container.ensures in
     let fits = c.requires.laid.fits in
     (size-fragment fits.rule container fits.before fits.after c.args.places.now (placed-there fits.rule c.args.self.now.closure.now.pairs c.args.position container fits.before fits.after c.args.places.now is fits.placed))
+
+pub fill_sections-requires-clause-first : goal.fill_sections-requires-clause-first
+fill_sections-requires-clause-first c =
+    begun-there c.args.self.now.closure.now.pairs c.args.position (contained c.container-container.result) c.args.memory.now c.args.places.now c.container-container.ensures c.requires.first
 
 pub returns-in-Ok-clause-refused : goal.returns-in-Ok-clause-refused
 returns-in-Ok-clause-refused c =

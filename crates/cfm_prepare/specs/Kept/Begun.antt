@@ -1,0 +1,43 @@
+-- What sections hold when they are placed, before packed images are expanded.
+use Rattle.std.specs.Prelude.{◌≡◌, ℕ, ◌<◌, List, [], ◌∷◌, if◌then◌else◌, length, take}
+use Rattle.std.specs.Option.{option_map_or}
+use Rattle.cfm_memory.specs.Extents.{Rule, place_at, with_filled}
+use Rattle.cfm_memory.specs.Instances.{Layout}
+use Rattle.pef_format.specs.Sections.{is_packed, kind_of}
+use Rattle.pef_views.specs.Container.{Contained, Section, section_of}
+use Rattle.pef_words.specs.Bytes.{filled}
+use Rattle.cfm_closure.specs.Fragments.{container_at}
+use Rattle.cfm_store.specs.Stores.{Pair}
+use Rattle.cfm_prepare.specs.Fragments.{Present, present_at}
+use Rattle.cfm_prepare.specs.Kept.Ready.{HavePlaced}
+
+-- the image that a section is placed with: none if it is packed, since it is expanded later
+abbrev pub first_image : Section → List ℕ
+first_image s = if is_packed (kind_of s.header.section_kind) then [] else take s.header.unpacked_size s.raw
+
+-- the memory of a section when it is placed
+abbrev pub placed_in : Section → List ℕ
+placed_in s = filled (first_image s) s.header.total_size
+
+-- the same for section k of a container, and of a fragment
+abbrev pub placed_at : Contained → ℕ → List ℕ
+placed_at c k = option_map_or placed_in (section_of c k) []
+
+abbrev pub section_placed : List Pair → ℕ → ℕ → List ℕ
+section_placed pairs p k = option_map_or (λ c. placed_at c k) (container_at pairs p) []
+
+-- memory with the sections of some fragments, each with the bytes that are given for its fragment and its number
+abbrev pub all_filled : Layout → List Present → (Present → ℕ → List ℕ) → Layout
+all_filled m [] bytes = m
+all_filled m (f ∷ fs) bytes = all_filled (with_filled m f.places (bytes f)) fs bytes
+
+-- the bytes that are given for a fragment have the sizes of its places
+abbrev pub HaveSizes : (ℕ → List ℕ) → Present → Type 0
+HaveSizes bytes f = (k : ℕ) → k < length f.places → length (bytes k) ≡ (place_at f.places k).size
+
+-- fragments with new positions were placed by a rule after those that exist, each section with the bytes that it has then
+pub record HavePlacedWith (rule : Rule) (pairs : List Pair) (m : Layout) (there : List Present) (new : List ℕ) (now : List Present) (after : Layout) : Type 0 where
+  pub empty : Layout
+  pub have : HavePlaced rule pairs m there new now empty
+  pub sizes : (j : ℕ) → j < length have.fresh → HaveSizes (section_placed pairs (present_at have.fresh j).position) (present_at have.fresh j)
+  pub filled : after ≡ all_filled m have.fresh (λ f. section_placed pairs f.position)
