@@ -1,10 +1,10 @@
 ghost use Rattle.std.specs.Prelude.{◌≡◌, ◌<◌, ◌^◌, ◌∷◌, [], Some, option_map, Ok, IfSome, length};
-ghost use Rattle.std.specs.Option.{is_none, option_copied};
+ghost use Rattle.std.specs.Option.{is_none, option_and_then, option_copied};
 ghost use Rattle.pef_words.specs.Refusals.{result_map};
 ghost use Rattle.pef_views.specs.Container.{loader_of, loader_offset_of, loader_row_of};
 ghost use Rattle.pef_views.specs.Header.{field_tests, names_from};
 ghost use Rattle.pef_views.specs.Partial.{found_loader, header_in, is_out_of_order, loader_tests, name_of_section, opened, partial_of, sections_allowed, tests_of_section};
-ghost use Rattle.pef_views.specs.Section.{raw_of};
+ghost use Rattle.pef_views.specs.Section.{raw_of, section_at};
 
 use crate::container::{any_loader, find_loader, loader_row};
 use crate::fault::ViewFault;
@@ -23,9 +23,12 @@ pub struct PartialContainer<'a> {
     no_loader: bool,
     loader: Option<&'a [u8]>,
     loader_row: Option<u16>,
+    /// Where the loader section begins. Each of its rows is placed by it.
+    loader_offset: Option<u32>,
     ghost lacks: { no_loader ≡ is_none (loader_of cut.bytes.now header) },
     ghost loads: { option_copied loader ≡ found_loader cut.bytes.now header },
     ghost numbered: { loader_row ≡ loader_row_of (opened cut.bytes.now header) },
+    ghost placed: { loader_offset ≡ loader_offset_of (opened cut.bytes.now header) },
 }
 
 impl<'a> PartialContainer<'a> {
@@ -36,7 +39,7 @@ impl<'a> PartialContainer<'a> {
     /// # Errors
     ///
     /// `TooShort` if there are fewer than 40 bytes, `BadTag` if the first eight aren't `Joy!peff`.
-    #[tactic(auto, unfolding(crate::specs::Partial::partial_of, crate::specs::Container::loader_row_of))]
+    #[tactic(auto, unfolding(crate::specs::Partial::partial_of, crate::specs::Container::loader_row_of, crate::specs::Container::loader_offset_of))]
     pub fn read(bytes: &'a [u8]) -> Result<PartialContainer<'a>, ViewFault>
         ensures { result_map partly result ≡ partial_of bytes.entry.now }
     {
@@ -44,12 +47,14 @@ impl<'a> PartialContainer<'a> {
         let header = read_header(cut).ok_or(ViewFault::TooShort)?;
         test_tag(header)?;
         let behind = find_loader(cut, header);
+        let loader_row = loader_row(cut, header);
         Ok(PartialContainer {
             cut,
             header,
             no_loader: behind.is_none(),
             loader: found_loader(cut, header, behind),
-            loader_row: loader_row(cut, header),
+            loader_row,
+            loader_offset: section_offset(cut, loader_row),
         })
     }
 
@@ -149,13 +154,11 @@ impl<'a> PartialContainer<'a> {
     }
 
     /// Returns the offset of the first byte of the loader section. It may be past the end of the container.
-    #[tactic(auto, unfolding(crate::specs::Container::loader_offset_of))]
     pub fn loader_offset(&self) -> Option<usize>
         ensures value { result ≡ loader_offset_of (partly self.now) }
         ensures small { IfSome result (λ offset. offset < 2 ^ 32) }
     {
-        let row = self.loader_row?;
-        Some(read_section(self.cut, usize::from(row))?.container_offset as usize)
+        Some(self.loader_offset? as usize)
     }
 
     /// Returns the tests of the fields of the header, in order: whether each rule is broken, and which it is.
@@ -200,4 +203,11 @@ fn found_loader<'a>(cut: Cut<'a>, header: Header, behind: Option<&'a [u8]>) -> O
         Some(loader) => Some(loader),
         None => Some(raw_bytes(cut, any_loader(cut, header)?)),
     }
+}
+
+/// Returns where the raw bytes of a section begin, if its header is in the bytes.
+fn section_offset(cut: Cut<'_>, row: Option<u16>) -> Option<u32>
+    ensures { result ≡ option_and_then (λ i. option_map (λ s. s.container_offset) (section_at cut.entry.bytes.now i)) row }
+{
+    Some(read_section(cut, usize::from(row?))?.container_offset)
 }
