@@ -1,8 +1,7 @@
 -- A check returns true exactly if a certificate is valid.
-use Rattle.std.proofs.Common.{◌≡◌, ℕ, zero, suc, ◌+◌, ◌-◌, ◌*◌, ◌<◌, ◌≤◌, Bool, true, false, List, [], ◌∷◌, length, take, drop, replicate, ap, sym, ◌∙◌, subst, arith}
+use Rattle.std.proofs.Common.{◌≡◌, ℕ, ◌+◌, ◌-◌, ◌*◌, ◌<◌, ◌≤◌, Bool, true, false, List, [], ◌∷◌, length, ap, sym, ◌∙◌, subst, arith}
 use Rattle.std.specs.List.{AllByRecursion}
 use Rattle.std.proofs.Math.Nat.{mul-le-mul_left}
-use Rattle.std.proofs.lemmas.List.{length-drop, length-take-le}
 use Rattle.pef_reloc.specs.declared.fixup.Fixup.{Fixup}
 use Rattle.pef_reloc.specs.declared.instr.Instr.{Instr}
 use Rattle.pef_reloc.specs.Fixups.{fixups_fit}
@@ -10,14 +9,14 @@ use Rattle.pef_reloc.specs.Instrs.{program_length}
 use Rattle.pef_reloc.specs.Limits.{most_sections}
 use Rattle.pef_reloc.specs.Steps.{Least, start}
 use Rattle.pef_reloc.proofs.Laws.{used_section-below}
-use Rattle.pef_words.proofs.Laws.Lists.{all-append}
+use Rattle.pef_labels.proofs.Laws.{rows-wide}
 use Rattle.pef_cert.specs.declared.claim.Claim.{Claim}
 use Rattle.pef_cert.specs.Extension.{extension_at}
 use Rattle.pef_cert.specs.Labels.{Labels, class_of, classes}
 use Rattle.pef_cert.specs.Certified.{Certified}
 use Rattle.pef_cert.specs.Valid.{RegistersOf, Valid}
 use Rattle.pef_cert.specs.Kept.Claims.{Holds, IsClaim, RowsFit, Shaped, labels_claimed}
-use Rattle.pef_cert.specs.Rows.{RowsFull, rows_from}
+use Rattle.pef_labels.specs.Rows.{RowsFull, rows_from}
 use Rattle.pef_cert.specs.Fixups.Answers.{Says}
 use Rattle.pef_cert.proofs.ClaimLemmas.{few_rising}
 use Rattle.pef_cert.proofs.ExtensionLemmas.{extension-end}
@@ -47,19 +46,6 @@ pub registers-few : (fixups : List Fixup) (registers : List ℕ) → fixups_fit 
 registers-few fixups registers fit right =
     few_rising most_sections registers right.rising (λ k among. used_section-below fixups k fit (sym (right.used k) ∙ among))
 
--- each row has the width of the rows
-all_copies : (w n : ℕ) (row : List ℕ) → length row ≡ w → AllByRecursion (λ (r : List ℕ). length r ≡ w) (replicate n row)
-all_copies w zero row wide = tt
-all_copies w (suc n) row wide = (wide, all_copies w n row wide)
-
-pub rows-wide : (w low : ℕ) (ends values : List ℕ) → length values ≡ w * length ends → AllByRecursion (λ (r : List ℕ). length r ≡ w) (rows_from w low ends values)
-rows-wide w low [] values full = tt
-rows-wide w low (end ∷ ends) values full =
-    let product : w * length (end ∷ ends) ≡ w + w * length ends = omega arith in
-    all-append (λ (r : List ℕ). length r ≡ w) (replicate (end - low) (take w values)) (rows_from w end ends (drop w values))
-    (all_copies w (end - low) (take w values) (length-take-le w values (omega (arith, full, product))))
-    (rows-wide w end ends (drop w values) (omega (arith, full, product, length-drop w values)))
-
 both_widths : (w v : ℕ) (rows : List (List ℕ)) → 0 < length rows → AllByRecursion (λ (r : List ℕ). length r ≡ w) rows → AllByRecursion (λ (r : List ℕ). length r ≡ v) rows → w ≡ v
 both_widths w v [] some one two = absurd (omega (arith, some))
 both_widths w v (r ∷ rows) some one two = sym one.0 ∙ two.0
@@ -67,7 +53,7 @@ both_widths w v (r ∷ rows) some one two = sym one.0 ∙ two.0
 -- rows that are too many, too few or of another width
 pub not-fit : (w n classes count : ℕ) (ends values : List ℕ) (rows : List (List ℕ)) → rows ≡ rows_from w 0 ends values → RowsFull w ends values → count ≡ length rows → (w ≡ classes * classes → count ≡ n + 1 → ⊥) → RowsFit n classes rows → ⊥
 not-fit w n classes count ends values rows is full count_is never fit =
-    let wide = subst (λ (rs : List (List ℕ)). AllByRecursion (λ (r : List ℕ). length r ≡ w) rs) (sym is) (rows-wide w 0 ends values full.full) in
+    let wide = subst (λ (rs : List (List ℕ)). AllByRecursion (λ (r : List ℕ). length r ≡ w) rs) (sym is) (rows-wide w ends values full) in
     let sum = fit.count_is in
     never (both_widths w (classes * classes) rows (omega (arith, sum)) wide fit.row) (count_is ∙ sum)
 
@@ -76,7 +62,7 @@ claim_valid : (claim : Claim) (section : ℕ) (program : List Instr) → Shaped 
 claim_valid claim section program shaped holds = record {
   registers = shaped.registers;
   rows = shaped.rows;
-  row = subst (λ (w : ℕ). AllByRecursion (λ (r : List ℕ). length r ≡ w) (rows_from claim.kept.width 0 claim.kept.ends.now claim.kept.values.now)) shaped.width (rows-wide claim.kept.width 0 claim.kept.ends.now claim.kept.values.now shaped.full.full);
+  row = subst (λ (w : ℕ). AllByRecursion (λ (r : List ℕ). length r ≡ w) (rows_from claim.kept.width 0 claim.kept.ends.now claim.kept.values.now)) shaped.width (rows-wide claim.kept.width claim.kept.ends.now claim.kept.values.now shaped.full);
   feasible = holds.feasible;
   flat = holds.flat;
   makes = holds.makes;

@@ -14,14 +14,14 @@ use Rattle.pef_reloc.proofs.Laws.{used_section-below}
 use Rattle.pef_words.proofs.Laws.Lists.{drop-here}
 use Rattle.pef_cert.specs.declared.claim.CheckedSuffix.{CheckedSuffix}
 use Rattle.pef_cert.specs.declared.claim.Claim.{Claim}
-use Rattle.pef_cert.specs.Rising.{above_all}
+use Rattle.pef_labels.specs.Rising.{above_all}
 use Rattle.pef_cert.specs.Valid.{is_among, rises}
 use Rattle.pef_cert.proofs.ExtensionLemmas.{extension-away, extension-end, extension-here}
 use Rattle.pef_cert.specs.Labels.{Labels, class_of}
 use Rattle.pef_cert.specs.Extension.{OfferIs, change, extension, moved_value, offer_at}
 use Rattle.pef_cert.specs.Kept.Claims.{IsRowOf, Knows, Sees, Shaped, rows_before}
-use Rattle.pef_cert.specs.Rows.{RowsFull, rows_from}
-use Rattle.pef_cert.proofs.RowLemmas.{end_before, end_before-suc, end_before-zero, rows-at}
+use Rattle.pef_labels.specs.Rows.{RowsFull, rows_from}
+use Rattle.pef_labels.proofs.Laws.{row-at}
 
 -- the place of a label in a row
 pub place_under : (r c d : ℕ) → c < r → d < r → c * r + d < r * r
@@ -33,28 +33,20 @@ kept_under w count q place under inside =
     let low = mul-add-lt q w place count under inside in
     omega (arith, low)
 
-before_same : (ends : List ℕ) (q : ℕ) → q < length ends → end_before 0 ends q ≡ rows_before ends q
-before_same ends zero under = end_before-zero 0 ends
-before_same ends (suc q) under = end_before-suc 0 ends q (omega arith)
+-- the rows before a kept one end with the one before it
+before_end : (ends : List ℕ) (q j k : ℕ) → IsRowOf ends q j → suc k ≡ q → slice_index ends k ≤ j
+before_end ends q j k row is = subst (λ (n : ℕ). rows_before ends n ≤ j) (sym is) row.after
 
 -- a kept row is each row that it represents
 pub row-kept : (w q j : ℕ) (ends values : List ℕ) → RowsFull w ends values → IsRowOf ends q j → take w (drop (q * w) values) ≡ slice_index_or (rows_from w 0 ends values) j []
-row-kept w q j ends values full row =
-    let same : j - 0 ≡ j = omega arith in
-    let after = row.after in
-    let is = before_same ends q row.kept in
-    sym (sym (ap (λ i. slice_index_or (rows_from w 0 ends values) i []) same)
-    ∙ rows-at w 0 ends values q j full.rising row.kept (omega (arith, is, after)) row.before)
+row-kept w q j ends values full row = row-at w ends values q j full row.kept (λ k is. before_end ends q j k row is) row.before
 
 -- a label of a kept row is that of each row that it represents
 pub label-kept : (w q j n place : ℕ) (ends values : List ℕ) → RowsFull w ends values → IsRowOf ends q j → j ≤ n → place < w → slice_index values (q * w + place) ≡ slice_index (slice_index_or (rows_from w 0 ends values) (n - (n - j)) []) place
 label-kept w q j n place ends values full row inside under =
-    let same : n - (n - j) ≡ j - 0 = omega arith in
-    let after = row.after in
-    let is = before_same ends q row.kept in
-    let at = rows-at w 0 ends values q j full.rising row.kept (omega (arith, is, after)) row.before in
+    let same : n - (n - j) ≡ j = omega arith in
     sym (ap (λ i. slice_index (slice_index_or (rows_from w 0 ends values) i []) place) same
-    ∙ (ap (λ r. slice_index r place) at
+    ∙ (ap (λ r. slice_index r place) (sym (row-kept w q j ends values full row))
     ∙ (get_or-take w (drop (q * w) values) place 0 under
     ∙ get_or-drop (q * w) values place 0)))
 

@@ -15,7 +15,7 @@ use Rattle.pef_cert.specs.declared.feasible.TestedFixup.{TestedFixup}
 use Rattle.pef_cert.specs.Labels.{Labels, class_of}
 use Rattle.pef_cert.specs.Feasible.{FeasibleAt}
 use Rattle.pef_cert.specs.Kept.Claims.{Shaped, UnderTest, labels_claimed}
-use Rattle.pef_cert.specs.Rows.{rows_from}
+use Rattle.pef_labels.specs.Rows.{rows_from}
 use Rattle.pef_cert.specs.Kept.Sets.{RowHolds}
 use Rattle.pef_cert.specs.Fixups.Answers.{Says}
 use Rattle.pef_cert.specs.Kept.Tests.{AllTests}

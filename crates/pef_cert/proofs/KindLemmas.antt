@@ -16,7 +16,7 @@ use Rattle.pef_cert.specs.Labels.{Labels, class_of, classes}
 use Rattle.pef_cert.specs.Extension.{extension}
 use Rattle.pef_cert.specs.Kept.Claims.{Sees, UnderTest, labels_claimed, row_at, state_of}
 use Rattle.pef_cert.specs.Kept.Sets.{RowWithin}
-use Rattle.pef_cert.specs.Rows.{rows_from}
+use Rattle.pef_labels.specs.Rows.{rows_from}
 use Rattle.pef_cert.specs.Kept.Tests.{AllSingles, AllTests, ImportRuns, SectionRuns, adds_first, label_of, single_test}
 use Rattle.pef_cert.specs.LabelTests.{base_test, import_cost, numbered_test, row_test, second_test}
 use Rattle.pef_cert.proofs.ClaimLemmas.{get_under, knows-sees, label_there, place_under, value-here}

@@ -22,6 +22,4 @@ mod StepLemmas
 mod SweepLemmas
 mod TestLemmas
 mod FixupsProofs
-mod PackedLemmas
-mod RowLemmas
 mod TextProofs

@@ -11,7 +11,7 @@ use Rattle.pef_reloc.specs.declared.fixup.Base.{Base}
 use Rattle.pef_reloc.specs.declared.fixup.Base.TheVariants.{Section, Import}
 use Rattle.pef_reloc.specs.declared.fixup.Fixup.{Fixup}
 use Rattle.pef_cert.specs.Fixups.Answers.{Says}
-use Rattle.pef_cert.specs.Rows.{rows_from}
+use Rattle.pef_labels.specs.Rows.{rows_from}
 use Rattle.pef_words.proofs.Laws.Lists.{drop-here}
 use Rattle.pef_cert.specs.declared.claim.CheckedSuffix.{CheckedSuffix}
 use Rattle.pef_cert.specs.declared.feasible.TestedFixup.{TestedFixup}

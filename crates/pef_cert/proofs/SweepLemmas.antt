@@ -20,10 +20,10 @@ use Rattle.pef_cert.specs.declared.claim.Claim.{Claim}
 use Rattle.pef_cert.specs.Extension.{OfferIs, change, offer_at, skips_at}
 use Rattle.pef_cert.specs.Feasible.{Feasible, FeasibleAt, FeasibleFrom}
 use Rattle.pef_cert.specs.Labels.{Labels, class_of, classes}
-use Rattle.pef_cert.specs.Rising.{above_all}
+use Rattle.pef_labels.specs.Rising.{above_all}
 use Rattle.pef_cert.specs.Valid.{labels_in}
 use Rattle.pef_cert.specs.Kept.Claims.{IsRowOf, KnownAt, Shaped, SkipsAre, SkipsKept, Swept, labels_claimed, rows_before, word_end}
-use Rattle.pef_cert.specs.Rows.{RowsFull, rows_from}
+use Rattle.pef_labels.specs.Rows.{RowsFull, rows_from}
 use Rattle.pef_cert.specs.Kept.Sets.{RowIsZero}
 use Rattle.pef_cert.proofs.AdditionLemmas.{index_later}
 use Rattle.pef_cert.proofs.Bounds.{extension-small}
@@ -31,7 +31,7 @@ use Rattle.pef_cert.proofs.ClaimLemmas.{get_under, place_under}
 use Rattle.pef_cert.proofs.ClassLemmas.{RegisteredBase, all_registered, class_of-below, numbers}
 use Rattle.pef_cert.proofs.FeasibleLemmas.{section-counts}
 use Rattle.pef_cert.proofs.Falling.{World}
-use Rattle.pef_cert.proofs.RowLemmas.{rows-some}
+use Rattle.pef_labels.proofs.Laws.{rows-some}
 use Rattle.pef_cert.proofs.SkipLemmas.{offer-import, offer-section, skip-low}
 
 -- ends rise

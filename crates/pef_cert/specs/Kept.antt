@@ -3,5 +3,3 @@ pub mod Registers
 pub mod Sets
 pub mod Tests
 pub mod Values
-pub mod Packed
-pub mod RowsKept

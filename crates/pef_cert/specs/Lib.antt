@@ -7,6 +7,4 @@ pub mod Minima
 pub mod Valid
 pub mod Certified
 pub mod Fixups
-pub mod Rising
-pub mod Rows
 pub mod Text

@@ -2,7 +2,7 @@ ghost use Rattle.std.specs.Prelude.{◌≡◌};
 ghost use Rattle.pef_reloc.specs.Instrs.{program_length};
 
 use crate::fixups::program_length;
-use crate::rows::LabelRows;
+use pef_labels::LabelRows;
 use pef_reloc::Instr;
 use std::marker::Model;
 

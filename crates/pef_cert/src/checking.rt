@@ -5,11 +5,12 @@ ghost use Rattle.pef_cert.specs.Valid.{RegistersOf, Valid};
 ghost use Rattle.pef_reloc.specs.Fixups.{fixups_fit};
 ghost use Rattle.pef_reloc.specs.Steps.{Least};
 
+use crate::Certificate;
 use crate::claim::Claim;
 use crate::classes::class_of;
 use crate::fixups::{makes, program_length};
 use crate::registers::registers_hold;
-use crate::{Certificate, LabelRows};
+use pef_labels::LabelRows;
 use pef_reloc::{Fixup, Instr};
 
 /// Returns whether a certificate is valid for the fixups of its section, which have to fit. If it is, its

@@ -1,11 +1,11 @@
 ghost use Rattle.std.specs.Prelude.{◌≡◌, ◌+◌, ◌-◌, ◌*◌, ◌%◌, ◌^◌, ◌<◌, ◌≤◌, ℕ, IfSome, Some, [], drop, length, slice_get, slice_index_or};
 ghost use Rattle.pef_cert.specs.Extension.{change, extension, offer_at};
 ghost use Rattle.pef_cert.specs.Labels.{class_of};
-ghost use Rattle.pef_cert.specs.Rows.{rows_from};
+ghost use Rattle.pef_labels.specs.Rows.{rows_from};
 ghost use Rattle.pef_cert.specs.Kept.Claims.{IsRowOf, Sees, Shaped, labels_claimed, word_end};
 
-use crate::KeptRows;
 use crate::extension::moved_value;
+use pef_labels::KeptRows;
 use pef_reloc::{Base, Fixup, MAX_SECTIONS};
 
 /// The most indices after the fixup under test that are needed: no instruction makes more fixups.

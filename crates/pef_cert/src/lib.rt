@@ -17,7 +17,6 @@ mod fixups;
 mod imports;
 mod packed;
 mod registers;
-mod rows;
 mod runs;
 mod sets;
 mod singles;
@@ -32,8 +31,8 @@ pub use classes::{change, class_of, has_class};
 pub use extension::{REACH, SKIP_REACH, moved_value};
 pub use fixups::{WORD, adds_at, after_first, after_import, program_length};
 pub use packed::PackedCertificate;
+pub use pef_labels::{KeptRows, LabelRows, LabelRun, LabelRuns};
 pub use registers::{are_rising, uses_section};
-pub use rows::{KeptRows, LabelRows, LabelRun, LabelRuns};
 pub use text::{CertFault, CertificateReader, printed_texts, read_texts, valid_certificates_print};
 pub use theorems::{
     extension_of_labels, extensions_fall, labels_are_near, valid_programs_are_least,

@@ -1,7 +1,7 @@
 ghost use Rattle.std.specs.Prelude.{◌≡◌};
 ghost use Rattle.pef_cert.specs.Kept.Registers.{all_registered, is_registered};
 ghost use Rattle.pef_cert.specs.Fixups.Answers.{Says};
-ghost use Rattle.pef_cert.specs.Rising.{above_all};
+ghost use Rattle.pef_labels.specs.Rising.{above_all};
 ghost use Rattle.pef_cert.specs.Valid.{RegistersOf, rises};
 ghost use Rattle.pef_reloc.specs.Deliveries.{all_meet, is_section, uses_section};
 

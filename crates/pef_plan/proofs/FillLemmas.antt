@@ -29,7 +29,7 @@ use Rattle.pef_plan.specs.Kept.Rows.{RowOf, SkipsOf}
 use Rattle.pef_plan.specs.Kept.Steps.{labels_tabled}
 use Rattle.pef_plan.proofs.ImportLemmas.{steps-from}
 use Rattle.pef_plan.specs.Runs.Tables.{Agrees, OffersAre, OffersFrom, SameLabels, Shaped, label_in, number_in, place_of, skip_in}
-use Rattle.pef_cert.specs.Rows.{LaidRows}
+use Rattle.pef_labels.specs.Rows.{LaidRows}
 use Rattle.pef_words.proofs.Laws.Lists.{all-append}
 use Rattle.pef_plan.specs.Kept.Tables.{Tabled, TablesOf}
 use Rattle.pef_plan.specs.Runs.Leads.{LeadsWithin}

@@ -8,7 +8,7 @@ use Rattle.pef_reloc.specs.Steps.{Least, start}
 use Rattle.pef_reloc.proofs.Laws.{used_section-below}
 use Rattle.pef_cert.specs.Labels.{Labels}
 use Rattle.pef_cert.specs.Feasible.{Feasible}
-use Rattle.pef_cert.specs.Rows.{LaidRows}
+use Rattle.pef_labels.specs.Rows.{LaidRows}
 use Rattle.pef_cert.specs.Certified.{Certified}
 use Rattle.pef_cert.specs.Valid.{RegistersOf, Valid, labels_of}
 use Rattle.pef_cert.proofs.Laws.{few_rising}

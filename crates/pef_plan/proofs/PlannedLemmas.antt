@@ -12,7 +12,7 @@ use Rattle.pef_reloc.specs.Steps.{Least, State, is_flat, next_state, start, stat
 use Rattle.pef_reloc.proofs.Laws.{first_delivers, flat_more, flat_parts, makes_more, state_after-append}
 use Rattle.pef_cert.specs.Labels.{Labels}
 use Rattle.pef_cert.specs.Extension.{extension_at}
-use Rattle.pef_cert.specs.Rising.{above_all}
+use Rattle.pef_labels.specs.Rising.{above_all}
 use Rattle.pef_cert.specs.Valid.{RegistersOf, is_among, rises}
 use Rattle.pef_plan.specs.declared.runs.suffix.SolvedSuffix.{SolvedSuffix}
 use Rattle.pef_plan.specs.declared.runs.state.PlanState.{PlanState}

@@ -9,7 +9,7 @@ use Rattle.pef_reloc.specs.Deliveries.{is_section, uses_section}
 use Rattle.pef_reloc.specs.Fixups.{fixups_fit}
 use Rattle.pef_reloc.specs.Limits.{most_sections}
 use Rattle.pef_reloc.proofs.Laws.{used_section-below}
-use Rattle.pef_cert.specs.Rising.{above_all}
+use Rattle.pef_labels.specs.Rising.{above_all}
 use Rattle.pef_cert.specs.Valid.{RegistersOf, is_among, rises}
 use Rattle.pef_words.proofs.Laws.Tests.{or_assoc, or_either}
 

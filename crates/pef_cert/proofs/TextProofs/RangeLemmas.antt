@@ -1,8 +1,10 @@
 -- Rows as ranges: equal rows in front of others are one range.
-use Rattle.std.proofs.Common.{◌≡◌, ◌≢◌, ℕ, zero, suc, ◌+◌, ◌-◌, ◌<◌, Bool, true, false, cond, List, [], ◌∷◌, ◌++◌, length, length-append, replicate, refl, sym, ap, ap₂, ◌∙◌, arith}
+use Rattle.std.proofs.Common.{◌≡◌, ◌≢◌, ℕ, zero, suc, ◌+◌, ◌-◌, ◌<◌, Bool, true, false, cond, List, [], ◌∷◌, ◌++◌, length, length-append, take, drop, replicate, refl, sym, ap, ap₂, ◌∙◌, arith}
 use Rattle.std.specs.Str.{bytes_eq}
 use Rattle.std.proofs.lemmas.List.{get_or-append_right, get_or-replicate, length-replicate}
 use Rattle.std.proofs.lemmas.Slice.Eq.{bytes_eq-Decides}
+use Rattle.pef_labels.specs.Rows.{RunsFull, rows_from}
+use Rattle.pef_labels.proofs.Laws.{run-rises, runs-whole}
 use Rattle.pef_cert.specs.Text.Grammar.{last_labels}
 use Rattle.pef_cert.specs.Text.Lines.{Range}
 use Rattle.pef_cert.specs.Text.Printed.{range_text, ranges_of, ranges_text, with_row}
@@ -101,3 +103,14 @@ run_text-more at n row rows others some parts apart =
     (ap (ranges_of at) (parts ∙ ap (λ (m : ℕ). replicate m row ++ others) (sym whole))
     ∙ ranges_of-run (n - 1) at row others apart
     ∙ ap₂ (λ (l m : ℕ). record { first = at; last = l; labels = row } ∷ ranges_of m others) last next)
+
+-- the line of the first of the kept rows that are left, and then the lines of the others
+pub packed_text-more : (w first end : ℕ) (ends rest numbers : List ℕ) → RunsFull w first ends numbers → ends ≡ end ∷ rest
+    → ranges_text (ranges_of first (rows_from w first ends numbers)) ≡ range_text (record { first = first; last = end - 1; labels = take w numbers }) ++ ranges_text (ranges_of end (rows_from w end rest (drop w numbers)))
+packed_text-more w first end ends rest numbers full is =
+    let rises = run-rises w first end ends rest numbers full is in
+    let rows = rows_from w end rest (drop w numbers) in
+    let last : first + (end - first) - 1 ≡ end - 1 = omega (arith, rises) in
+    let next : first + (end - first) ≡ end = omega (arith, rises) in
+    run_text-more first (end - first) (take w numbers) (rows_from w first ends numbers) rows (omega (arith, rises)) (ap (λ (es : List ℕ). rows_from w first es numbers) is) (runs-whole w first end ends rest numbers full is)
+    ∙ ap₂ (λ (l n : ℕ). range_text (record { first = first; last = l; labels = take w numbers }) ++ ranges_text (ranges_of n rows)) last next

@@ -19,7 +19,7 @@ use Rattle.pef_cert.specs.Extension.{OfferIs, extension_at}
 use Rattle.pef_cert.specs.Feasible.{Feasible, FeasibleFrom}
 use Rattle.pef_cert.specs.Kept.Tests.{adds_first}
 use Rattle.pef_cert.specs.LabelTests.{pairs_test, row_test}
-use Rattle.pef_cert.specs.Rows.{RowsFull, rows_from}
+use Rattle.pef_labels.specs.Rows.{RowsFull, rows_from}
 use Rattle.pef_cert.specs.Valid.{RegistersOf, labels_in}
 
 -- the labels that are claimed

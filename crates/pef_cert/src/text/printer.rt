@@ -11,10 +11,10 @@ ghost use Rattle.pef_cert.specs.Text.Kept.Heads.{head_text, indices_text};
 ghost use Rattle.pef_cert.specs.Text.Printed.{Printable, certificate_text, certificates_text, each_text, halfword_words, labels_text, line_text, number_words, program_words, range_text, words_text};
 
 use crate::fixups::program_length;
-use crate::packed::{NumbersLeft, PackedKept, PackedRows};
 use crate::text::CertFault;
-use crate::{Certificate, LabelRows, LabelRun, PackedCertificate};
+use crate::{Certificate, PackedCertificate};
 use itoa::write_digits;
+use pef_labels::{LabelRows, LabelRun, NumbersLeft, PackedKept, PackedRows};
 use pef_ports::{
     Decimal, Joined, Line, Page, Printed, Sink, StreamFault, Text, Verbatim, flush, push_hex, send,
 };

@@ -8,12 +8,13 @@ ghost use Rattle.pef_cert.specs.Text.Printed.{Printable};
 ghost use Rattle.pef_cert.specs.Text.Unread.{BeginsAs, TakesNext, certificates_left, unread};
 ghost use Rattle.pef_cert.specs.Text.Views.{ReadsAs};
 
+use crate::Certificate;
 use crate::text::CertFault;
 use crate::text::fields::{Head, Version, fixups_line, head_line, length_line, version_line};
 use crate::text::lines::Lines;
 use crate::text::numbers::{WantedRange, range_line, registers_line, row_line};
 use crate::text::program::program_line;
-use crate::{Certificate, LabelRows};
+use pef_labels::LabelRows;
 use pef_reloc::Instr;
 use std::alloc::Global;
 use std::mem;

@@ -4,7 +4,7 @@ use Rattle.std.specs.List.{AllByRecursion}
 use Rattle.pef_reloc.specs.declared.fixup.Fixup.{Fixup}
 use Rattle.pef_reloc.specs.Deliveries.{index_after}
 use Rattle.pef_cert.specs.Labels.{Labels}
-use Rattle.pef_cert.specs.Rows.{LaidRows}
+use Rattle.pef_labels.specs.Rows.{LaidRows}
 use Rattle.pef_cert.specs.Feasible.{FeasibleFrom}
 use Rattle.pef_plan.specs.Reached.{ReachedFrom}
 use Rattle.pef_plan.specs.Runs.Tables.{OffersFrom, SameLabels, label_in, skip_in}

@@ -22,7 +22,7 @@ pub struct CloseRows {
 }
 
 impl Model for CloseRows {
-    ghost use Rattle.pef_cert.specs.Rows.{LaidRows};
+    ghost use Rattle.pef_labels.specs.Rows.{LaidRows};
     ghost use Rattle.pef_plan.specs.Windows.Kept.{CloseFull};
     ghost use Rattle.pef_plan.specs.Windows.Tables.{close_rows};
 

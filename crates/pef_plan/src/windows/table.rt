@@ -14,7 +14,7 @@ pub struct Table {
 
 impl Model for Table {
     ghost use Rattle.std.specs.Prelude.{◌≡◌, ◌*◌, length};
-    ghost use Rattle.pef_cert.specs.Rows.{LaidRows};
+    ghost use Rattle.pef_labels.specs.Rows.{LaidRows};
     ghost use Rattle.pef_plan.specs.Windows.Tables.{rows_of};
 
     ghost Value = { LaidRows };

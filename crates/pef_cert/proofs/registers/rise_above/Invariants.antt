@@ -1,5 +1,5 @@
 use Rattle.std.proofs.Common.{◌≡◌, drop}
-use Rattle.pef_cert.specs.Rising.{above_all}
+use Rattle.pef_labels.specs.Rising.{above_all}
 use Rattle.pef_cert.proofs.registers.rise_above.Given as goal
 
 abbrev pub invariant-loop-number : goal.invariant-loop-number

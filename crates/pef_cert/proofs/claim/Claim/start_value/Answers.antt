@@ -6,7 +6,7 @@ use Rattle.pef_reloc.specs.Deliveries.{index_after}
 use Rattle.pef_cert.specs.Extension.{extension}
 use Rattle.pef_cert.specs.Feasible.{FeasibleFrom}
 use Rattle.pef_cert.specs.Kept.Claims.{Swept, labels_claimed}
-use Rattle.pef_cert.specs.Rows.{rows_from}
+use Rattle.pef_labels.specs.Rows.{rows_from}
 use Rattle.pef_cert.proofs.ClassLemmas.{class_of-below}
 use Rattle.pef_cert.proofs.SweepLemmas.{feasible-before, feasible-end, feasible-there, feasible-whole, last-zero, row-last, swept-close, swept-end, swept-next, zero-last}
 use Rattle.pef_cert.proofs.claim.Claim.start_value.Goals as goal

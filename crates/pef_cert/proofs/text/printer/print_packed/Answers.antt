@@ -3,8 +3,8 @@ use Rattle.std.proofs.Common.{◌+◌, ◌-◌, drop, take, slice_index_or}
 use Rattle.std.proofs.lemmas.List.{drop_more}
 use Rattle.pef_ports.proofs.Laws.Sending.{Sends-short, sent-nothing, sent-piece, sent-short}
 use Rattle.pef_cert.specs.Text.Printed.{range_text}
-use Rattle.pef_cert.proofs.PackedLemmas.{packed_text-more}
-use Rattle.pef_cert.proofs.RowLemmas.{runs-next}
+use Rattle.pef_labels.proofs.Laws.{runs-next}
+use Rattle.pef_cert.proofs.TextProofs.RangeLemmas.{packed_text-more}
 use Rattle.pef_cert.proofs.text.printer.print_packed.Goals as goal
 
 pub loop-end-init : goal.loop-end-init

@@ -1,6 +1,5 @@
 use Rattle.std.proofs.Common.{drop}
-use Rattle.pef_cert.specs.Kept.RowsKept.{RunsFull}
-use Rattle.pef_cert.specs.Rows.{rows_from}
+use Rattle.pef_labels.specs.Rows.{RunsFull, rows_from}
 use Rattle.pef_cert.specs.declared.text.fields.Version.TheVariants.{Two}
 use Rattle.pef_cert.specs.Text.Printed.{labels_text, ranges_of, ranges_text}
 use Rattle.pef_ports.proofs.Laws.Sending.{IsSentUpTo}

@@ -2,7 +2,7 @@
 use Rattle.std.proofs.Common.{◌≡◌, ◌+◌, ◌-◌, ◌*◌, ◌++◌, List, ℕ, length, length-append, replicate, subst, ap, sym, ◌∙◌, arith}
 use Rattle.std.proofs.lemmas.List.{length-replicate}
 use Rattle.std.proofs.lemmas.Result.{err_from_is_err_and}
-use Rattle.pef_cert.specs.Rows.{LaidRows}
+use Rattle.pef_labels.specs.Rows.{LaidRows}
 use Rattle.pef_cert.specs.Text.Grammar.{last_labels}
 use Rattle.pef_cert.specs.Text.Kept.Reading.{RangesGoing, left}
 use Rattle.pef_cert.proofs.TextProofs.RangeLemmas.{last_labels-more}

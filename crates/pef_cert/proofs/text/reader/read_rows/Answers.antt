@@ -1,7 +1,7 @@
 -- The row that a turn reads is the next one.
 use Rattle.std.proofs.Common.{◌≡◌, ◌+◌, ◌-◌, ◌*◌, [], ◌∷◌, ◌++◌, List, ℕ, length, length-append, subst, ap, ◌∙◌, arith}
 use Rattle.std.proofs.lemmas.Result.{err_from_is_err_and}
-use Rattle.pef_cert.specs.Rows.{LaidRows}
+use Rattle.pef_labels.specs.Rows.{LaidRows}
 use Rattle.pef_cert.specs.Text.Grammar.{rows_read}
 use Rattle.pef_cert.specs.Text.Kept.Reading.{left}
 use Rattle.pef_cert.specs.Text.Views.{FailsAs}

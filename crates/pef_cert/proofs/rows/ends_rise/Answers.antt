@@ -1,6 +1,0 @@
-use Rattle.std.proofs.Common.{arith}
-use Rattle.std.proofs.lemmas.Grind.{common_steps}
-use Rattle.pef_cert.proofs.rows.ends_rise.Goals as goal
-
-pub loop-end-preserved : goal.loop-end-preserved
-loop-end-preserved c = grind (arith, common_steps)

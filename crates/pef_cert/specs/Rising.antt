@@ -1,7 +1,0 @@
--- Numbers that rise.
-use Rattle.std.specs.Prelude.{ℕ, Bool, true, ◌&&◌, nat_lt, List, [], ◌∷◌}
-
--- each number is above the one before it
-abbrev pub above_all : ℕ → List ℕ → Bool
-above_all low [] = true
-above_all low (r ∷ registers) = nat_lt low r && above_all r registers

@@ -1,0 +1,3 @@
+-- Definitions for private contracts and proofs. No public clause cites them.
+pub mod Packed
+pub mod RowsKept
