@@ -3,6 +3,7 @@ mod ExtentLemmas
 mod FirstLemmas
 pub mod Laws
 mod NoteLemmas
+mod RisingLemmas
 mod Seeing
 mod Soundness
 mod Taking

@@ -40,7 +40,7 @@ or_middle false true c = refl
 or_middle false false c = refl
 
 -- a word between others is as good as before them
-among_middle : (xs ys : List (ℕ × ℕ)) (word q : ℕ × ℕ) → is_among (xs ++ word ∷ ys) q ≡ is_among (word ∷ xs ++ ys) q
+pub among_middle : (xs ys : List (ℕ × ℕ)) (word q : ℕ × ℕ) → is_among (xs ++ word ∷ ys) q ≡ is_among (word ∷ xs ++ ys) q
 among_middle [] ys word q = refl
 among_middle (x ∷ xs) ys word q =
     ap (λ b. (q.0 == x.0 && q.1 == x.1) || b) (among_middle xs ys word q)

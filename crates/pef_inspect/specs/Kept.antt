@@ -1,2 +1,3 @@
 -- Definitions for private contracts and proofs. No public clause cites them.
+pub mod Rising
 pub mod Seen

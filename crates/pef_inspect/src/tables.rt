@@ -23,7 +23,8 @@ pub(crate) fn take_views<S: Findings>(
     Ok(())
 }
 
-/// Hands the faults of a loader section's tests that hold to a sink, in order.
+/// Hands the faults of a loader section's tests that hold to a sink, in order. Each row of a table has tests, and most hold for none.
+#[inline(always)]
 pub(crate) fn take_faults<S: Findings>(
     container: &PartialContainer<'_>,
     tests: &[(bool, LoaderFault)],

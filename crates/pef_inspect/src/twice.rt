@@ -1,10 +1,11 @@
-ghost use Rattle.std.specs.Prelude.{◌≡◌, ◌++◌, ◌≤◌, ℕ, List, IfOk, OnOk, length};
+ghost use Rattle.std.specs.Prelude.{◌≡◌, ◌++◌, ◌≤◌, ℕ, List, IfOk, IfSome, OnOk, Some, [], length, true};
 ghost use Rattle.std.specs.Option.{option_to_list};
 ghost use Rattle.pef_words.specs.Findings.{all_among};
 ghost use Rattle.pef_views.specs.PartialViews.{partly};
 ghost use Rattle.pef_loader.specs.PartialViews.{partly_loaded};
 ghost use Rattle.pef_reloc.specs.Left.{fixups_left};
 ghost use Rattle.pef_inspect.specs.Limits.{left_within, less, within};
+ghost use Rattle.pef_inspect.specs.Kept.Rising.{AreBefore, Follow, rising_end};
 ghost use Rattle.pef_inspect.specs.Kept.Seen.{IsSeen};
 ghost use Rattle.pef_inspect.specs.Twice.{again_note, first_again, twice_in, twice_note, twice_notes, words_at, words_cost, words_in};
 
@@ -81,11 +82,29 @@ fn add_each<A: Allocator + Copy>(
 ) -> Result<(), AllocError>
     ensures { OnOk result (found.new.items ≡ found.old.items ++ all_among (λ k. option_to_list (twice_note (partly words.entry.container.now) (partly_loaded words.entry.loader.now) k)) 0 count) }
 {
+    if all_rise(words, count) {
+        return Ok(());
+    }
     let mut seen = BTreeSet::new(alloc);
     for k in 0..count {
         push_some(words.twice(k, &mut seen)?, found)?;
     }
     Ok(())
+}
+
+/// Returns whether the words of the first `count` programs come in the order of their sections and offsets, so that none is
+/// relocated twice. The programs of most containers do, and no set of their words is needed.
+fn all_rise(words: Words<'_, '_>, count: u32) -> bool
+    ensures { result ≡ true → all_among (λ k. option_to_list (twice_note (partly words.entry.container.now) (partly_loaded words.entry.loader.now) k)) 0 count ≡ [] }
+{
+    let mut place = (0, 0);
+    for k in 0..count {
+        match words.end_after(k, place) {
+            Some(end) => place = end,
+            None => return false,
+        }
+    }
+    true
 }
 
 /// A word of a section: the section, and the offset in it.
@@ -114,6 +133,18 @@ impl<'c, 'a> Costed for Words<'c, 'a> {
 }
 
 impl<'c, 'a> Words<'c, 'a> {
+    /// Returns the place after the words of the program of relocation header `k`, if they come in order and none is before `place`.
+    fn end_after(self, k: u32, place: Word) -> Option<Word>
+        ensures { (before : List (ℕ × ℕ)) → AreBefore before place → IfSome result (Follow before (words_at (partly self.entry.container.now) (partly_loaded self.entry.loader.now) k)) }
+    {
+        let Some(run) = Run::at(self.container, self.loader, k) else {
+            return Some(place);
+        };
+        let first = offset_after(place, run.section)?;
+        let end = rising_end(first, run.program.fixups())?;
+        Some((run.section, end))
+    }
+
     /// Adds the words of the program of relocation header `k` to those seen, and returns the note on the first that was among them.
     fn twice<A: Allocator + Copy>(
         self,
@@ -149,6 +180,31 @@ fn words_left(fixups: Fixups<'_>, limit: u64) -> Option<u64>
         left -= 1;
     }
     Some(left)
+}
+
+/// Returns the first offset in a section that isn't before a place, unless the place is in a later section.
+fn offset_after(place: Word, section: u16) -> Option<u64>
+    ensures { (before : List (ℕ × ℕ)) → AreBefore before place → IfSome result (λ first. AreBefore before (section, first)) }
+{
+    if section == place.0 {
+        return Some(place.1);
+    }
+    if section > place.0 { Some(0) } else { None }
+}
+
+/// Returns the offset after the last word to which a program adds, if the words rise and none is before `first`.
+fn rising_end(first: u64, fixups: Fixups<'_>) -> Option<u64>
+    ensures { IfSome result (λ end. rising_end first (fixups_left fixups.entry) ≡ Some end) }
+{
+    let mut rest = fixups;
+    let mut end = first;
+    while let Some(addition) = rest.next() {
+        if addition.offset < end {
+            return None;
+        }
+        end = addition.offset.checked_add(1)?;
+    }
+    Some(end)
 }
 
 /// Adds the words of a section to which a program adds to those seen, and returns the first that was among them.
