@@ -119,7 +119,8 @@ impl Memory {
         self.place_image(size, alignment, &[])
     }
 
-    /// Places a new instance of `size` bytes as [`place`](Self::place) does. It begins with an image, and zeros follow.
+    /// Places a new instance of `size` bytes as [`place`](Self::place) does. It begins with an image, which has at most `size`
+    /// bytes, and zeros follow.
     ///
     /// # Errors
     ///
@@ -168,7 +169,8 @@ impl Memory {
         self.place_image_at(size, alignment, address, &[])
     }
 
-    /// Places a new instance of `size` bytes as [`place_at`](Self::place_at) does. It begins with an image, and zeros follow.
+    /// Places a new instance of `size` bytes as [`place_at`](Self::place_at) does. It begins with an image, which has at most `size`
+    /// bytes, and zeros follow.
     ///
     /// # Errors
     ///
