@@ -9,7 +9,7 @@ use Rattle.pef_reloc.specs.Unrolled.{repeated}
 use Rattle.pef_reloc.specs.Views.{listed}
 
 -- an instruction that is taken executes something, and the others execute the rest
-begun-taken : (old new : Instrs) (x : Instr) → listed old ≡ x ∷ listed new → IsPassed old x new → begun old ≡ executed_at old.bytes.now old.at x (repeat_of x) ++ begun new
+pub begun-taken : (old new : Instrs) (x : Instr) → listed old ≡ x ∷ listed new → IsPassed old x new → begun old ≡ executed_at old.bytes.now old.at x (repeat_of x) ++ begun new
 begun-taken old new x takes passed =
     let rest : executed_from old.bytes.now (old.at + 2 * instr_length x) (listed new) ≡ begun new = rw (passed.bytes, passed.place) refl in
     ap (executed_from old.bytes.now old.at) takes ∙ ap (λ others. executed_at old.bytes.now old.at x (repeat_of x) ++ others) rest

@@ -17,7 +17,7 @@ use Rattle.pef_reloc.proofs.CodeLemmas.{code-end, code-next, some_length}
 use Rattle.pef_reloc.proofs.Prefixes.{behind-block}
 
 -- instructions without their places
-instrs_in-steps : (at : ℕ) (instrs : List Instr) → instrs_in (steps_from at instrs) ≡ instrs
+pub instrs_in-steps : (at : ℕ) (instrs : List Instr) → instrs_in (steps_from at instrs) ≡ instrs
 instrs_in-steps at [] = refl
 instrs_in-steps at (x ∷ xs) = ap (λ others. x ∷ others) (instrs_in-steps (at + 2 * instr_length x) xs)
 

@@ -6,6 +6,7 @@ mod Beginnings
 mod Blocks
 mod CodeLemmas
 mod Decodes
+mod Counts
 mod DeliveredBases
 mod DeliveryLaws
 mod Executing
@@ -14,6 +15,7 @@ mod FixupLemmas
 mod Halfwords
 mod Independence
 mod FlatLaws
+mod Passes
 mod Placing
 mod Prefixes
 mod Readback

@@ -1,5 +1,5 @@
 -- The instructions that were tested, and those that are left.
-use Rattle.std.proofs.Common.{◌≡◌, ℕ, ◌+◌, ◌*◌, ◌-◌, ◌^◌, ◌<◌, ◌≤◌, List, [], ◌∷◌, ◌++◌, drop, length, Option, None, Some, Ok, Err, refl, ap, sym, subst, ◌∙◌, arith}
+use Rattle.std.proofs.Common.{◌≡◌, ℕ, suc, ◌+◌, ◌*◌, ◌-◌, ◌^◌, ◌<◌, ◌≤◌, List, [], ◌∷◌, ◌++◌, drop, length, Option, None, Some, Ok, Err, refl, ap, sym, subst, ◌∙◌, arith}
 use Rattle.std.specs.Option.{option_map, option_or}
 use Rattle.pef_reloc.specs.declared.fault.RelocFault.{RelocFault}
 use Rattle.pef_reloc.specs.declared.instr.Instr.{Instr}
@@ -83,6 +83,12 @@ walks_done z s all begin left = record { fault = left-none z s all begin left; a
 walks_refused : (z : Sizes) (s s' : State) (xs ys all : List Step) (begin : State) (f : RelocFault) → WalkLeft z s (xs ++ ys) all begin → WalksTo z s s' xs (Some f) → WalksTo z begin s' all (Some f)
 walks_refused z s s' xs ys all begin f left it = record { fault = left-fault z s s' xs ys all begin f left it; after = λ none. absurd (cc none) }
 
+-- instructions, and others after them
+pub walks-then : (z : Sizes) (s s' s'' : State) (xs ys : List Step) (answer : Option RelocFault) → WalksTo z s s' xs None → WalksTo z s' s'' ys answer → WalksTo z s s'' (xs ++ ys) answer
+walks-then z s s' s'' xs ys answer first rest =
+    let left = left-more z s s' xs ys (xs ++ ys) s (left-all z s (xs ++ ys)) first in
+    record { fault = sym left.rest ∙ rest.fault; after = λ none. rest.after none ∙ left.after }
+
 -- the instructions of a block that are left from a place on
 pub record BlockWalk (z : Sizes) (s : State) (bytes : List ℕ) (at to : ℕ) (s0 : State) (block : List Step) : Type 0 where
   pub rest : List Instr
@@ -150,6 +156,13 @@ pub passes-end : (z : Sizes) (s : State) (n i : ℕ) (block : List Step) (s0 : S
 passes-end z s n i block s0 left past =
     let P : List Step → Type 0 = λ xs. WalkLeft z s xs (repeated n block) s0 in
     walks_done z s (repeated n block) s0 (subst P (repeated-end n i block past) left)
+
+-- a pass, and the others after it
+pub passes-then : (z : Sizes) (s s' s'' : State) (n : ℕ) (block : List Step) (answer : Option RelocFault) → 0 < n → WalksTo z s s' block None → WalksTo z s' s'' (repeated (n - 1) block) answer → WalksTo z s s'' (repeated n block) answer
+passes-then z s s' s'' n block answer some first rest =
+    let all : suc (n - 1) ≡ n = omega arith in
+    let P : ℕ → Type 0 = λ k. WalksTo z s s'' (repeated k block) answer in
+    subst P all (walks-then z s s' s'' block (repeated (n - 1) block) answer first rest)
 
 -- a move after a move
 pub moves-more : (w0 w w' : Walk) (i j n : ℕ) → MovesOn w0 w i → MovesOn w w' j → i + j ≤ n → MovesOn w0 w' n

@@ -1,5 +1,6 @@
-ghost use Rattle.std.specs.Prelude.{◌≡◌};
+ghost use Rattle.std.specs.Prelude.{◌≡◌, ◌≤◌, true};
 ghost use Rattle.pef_reloc.specs.Instrs.{instr_fits, instr_length, repeat_of};
+ghost use Rattle.pef_reloc.specs.Kept.Counts.{addition_count};
 
 /// The greatest number of additions of a run.
 const MAX_RUN: u32 = 512;
@@ -113,6 +114,33 @@ impl Instr {
             | Instr::LgSetSectC(_)
             | Instr::LgSetSectD(_) => 2,
             _ => 1,
+        }
+    }
+
+    /// Returns how many additions it makes in any state, a repeat by itself none.
+    pub(crate) fn additions(self) -> u64
+        ensures value { result ≡ addition_count self }
+        ensures small { instr_fits self ≡ true → result ≤ 1024 }
+    {
+        match self {
+            Instr::BySectDWithSkip { count, .. } => u64::from(count),
+            Instr::BySectC(count)
+            | Instr::BySectD(count)
+            | Instr::VTable8(count)
+            | Instr::ImportRun(count) => u64::from(count),
+            Instr::TVector12(count) | Instr::TVector8(count) => 2 * u64::from(count),
+            Instr::SmByImport(_)
+            | Instr::SmBySection(_)
+            | Instr::LgByImport(_)
+            | Instr::LgBySection(_) => 1,
+            Instr::SmSetSectC(_)
+            | Instr::SmSetSectD(_)
+            | Instr::IncrPosition(_)
+            | Instr::SmRepeat { .. }
+            | Instr::SetPosition(_)
+            | Instr::LgRepeat { .. }
+            | Instr::LgSetSectC(_)
+            | Instr::LgSetSectD(_) => 0,
         }
     }
 

@@ -5,6 +5,7 @@
 #![tactic(auto)]
 
 mod addition;
+mod counting;
 mod decode;
 mod encoding;
 mod executed;

@@ -3,6 +3,7 @@ ghost use Rattle.pef_reloc.specs.Decoding.{starting};
 ghost use Rattle.pef_reloc.specs.Instrs.{instr_fits, repeat_free};
 ghost use Rattle.pef_reloc.specs.Unrolled.{instrs_of, program_fault, steps_of};
 
+use crate::counting::additions_at;
 use crate::decode::instr_from;
 use crate::fault::RelocFault;
 use crate::fixups::Fixups;
@@ -19,7 +20,7 @@ pub struct Program<'a> {
 }
 
 impl<'a> Program<'a> {
-    ghost use Rattle.std.specs.Prelude.{Ok};
+    ghost use Rattle.std.specs.Prelude.{◌<◌, ◌+◌, MatchOption, Ok, length};
     ghost use Rattle.pef_words.specs.Refusals.{result_map, unless};
     ghost use Rattle.pef_reloc.specs.Left.{fixups_left};
     ghost use Rattle.pef_reloc.specs.Traces.{fixups_of};
@@ -108,6 +109,19 @@ impl<'a> Program<'a> {
         Fixups::new(*self)
     }
 
+    /// Returns what is left of a limit after all its additions, unless it makes more of them. The time is linear in the bytes of the
+    /// program: no pass of a repeat is run.
+    pub fn left_after_additions(&self, limit: u64) -> Option<u64>
+        ensures { MatchOption result (limit < length (fixups_of (program_bytes self.now))) (λ left. left + length (fixups_of (program_bytes self.now)) ≡ limit) }
+    {
+        let mut instrs = self.whole();
+        let mut left = limit;
+        while let Some((at, instr)) = instrs.next_placed() {
+            left = left.checked_sub(additions_at(instrs, at, instr))?;
+        }
+        Some(left)
+    }
+
     /// Returns whether it has no repeats.
     pub fn flat(&self) -> bool
         ensures { result ≡ repeat_free (instrs_of (program_bytes self.now)) }
@@ -130,7 +144,7 @@ pub struct Instrs<'a> {
 }
 
 impl<'a> Instrs<'a> {
-    ghost use Rattle.std.specs.Prelude.{◌≤◌, ◌∷◌, MatchOption, [], length};
+    ghost use Rattle.std.specs.Prelude.{◌≤◌, ◌+◌, ◌*◌, ◌∷◌, MatchOption, [], length};
     ghost use Rattle.pef_reloc.specs.Kept.Executions.{IsPassed, behind};
     ghost use Rattle.pef_reloc.specs.Unrolled.{steps_from};
     ghost use Rattle.pef_reloc.specs.Views.{TakesFirst, listed, placed};
@@ -167,6 +181,8 @@ impl<'a> Instrs<'a> {
     pub fn next_placed(&mut self) -> Option<(usize, Instr)>
         ensures takes { MatchOption result ((placed self.old ≡ []) × (placed self.new ≡ [])) (λ step. placed self.old ≡ step ∷ placed self.new) }
         ensures fits { IfSome result (λ step. instr_fits step.1 ≡ true) }
+        ensures passes { IfSome result (λ step. IsPassed self.old step.1 self.new) }
+        ensures place { IfSome result (λ step. step.0 ≡ self.old.at) }
     {
         let at = self.place();
         match self.next_instr() {
@@ -196,7 +212,8 @@ impl<'a> Instrs<'a> {
     #[tactic(auto, unfolding(crate::specs::Kept::Executions::behind))]
     pub(crate) fn behind(self, place: usize, blocks: u32) -> Instrs<'a>
         requires { place ≤ length self.bytes.now }
-        ensures { listed result ≡ behind self.entry.bytes.now place blocks }
+        ensures listed { listed result ≡ behind self.entry.bytes.now place blocks }
+        ensures short { length result.bytes.now ≤ result.at + 2 * blocks }
     {
         let (front, _) = self.bytes.split_at(place);
         Instrs {

@@ -1,7 +1,7 @@
 ghost use Rattle.std.specs.Prelude.{◌≡◌, ◌+◌, ◌*◌, ◌^◌, ◌≤◌, ◌<◌, ◌∷◌, [], ℕ, IfSome, List, None, Ok, OnErr, OnOk, length, map, true};
 ghost use Rattle.std.specs.Result.{result_err};
 ghost use Rattle.pef_reloc.specs.Instrs.{instr_fits, repeat_of};
-ghost use Rattle.pef_reloc.specs.Steps.{acts_of, add, added, need, next_state, numbered, pairs, row, start};
+ghost use Rattle.pef_reloc.specs.Steps.{State, acts_of, add, added, need, next_state, numbered, pairs, row, start, state_after};
 ghost use Rattle.pef_reloc.specs.Unrolled.{executed, program_fault, repeat_fault, repeated, steps_from};
 ghost use Rattle.pef_reloc.specs.Verified.{act_stop, first_stop, verified};
 ghost use Rattle.pef_reloc.specs.Views.{program_bytes};
@@ -17,6 +17,9 @@ use crate::machine::Block;
 use crate::program::Program;
 use crate::stop::Stop;
 use crate::words::{NEXT, Row};
+
+/// By how much one pass of a block moves a register on at most.
+const MOST_MOVED: u64 = 0x2_0000;
 
 /// What a relocation is tested against: how many instantiated sections and imports a fragment has, and how many bytes the
 /// memory of the section to be relocated.
@@ -107,6 +110,69 @@ impl Walk {
         requires short { block.to ≤ block.from + 32 }
         ensures walks { (instrs : List Instr) → Spans block.entry.bytes.now block.entry.from instrs block.entry.to → WalksTo sizes (walked self.old) (walked self.new) (repeated passes (steps_from block.entry.from instrs)) (result_err result) }
         ensures moves { MovesOn self.old self.new (2 ^ 39) }
+    {
+        if passes < 3 {
+            return self.pass_each(block, passes, sizes);
+        }
+        self.run_block(block, sizes)?;
+        match self.after_passes(block, passes - 1, sizes) {
+            Some(after) => {
+                *self = after;
+                Ok(())
+            }
+            None => self.pass_each(block, passes - 1, sizes),
+        }
+    }
+
+    /// Returns the registers after a block was passed this many times more, if no pass is refused. After the first pass of a block all
+    /// passes move the registers alike, so that only the last one is tested. Returns `None`, too, if a pass moves them far.
+    fn after_passes(self, block: Block, passes: u32, sizes: Sizes) -> Option<Walk>
+        requires near { IsNear self (2 ^ 26 + 2 ^ 17) }
+        requires some { 0 < passes }
+        requires passes { passes < 2 ^ 22 }
+        requires inside { block.to ≤ length block.bytes.now }
+        requires order { block.from ≤ block.to }
+        requires short { block.to ≤ block.from + 32 }
+        ensures walks { (instrs : List Instr) → Spans block.entry.bytes.now block.entry.from instrs block.entry.to → (before : State) → walked self ≡ state_after instrs before → IfSome result (λ after. WalksTo sizes (walked self) (walked after) (repeated passes (steps_from block.entry.from instrs)) None) }
+        ensures moves { IfSome result (λ after. MovesOn self after (2 ^ 17 * passes)) }
+    {
+        let next = self.after_pass(block, sizes)?;
+        let position = moved(self.position, next.position)?;
+        let imports = moved(self.import_index, next.import_index)?;
+        let more = u64::from(passes - 1);
+        let last = Walk {
+            position: self.position + position * more,
+            import_index: self.import_index + imports * more,
+            ..next
+        };
+        last.after_pass(block, sizes)
+    }
+
+    /// Returns the registers after a block was passed once more, if that isn't refused.
+    fn after_pass(self, block: Block, sizes: Sizes) -> Option<Walk>
+        requires near { IsNear self (2 ^ 39 + 2 ^ 26) }
+        requires inside { block.to ≤ length block.bytes.now }
+        requires order { block.from ≤ block.to }
+        requires short { block.to ≤ block.from + 32 }
+        ensures walks { (instrs : List Instr) → Spans block.entry.bytes.now block.entry.from instrs block.entry.to → IfSome result (λ after. WalksTo sizes (walked self) (walked after) (steps_from block.entry.from instrs) None) }
+        ensures moves { IfSome result (λ after. MovesOn self after (2 ^ 17)) }
+    {
+        let mut after = self;
+        match after.run_block(block, sizes) {
+            Ok(()) => Some(after),
+            Err(_) => None,
+        }
+    }
+
+    /// Passes the instructions of a block this many times, one after the other.
+    fn pass_each(&mut self, block: Block, passes: u32, sizes: Sizes) -> Result<(), RelocFault>
+        requires near { IsNear self.old (2 ^ 26 + 2 ^ 17) }
+        requires passes { passes < 2 ^ 22 }
+        requires inside { block.to ≤ length block.bytes.now }
+        requires order { block.from ≤ block.to }
+        requires short { block.to ≤ block.from + 32 }
+        ensures walks { (instrs : List Instr) → Spans block.entry.bytes.now block.entry.from instrs block.entry.to → WalksTo sizes (walked self.old) (walked self.new) (repeated passes (steps_from block.entry.from instrs)) (result_err result) }
+        ensures moves { MovesOn self.old self.new (2 ^ 17 * passes) }
     {
         'passes: for _ in 0..passes {
             self.run_block(block, sizes)?;
@@ -270,6 +336,14 @@ impl Walk {
         self.section_d = section;
         Ok(())
     }
+}
+
+/// Returns by how much a register was moved on, unless it was moved back or far.
+fn moved(from: u64, to: u64) -> Option<u64>
+    ensures { IfSome result (λ by. (to ≡ from + by) × (by ≤ 2 ^ 17)) }
+{
+    let by = to.checked_sub(from)?;
+    if by <= MOST_MOVED { Some(by) } else { None }
 }
 
 impl Sizes {

@@ -4,7 +4,7 @@ use Rattle.pef_reloc.specs.Kept.Places.{Spans}
 use Rattle.pef_reloc.specs.Kept.Walks.{MovesOn, walked}
 use Rattle.pef_reloc.specs.Unrolled.{repeated, steps_from}
 use Rattle.pef_reloc.proofs.WalkLemmas.{WalkLeft}
-use Rattle.pef_reloc.proofs.verifying.Walk.repeat.Given as goal
+use Rattle.pef_reloc.proofs.verifying.Walk.pass_each.Given as goal
 
 abbrev pub invariant-passes : goal.invariant-passes
 invariant-passes l = record {
