@@ -1,4 +1,4 @@
-ghost use Rattle.std.specs.Prelude.{◌≡◌, ◌≤◌, ◌++◌, drop, length, take};
+ghost use Rattle.std.specs.Prelude.{◌≡◌, ◌≤◌, ◌++◌, ◌/◌, ◌*◌, drop, length, take};
 ghost use Rattle.pef_ports.specs.Kept.Plain.{are_plain};
 ghost use Rattle.pef_ports.specs.Names.{byte_text, is_plain_byte, name_text};
 ghost use Rattle.pef_ports.specs.Sent.{Sends};
@@ -17,12 +17,40 @@ pub fn print_name<W: Sink>(out: &mut W, page: &mut Page, name: &[u8]) -> Result<
     print_escaped(out, page, name)
 }
 
-/// Returns whether all bytes of a name are printed unchanged. All are tested, so that the compiler tests many at once.
+/// Returns whether all bytes of a name are printed unchanged. The bytes of an array are tested at once: those at the front of the
+/// name, array by array, and those at its end, of which some may be tested twice.
 fn is_plain_name(name: &[u8]) -> bool
     ensures { result ≡ are_plain name.now }
 {
+    if let Some(last) = name.last_chunk::<16>() {
+        return is_plain_front(name) && are_plain(last);
+    }
+    match (name.first_chunk::<8>(), name.last_chunk::<8>()) {
+        (Some(first), Some(last)) => are_plain(first) && are_plain(last),
+        _ => are_plain(name),
+    }
+}
+
+/// Returns whether all bytes of the arrays at the front of a name are printed unchanged. Fewer than 16 bytes come after them.
+fn is_plain_front(name: &[u8]) -> bool
+    ensures { result ≡ are_plain (take (length name.now / 16 * 16) name.now) }
+{
+    let mut rest = name;
     let mut plain = true;
-    for b in name {
+    while let Some((chunk, after)) = rest.split_first_chunk::<16>() {
+        plain &= are_plain(chunk);
+        rest = after;
+    }
+    plain
+}
+
+/// Returns whether all bytes are printed unchanged. All are tested, so that the compiler tests many at once.
+#[inline(always)]
+fn are_plain(bytes: &[u8]) -> bool
+    ensures { result ≡ are_plain bytes.now }
+{
+    let mut plain = true;
+    for b in bytes {
         plain &= is_plain(*b);
     }
     plain

@@ -1,21 +1,28 @@
-use Rattle.std.proofs.Common.{◌≡◌, ◌+◌, ◌&&◌, Bool, drop, get_or, sym, ap, ◌∙◌}
-use Rattle.std.proofs.Math.Bool.{and_assoc}
-use Rattle.std.proofs.lemmas.List.{at_drop_more, drop_all}
+-- The bytes at the front and those at the end are all bytes of the name.
+use Rattle.std.proofs.Common.{◌-◌, ◌/◌, ◌*◌, ◌&&◌, Bool, length, drop, ap, ◌∙◌, arith}
 use Rattle.pef_ports.specs.Kept.Plain.{are_plain}
-use Rattle.pef_ports.specs.Names.{is_plain_byte}
-use Rattle.pef_ports.proofs.NameLemmas.{and-true}
+use Rattle.pef_ports.proofs.NameLemmas.{plain-ends}
 use Rattle.pef_ports.proofs.name.is_plain_name.Goals as goal
 
-pub loop-b-preserved : goal.loop-b-preserved
-loop-b-preserved c =
-    let at = c.loop-b in
+pub returns-then-is_plain_front : goal.returns-then-is_plain_front
+returns-then-is_plain_front c =
     let name = c.args.name.now in
-    let here = is_plain_byte (get_or name at.b-index 0) in
-    let rest = are_plain (drop (at.b-index + 1) name) in
-    let next : are_plain (drop at.b-index name) ≡ (here && rest) = at_drop_more are_plain name at.b-index 0 c.loop-b-test.true in
-    rw (c.is_plain-plain.ensures) (and_assoc at.plain here rest ∙ ap (λ (x : Bool). at.plain && x) (sym next) ∙ at.invariant)
+    c.are_plain.ensures ∙ (ap are_plain c.in-Some.ensures.cases.1.same
+    ∙ (ap (λ (x : Bool). x && are_plain (drop (length name - 16) name)) c.if-is_plain_front.ensures
+    ∙ plain-ends name (length name / 16 * 16) (length name - 16) (omega arith)))
 
-pub returns : goal.returns
-returns c =
-    let none = ap are_plain (drop_all c.loop-b.b-index c.args.name.now c.loop-b-test.false) in
-    sym (and-true c.loop-b.plain) ∙ ap (λ (x : Bool). c.loop-b.plain && x) (sym none) ∙ c.loop-b.invariant
+pub returns-else-is_plain_front : goal.returns-else-is_plain_front
+returns-else-is_plain_front c =
+    let name = c.args.name.now in
+    c.if-is_plain_front.false ∙ (ap (λ (x : Bool). x && are_plain (drop (length name - 16) name)) c.if-is_plain_front.ensures
+    ∙ plain-ends name (length name / 16 * 16) (length name - 16) (omega arith))
+
+pub returns-then-are_plain : goal.returns-then-are_plain
+returns-then-are_plain c =
+    let name = c.args.name.now in
+    let short = c.in_default.ensures.cases in
+    let last = c.in-Some-Some.ensures'.cases.1.same in
+    let first = ap are_plain c.in-Some-Some.ensures.cases.same in
+    c.are_plain-then-are_plain.ensures ∙ (ap are_plain last
+    ∙ (ap (λ (x : Bool). x && are_plain (drop (length name - 8) name)) (c.if-are_plain.ensures ∙ first)
+    ∙ plain-ends name 8 (length name - 8) (omega (arith, short))))
