@@ -8,7 +8,7 @@ use Rattle.pef_loader.specs.declared.program_fault.ProgramFault.{ProgramFault}
 use Rattle.cfm_prepare.specs.Addresses.{addresses_of, first_bad_program}
 use Rattle.cfm_prepare.specs.Fragments.{Present, extents_in, first_bad_image, image_refusal_in, named, positions, reloc_refusal_in}
 use Rattle.cfm_prepare.specs.Placing.{AllPlacedBy}
-use Rattle.cfm_prepare.specs.declared.image_fault.ImageFault.{ImageFault}
+use Rattle.cfm_sections.specs.declared.image_fault.ImageFault.{ImageFault}
 use Rattle.cfm_prepare.proofs.ListLemmas.{contains-next}
 
 -- the name of a refusal

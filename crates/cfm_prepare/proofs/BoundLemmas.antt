@@ -8,7 +8,7 @@ use Rattle.pef_reloc.specs.Unrolled.{program_fault, steps_of}
 use Rattle.pef_reloc.specs.declared.fault.RelocFault.{RelocFault}
 use Rattle.pef_views.specs.Container.{Contained}
 use Rattle.pef_words.specs.Refusals.{unless}
-use Rattle.cfm_prepare.specs.Images.{extent_at, extents_from}
+use Rattle.cfm_sections.specs.Images.{extent_at, extents_from}
 use Rattle.cfm_prepare.specs.Bounds.{AreWithin, IsFirstPast, PassesAt, bytes_of, total}
 use Rattle.cfm_prepare.specs.Kept.Bounds.{first_past, left_of}
 

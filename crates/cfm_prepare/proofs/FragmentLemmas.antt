@@ -15,10 +15,11 @@ use Rattle.cfm_store.specs.Stores.{Pair, pair_of}
 use Rattle.cfm_closure.specs.Fragments.{Fragment, container_at, fragment_of, loader_at, with_container, with_loader}
 use Rattle.cfm_closure.specs.Targets.{target_of}
 use Rattle.cfm_closure.specs.declared.targets.Target.{Target}
-use Rattle.cfm_prepare.specs.Kept.Begun.{placed_at, section_placed}
-use Rattle.cfm_prepare.specs.Images.{extents_of, filled_at, first_image_refusal}
-use Rattle.cfm_prepare.specs.Prepared.{first_reloc_refusal, prepared_at}
-use Rattle.cfm_prepare.proofs.PlaceLemmas.{length-fragment}
+use Rattle.cfm_prepare.specs.Kept.Begun.{section_placed}
+use Rattle.cfm_sections.specs.Begun.{placed_at}
+use Rattle.cfm_sections.specs.Images.{extents_of, filled_at, first_image_refusal}
+use Rattle.cfm_sections.specs.Prepared.{first_reloc_refusal, prepared_at}
+use Rattle.cfm_sections.proofs.Laws.{length-fragment}
 use Rattle.cfm_prepare.specs.Addresses.{addresses_from, import_address, target_address}
 use Rattle.cfm_prepare.specs.Fragments.{Present, extents_in, image_refusal_in, prepared_in, reloc_refusal_in, section_filled}
 use Rattle.cfm_prepare.proofs.PlacingLemmas.{append-assoc}

@@ -22,8 +22,6 @@ pub use Rattle.cfm_prepare.proofs.ListLemmas.{has-at, has-contains}
 pub use Rattle.cfm_prepare.proofs.BoundLemmas.{not-past}
 -- there is a state that a preparation gives, if no new fragment lacks a place or is refused
 pub use Rattle.cfm_prepare.proofs.EnoughLemmas.{prepares-to}
--- if no relocation header is refused, the first refusal is none
-pub use Rattle.cfm_prepare.proofs.HeaderLemmas.{headers-unrefused}
 -- fragments that lack a place for a section lack places
 pub use Rattle.cfm_prepare.proofs.PlacingLemmas.{lacks-room}
 -- a fragment that was placed has a place for each instantiated section of its container, as its loader section knows

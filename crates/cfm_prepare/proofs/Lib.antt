@@ -10,8 +10,6 @@ mod FoundLemmas
 mod FragmentLemmas
 mod GoneLemmas
 mod GroupLemmas
-mod HeaderLemmas
-mod ImageLemmas
 mod KeepLemmas
 pub mod Laws
 mod ListLemmas
@@ -19,7 +17,6 @@ mod LocationLemmas
 mod NewLemmas
 mod NowLemmas
 mod OpenLemmas
-mod PlaceLemmas
 mod PlacedLemmas
 mod PlacingLemmas
 mod ReadyLemmas

@@ -6,11 +6,11 @@ use Rattle.cfm_memory.specs.Placement.{step_of, taken}
 use Rattle.pef_views.specs.Container.{Contained, Section, section_of}
 use Rattle.cfm_closure.specs.Fragments.{container_at}
 use Rattle.cfm_store.specs.Stores.{Pair}
-use Rattle.cfm_prepare.specs.Images.{extent_in, extents_of}
+use Rattle.cfm_sections.specs.Images.{extent_in, extents_of}
 use Rattle.cfm_prepare.specs.NewSections.{container_sections, new_section, new_sections_of, sections_from}
 use Rattle.cfm_prepare.specs.Placing.{section_total}
 use Rattle.cfm_prepare.specs.declared.new_sections.NewSection.{NewSection}
-use Rattle.cfm_prepare.proofs.PlaceLemmas.{length-extents}
+use Rattle.cfm_sections.proofs.Laws.{length-extents}
 use Rattle.cfm_prepare.proofs.PlacingLemmas.{append-assoc}
 
 -- a section with its header

@@ -12,14 +12,14 @@ use Rattle.cfm_store.specs.Stores.{Pair}
 use Rattle.cfm_closure.specs.Faults.{BindRefusal}
 use Rattle.cfm_closure.specs.Fragments.{Fragment, container_at, fragment_of, import_count, loader_at}
 use Rattle.pef_loader.specs.Loader.{Loaded}
-use Rattle.cfm_prepare.specs.Images.{extents_of}
+use Rattle.cfm_sections.specs.Images.{extents_of}
 use Rattle.cfm_closure.specs.Closures.{closed_of}
 use Rattle.cfm_closure.specs.Promises.{LiesInside}
 use Rattle.cfm_closure.specs.Targets.{target_of}
 use Rattle.cfm_closure.specs.declared.targets.Target.{Target}
 use Rattle.cfm_closure.specs.declared.targets.Target.TheVariants.{Absolute, At}
 use Rattle.cfm_closure.proofs.Laws.{AreSame, closed-complete, fragment_of-same, target-inside, target-same as order-target-same}
-use Rattle.cfm_prepare.specs.Prepared.{addresses_at, prepared_at}
+use Rattle.cfm_sections.specs.Prepared.{addresses_at, prepared_at}
 use Rattle.cfm_prepare.specs.Addresses.{addresses_from, import_address, section_of, target_address}
 use Rattle.cfm_prepare.specs.Lists.{has}
 use Rattle.cfm_prepare.specs.Fragments.{Present, extents_in, is_present, places_of, prepared_in}

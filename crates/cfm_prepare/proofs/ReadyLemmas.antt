@@ -17,7 +17,7 @@ use Rattle.cfm_prepare.proofs.GroupLemmas.{ArePairApart, all-elsewhere, held_sam
 use Rattle.cfm_prepare.proofs.PlacedLemmas.{placed-apart, placed-held, placed-new, placed-own, placed-stays}
 
 -- a fact of some fragments and of others is one of all
-each-of : (P : Present → Type 0) (xs ys : List Present) → ((i : ℕ) → i < length xs → P (present_at xs i)) → ((i : ℕ) → i < length ys → P (present_at ys i))
+pub each-of : (P : Present → Type 0) (xs ys : List Present) → ((i : ℕ) → i < length xs → P (present_at xs i)) → ((i : ℕ) → i < length ys → P (present_at ys i))
     → (i : ℕ) → i < length (xs ++ ys) → P (present_at (xs ++ ys) i)
 each-of P xs ys left right i under = elim (cases_lt i (length xs)) [
   | inl less ↦ subst P (sym (get_or_append_left xs ys no_fragment i less)) (left i less)

@@ -6,7 +6,7 @@ use Rattle.std.proofs.lemmas.Bool.Decides.{eqb_tells}
 use Rattle.std.proofs.lemmas.List.{at_drop_more}
 use Rattle.cfm_memory.specs.Extents.{AreHeld, Stand, given_back}
 use Rattle.cfm_memory.specs.Instances.{Layout}
-use Rattle.cfm_prepare.specs.declared.image_fault.ImageFault.{ImageFault}
+use Rattle.cfm_sections.specs.declared.image_fault.ImageFault.{ImageFault}
 use Rattle.pef_loader.specs.declared.program_fault.ProgramFault.{ProgramFault}
 use Rattle.cfm_prepare.specs.Fragments.{Present, present_at}
 use Rattle.cfm_prepare.specs.Kept.Ready.{AllApart, AllHeld, ChangesAt, ChangesIn, FillsUpTo, RelocatesUpTo}

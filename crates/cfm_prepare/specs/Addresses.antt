@@ -11,7 +11,7 @@ use Rattle.cfm_closure.specs.Fragments.{import_count}
 use Rattle.cfm_closure.specs.Targets.{target_of}
 use Rattle.cfm_closure.specs.declared.targets.Target.{Target}
 use Rattle.cfm_closure.specs.declared.targets.Target.TheVariants.{Absolute, At}
-use Rattle.cfm_prepare.specs.Prepared.{addresses_at}
+use Rattle.cfm_sections.specs.Prepared.{addresses_at}
 use Rattle.cfm_prepare.specs.Fragments.{Present, named, places_of, prepared_in, reloc_refusal_in}
 
 -- the address of a target, if fragments have these places: 0 if there is no target, a number itself, or a

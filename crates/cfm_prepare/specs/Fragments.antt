@@ -6,13 +6,13 @@ use Rattle.std.specs.Option.{option_and_then, option_map_or, option_or}
 use Rattle.cfm_memory.specs.Extents.{Extent, Stand, empty_memory, given_back}
 use Rattle.cfm_memory.specs.Instances.{Layout}
 use Rattle.cfm_memory.specs.declared.place.Place.{Place}
-use Rattle.cfm_prepare.specs.declared.image_fault.ImageFault.{ImageFault}
+use Rattle.cfm_sections.specs.declared.image_fault.ImageFault.{ImageFault}
 use Rattle.pef_reloc.specs.Applied.{Addresses}
 use Rattle.pef_loader.specs.declared.program_fault.ProgramFault.{ProgramFault}
 use Rattle.cfm_store.specs.Stores.{Pair, pair_of}
 use Rattle.cfm_closure.specs.Fragments.{container_at, loader_at}
-use Rattle.cfm_prepare.specs.Images.{extents_of, filled_at, first_image_refusal}
-use Rattle.cfm_prepare.specs.Prepared.{first_reloc_refusal, prepared_at}
+use Rattle.cfm_sections.specs.Images.{extents_of, filled_at, first_image_refusal}
+use Rattle.cfm_sections.specs.Prepared.{first_reloc_refusal, prepared_at}
 
 -- a fragment that has a place in memory: its place in the store, and the places of its instantiated sections
 pub record Present : Type 0 where

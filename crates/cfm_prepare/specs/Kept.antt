@@ -4,7 +4,5 @@ pub mod Bounds
 pub mod Connections
 pub mod Contexts
 pub mod Ready
-pub mod Rules
 pub mod Slots
-pub mod Unplaced
 pub mod Users

@@ -5,7 +5,6 @@ pub mod Faults
 pub mod FragmentFaults
 pub mod FragmentExports
 pub mod Fragments
-pub mod Images
 pub mod Kept
 pub mod Lacking
 pub mod Lists
@@ -15,7 +14,6 @@ pub mod NewSections
 pub mod Now
 pub mod Options
 pub mod Placing
-pub mod Prepared
 pub mod Readers
 pub mod Refusals
 pub mod Removals

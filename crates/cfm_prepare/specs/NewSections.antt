@@ -7,7 +7,7 @@ use Rattle.cfm_closure.specs.Fragments.{container_at}
 use Rattle.cfm_store.specs.Stores.{Pair}
 use Rattle.pef_views.specs.Container.{Contained, section_of}
 use Rattle.cfm_prepare.specs.Contexts.{ContextState}
-use Rattle.cfm_prepare.specs.Images.{extent_at}
+use Rattle.cfm_sections.specs.Images.{extent_at}
 use Rattle.cfm_prepare.specs.Steps.{HasClosure, IsWithin, MayNotPrepare, new_of}
 use Rattle.cfm_prepare.specs.declared.fault.PrepareFault.{PrepareFault}
 use Rattle.cfm_prepare.specs.declared.fault.PrepareFault.TheVariants as fault

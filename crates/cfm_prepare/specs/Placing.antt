@@ -1,15 +1,15 @@
 -- Where several fragments are placed, and their memory after they are prepared together. That their
 -- sections are placed in turn, that all are placed before any is filled, and all filled before any is
 -- relocated, are this project's own rules.
-use Rattle.std.specs.Prelude.{◌≡◌, ◌⊎◌, ℕ, zero, suc, ◌+◌, List, [], ◌∷◌, ◌++◌, None, Some, length, option_map}
-use Rattle.cfm_memory.specs.Extents.{ArePlacedBy, Extent, HasNoPlaceBy, IsPlaceBy, LackPlaceBy, Rule, at_given, at_lowest, rule_after}
+use Rattle.std.specs.Prelude.{◌≡◌, ◌⊎◌, ℕ, ◌+◌, List, [], ◌∷◌, ◌++◌, None, Some, length, option_map}
+use Rattle.cfm_memory.specs.Extents.{ArePlacedBy, LackPlaceBy, Rule, at_given, at_lowest, rule_after}
 use Rattle.cfm_memory.specs.Instances.{Layout}
-use Rattle.cfm_memory.specs.Placement.{with_new}
 use Rattle.cfm_memory.specs.declared.place.Place.{Place}
 use Rattle.pef_format.specs.declared.place.Part.TheVariants as part
 use Rattle.pef_format.specs.declared.place.Place.{Place as ContainerPlace}
 use Rattle.pef_loader.specs.Places.{place_of}
 use Rattle.cfm_closure.specs.Fragments.{container_at}
+use Rattle.cfm_sections.specs.Unplaced.{LacksPlaceFor}
 use Rattle.cfm_store.specs.Stores.{Pair, pair_of}
 use Rattle.cfm_prepare.specs.Addresses.{first_bad_program, section_of}
 use Rattle.cfm_prepare.specs.Fragments.{Present, StandAll, all_given_back, extents_in, first_bad_image, positions}
@@ -41,12 +41,6 @@ LacksPlaceBy rule pairs m (p ∷ ps) name =
 -- the fragment with this name is the one of some that finds no room after those before it
 abbrev pub LacksRoom : List Pair → Layout → List ℕ → List ℕ → Type 0
 LacksRoom pairs m ps name = LacksPlaceBy at_lowest pairs m ps name
-
--- extent k of some is the first that has no place by a rule, after those before it
-abbrev pub LacksPlaceFor : Rule → Layout → List Extent → ℕ → Type 0
-LacksPlaceFor rule m [] k = ⊥
-LacksPlaceFor rule m (e ∷ extents) zero = HasNoPlaceBy rule m e
-LacksPlaceFor rule m (e ∷ extents) (suc k) = (p : Place) × IsPlaceBy rule m e p × LacksPlaceFor (rule_after rule 1) (with_new m p) extents k
 
 -- a section of a fragment has no place by a rule: its totalSize is in this place
 abbrev pub HasNoPlaceAt : Rule → List Pair → Layout → ℕ → ContainerPlace → Type 0

@@ -14,8 +14,8 @@ use Rattle.cfm_store.specs.Stores.{Pair, place_of}
 use Rattle.cfm_closure.specs.Fragments.{container_at, import_count, loader_at}
 use Rattle.cfm_closure.specs.Targets.{target_of}
 use Rattle.cfm_closure.specs.declared.targets.Target.TheVariants.{At}
-use Rattle.cfm_prepare.specs.Prepared.{entry_address}
-use Rattle.cfm_prepare.specs.declared.entries.Entries.{Entries}
+use Rattle.cfm_sections.specs.Prepared.{entry_address}
+use Rattle.cfm_sections.specs.declared.entries.Entries.{Entries}
 use Rattle.cfm_prepare.specs.declared.imports.ImportTarget.{ImportTarget}
 use Rattle.cfm_prepare.specs.Addresses.{import_address, target_address}
 use Rattle.cfm_prepare.specs.Fragments.{Present, is_present, places_of}

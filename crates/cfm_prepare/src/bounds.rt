@@ -2,7 +2,7 @@ ghost use Rattle.std.specs.Prelude.{◌≡◌, Contains, IfErr, IfSome, OnOk, So
 ghost use Rattle.std.specs.Option.{IfNone};
 ghost use Rattle.cfm_prepare.specs.Bounds.{AreWithin, PassesAt, bytes_in, bytes_of, steps_in};
 ghost use Rattle.cfm_prepare.specs.Fragments.{new_among};
-ghost use Rattle.cfm_prepare.specs.Images.{extents_of};
+ghost use Rattle.cfm_sections.specs.Images.{extents_of};
 ghost use Rattle.cfm_prepare.specs.Kept.Bounds.{IsPastBounds, first_past, left_of, weight_of};
 ghost use Rattle.cfm_prepare.specs.Made.{choices_of};
 ghost use Rattle.pef_loader.specs.Loader.{reloc_of};

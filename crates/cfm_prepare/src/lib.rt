@@ -2,12 +2,10 @@
 //! released when the last of these is closed.
 //!
 //! The new fragments of a closure take each of three steps together: their sections are placed, filled with
-//! their images, and relocated. If one is refused, all that were placed are released.
+//! their images, and relocated, as `cfm_sections` says. If one is refused, all that were placed are released.
 //!
-//! A section's image, and the effect of relocation on it, are those of the format (Mac OS Runtime
-//! Architectures, "PEF Structure"). That fragments are shared is the Code Fragment Manager's rule ("Code
-//! Fragment Manager"). Where sections lie, how connections are numbered, and which of several refusals comes
-//! first, are this project's own.
+//! That fragments are shared is the Code Fragment Manager's rule (Mac OS Runtime Architectures, "Code Fragment
+//! Manager"). How connections are numbered, and which of several refusals comes first, are this project's own.
 #![tactic(auto)]
 
 mod add_fault;
@@ -15,22 +13,17 @@ mod addresses;
 mod bounds;
 mod connections;
 mod context;
-mod entries;
 mod exports;
 mod fault;
 mod fragment_fault;
 mod fragments;
-mod image_fault;
-mod images;
 mod imports;
 mod locations;
 mod new_sections;
 mod open_connection;
 mod options;
 mod place_fault;
-mod places;
 mod preparation;
-mod relocation;
 mod remove_fault;
 mod sections;
 mod slots;
@@ -42,12 +35,11 @@ pub use cfm_closure::{
     BindFault, Closure, Definition, Implementation, MissingLibrary, Store, StoreFault, Target,
 };
 pub use cfm_memory::{Granule, GranuleFault, MemoryFault};
+pub use cfm_sections::{Entries, ImageFault};
 pub use context::{Connection, Context};
-pub use entries::Entries;
 pub use exports::FragmentExport;
 pub use fault::{CloseFault, PrepareFault};
 pub use fragment_fault::FragmentFault;
-pub use image_fault::ImageFault;
 pub use imports::ImportTarget;
 pub use locations::Location;
 pub use new_sections::NewSection;

@@ -6,11 +6,10 @@ ghost use Rattle.cfm_prepare.specs.Kept.Connections.{AreOfClosure};
 ghost use Rattle.cfm_prepare.specs.Lists.{IsOnce, has};
 ghost use Rattle.cfm_prepare.specs.Readers.{entries_of, export_address, export_at, import_at, import_target_of, main_address, numbered_export, section_header_of, symbol_address, symbol_at, symbol_of};
 
-use crate::addresses::section_address;
-use crate::entries::{Entries, find_entries};
 use crate::fragments::Fragments;
 use crate::imports::ImportTarget;
 use cfm_closure::Closure;
+use cfm_sections::{Entries, find_entries, section_address};
 use pef_format::ExportValue;
 use pef_loader::Loader;
 use pef_views::SectionHeader;

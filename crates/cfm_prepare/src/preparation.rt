@@ -5,18 +5,19 @@ ghost use Rattle.cfm_prepare.specs.Addresses.{addresses_of, first_bad_program, s
 ghost use Rattle.cfm_prepare.specs.Fragments.{IsGivenBack, Present, StandAll, all_given_back, extents_in, first_bad_image, image_refusal_in, is_present, named, places_of, present_of, reloc_refusal_in, section_filled};
 ghost use Rattle.cfm_prepare.specs.Placing.{ArePreparedBy};
 ghost use Rattle.cfm_prepare.specs.Refusals.{MayNotPrepareNewBy};
-ghost use Rattle.cfm_prepare.specs.Kept.Rules.{rule_of};
+ghost use Rattle.cfm_sections.specs.Rules.{rule_of};
 ghost use Rattle.cfm_prepare.specs.Kept.Begun.{HavePlacedWith, section_placed};
 ghost use Rattle.cfm_prepare.specs.Kept.Ready.{AllHeld, AreAbsent, AreLaidOut, AreReady, ChangesAt, ChangesIn, FillsUpTo, HaveBegun, IsLaidOut, IsNotPlaced, RelocatesUpTo, found_in, others_of, these_of};
 
-use crate::addresses::{import_addresses, section_addresses};
+use crate::addresses::import_addresses;
 use crate::fragment_fault::FragmentFault;
-use crate::images::fill_sections;
-use crate::places::{PlaceRule, Unplaced, give_back, place_sections};
-use crate::relocation::{HeaderFault, relocate_sections};
 use crate::slots::Slots;
 use cfm_closure::Closure;
 use cfm_memory::{Memory, Place};
+use cfm_sections::{
+    HeaderFault, PlaceRule, Unplaced, fill_sections, give_back, place_sections, relocate_sections,
+    section_addresses,
+};
 use pef_format::Part;
 use pef_format::layout::TOTAL_SIZE_AT;
 use pef_loader::{ProgramFault, place_in};

@@ -12,7 +12,7 @@ ghost use Rattle.cfm_prepare.specs.Readers.{released_by};
 ghost use Rattle.cfm_prepare.specs.Refusals.{HasBadImageBy, HasBadProgramBy};
 ghost use Rattle.cfm_prepare.specs.Runs.{AreClosed, Keeps, Runs, Step, Takes};
 ghost use Rattle.cfm_prepare.specs.Steps.{Closes, HasClosure, IsWithin, PreparesBy, new_of};
-ghost use Rattle.cfm_prepare.specs.declared.image_fault.ImageFault.{ImageFault};
+ghost use Rattle.cfm_sections.specs.declared.image_fault.ImageFault.{ImageFault};
 ghost use Rattle.pef_loader.specs.declared.program_fault.ProgramFault.{ProgramFault};
 
 /// After any list of additions, removals, reservations, preparations and closings, a fragment is present exactly if the closure of

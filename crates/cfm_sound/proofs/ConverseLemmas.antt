@@ -18,9 +18,9 @@ use Rattle.cfm_memory.specs.Instances.{Layout}
 use Rattle.cfm_memory.specs.declared.place.Place.{Place}
 use Rattle.cfm_prepare.specs.Addresses.{addresses_from, addresses_of, first_bad_program}
 use Rattle.cfm_prepare.specs.Fragments.{Present, extents_in, first_bad_image, image_refusal_in, named, positions, reloc_refusal_in}
-use Rattle.cfm_prepare.specs.Images.{first_image_refusal}
+use Rattle.cfm_sections.specs.Images.{first_image_refusal}
 use Rattle.cfm_prepare.specs.Placing.{AllPlacedBy}
-use Rattle.cfm_prepare.specs.Prepared.{addresses_at, first_reloc_refusal}
+use Rattle.cfm_sections.specs.Prepared.{addresses_at, first_reloc_refusal}
 use Rattle.cfm_prepare.proofs.Laws.{length-addresses, length-there, new-members}
 use Rattle.pef_inspect.specs.Sound.{IsSound}
 use Rattle.cfm_sound.specs.Placed.{PlacedAreSound}

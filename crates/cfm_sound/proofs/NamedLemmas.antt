@@ -22,7 +22,7 @@ use Rattle.cfm_prepare.specs.declared.fault.PrepareFault.{PrepareFault}
 use Rattle.cfm_prepare.specs.declared.fault.PrepareFault.TheVariants as fault
 use Rattle.cfm_prepare.specs.declared.fragment_fault.FragmentFault.{FragmentFault}
 use Rattle.cfm_prepare.specs.declared.fragment_fault.FragmentFault.TheVariants as fragment
-use Rattle.cfm_prepare.specs.declared.image_fault.ImageFault.{ImageFault}
+use Rattle.cfm_sections.specs.declared.image_fault.ImageFault.{ImageFault}
 use Rattle.cfm_prepare.proofs.Laws.{bad-image, bad-program, new-members}
 use Rattle.pef_loader.specs.declared.program_fault.ProgramFault.{ProgramFault}
 use Rattle.pef_inspect.specs.Sound.{IsSound}

@@ -21,8 +21,8 @@ use Rattle.pef_reloc.specs.Verified.{program_verified, sizes_of, verified}
 use Rattle.pef_reloc.specs.declared.fault.RelocFault.{RelocFault}
 use Rattle.pef_reloc.specs.declared.verifying.Sizes.{Sizes}
 use Rattle.pef_reloc.proofs.Laws.{refusal_at-verified}
-use Rattle.cfm_prepare.specs.Images.{fault_in_image, filled_at, first_image_refusal, image_of, image_refusal}
-use Rattle.cfm_prepare.specs.Prepared.{first_header_refusal, first_reloc_refusal, header_refusal}
+use Rattle.cfm_sections.specs.Images.{fault_in_image, filled_at, first_image_refusal, image_of, image_refusal}
+use Rattle.cfm_sections.specs.Prepared.{first_header_refusal, first_reloc_refusal, header_refusal}
 use Rattle.pef_loader.specs.Programs.{fault_in_program}
 use Rattle.pef_inspect.specs.Errors.{image_fault, packed_at, program_at, run_at, run_of, sizes_at}
 use Rattle.pef_inspect.specs.Sound.{IsSound}

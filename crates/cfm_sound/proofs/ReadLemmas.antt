@@ -20,7 +20,7 @@ use Rattle.pef_views.proofs.Laws.{counts, instantiable, section_header_is, whole
 use Rattle.pef_pidata.specs.Pattern.{pattern_text}
 use Rattle.pef_pidata.specs.declared.fault.PackFault.{PackFault}
 use Rattle.pef_pidata.proofs.Laws.{pattern_text-length}
-use Rattle.cfm_prepare.specs.Images.{filled_at, filled_in, image_of}
+use Rattle.cfm_sections.specs.Images.{filled_at, filled_in, image_of}
 
 -- what can be read of some bytes has these bytes
 opened-bytes : (bytes : List ℕ) (c : Contained) → views.partial_of bytes ≡ Ok c → c.bytes ≡ bytes

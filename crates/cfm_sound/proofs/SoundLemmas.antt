@@ -31,9 +31,10 @@ use Rattle.cfm_memory.specs.declared.place.Place.{Place}
 use Rattle.cfm_sound.proofs.ReadLemmas.{filled-len, header, header-at, header-in, is-container, low, section-is}
 use Rattle.cfm_prepare.specs.Addresses.{addresses_from, addresses_of}
 use Rattle.cfm_prepare.specs.Fragments.{Present, extents_in, image_refusal_in, reloc_refusal_in}
-use Rattle.cfm_prepare.specs.Images.{filled_at, first_image_refusal, image_of, image_refusal}
-use Rattle.cfm_prepare.specs.Prepared.{addresses_at, first_reloc_refusal}
-use Rattle.cfm_prepare.proofs.Laws.{headers-unrefused, length-addresses, length-there}
+use Rattle.cfm_sections.specs.Images.{filled_at, first_image_refusal, image_of, image_refusal}
+use Rattle.cfm_sections.specs.Prepared.{addresses_at, first_reloc_refusal}
+use Rattle.cfm_prepare.proofs.Laws.{length-addresses, length-there}
+use Rattle.cfm_sections.proofs.Laws.{headers-unrefused}
 use Rattle.pef_inspect.specs.Errors.{image_fault, packed_at, program_at, run_at, run_of, sizes_at}
 use Rattle.pef_inspect.specs.Sound.{IsSound}
 

@@ -11,7 +11,7 @@ use Rattle.cfm_prepare.specs.Fragments.{Present, extents_in, first_bad_image, im
 use Rattle.cfm_prepare.specs.Placing.{AllPlacedBy, LacksPlaceBy}
 use Rattle.cfm_prepare.specs.Contexts.{ContextState}
 use Rattle.cfm_prepare.specs.Steps.{PreparesBy, new_of}
-use Rattle.cfm_prepare.specs.declared.image_fault.ImageFault.{ImageFault}
+use Rattle.cfm_sections.specs.declared.image_fault.ImageFault.{ImageFault}
 use Rattle.pef_loader.specs.declared.program_fault.ProgramFault.{ProgramFault}
 use Rattle.pef_headline.specs.Headline.{LibrariesResolve, OthersAreSoundBy, SectionsFindPlaces}
 

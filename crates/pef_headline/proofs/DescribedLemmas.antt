@@ -11,9 +11,9 @@ use Rattle.cfm_memory.specs.Extents.{ArePlacedBy, Rule}
 use Rattle.cfm_memory.specs.Instances.{Layout}
 use Rattle.cfm_memory.specs.declared.place.Place.{Place}
 use Rattle.cfm_memory.proofs.Laws.{length-placed}
-use Rattle.cfm_prepare.specs.Images.{extent_at, extent_in, extents_from, extents_of, fault_in_image, filled_at, filled_in, first_image_refusal, image_of, image_refusal}
-use Rattle.cfm_prepare.specs.Prepared.{addresses_at, first_reloc_refusal, prepared_at}
-use Rattle.cfm_prepare.proofs.Laws.{headers-unrefused}
+use Rattle.cfm_sections.specs.Images.{extent_at, extent_in, extents_from, extents_of, fault_in_image, filled_at, filled_in, first_image_refusal, image_of, image_refusal}
+use Rattle.cfm_sections.specs.Prepared.{addresses_at, first_reloc_refusal, prepared_at}
+use Rattle.cfm_sections.proofs.Laws.{headers-unrefused}
 use Rattle.pef_format.specs.declared.section.SectionKind.TheVariants as kind
 use Rattle.pef_format.specs.declared.section.Share.TheVariants as share
 use Rattle.pef_format.specs.Sections.{is_packed}

@@ -4,8 +4,8 @@ use Rattle.std.specs.Option.{option_and_then, option_map_or}
 use Rattle.std.specs.Result.{result_ok}
 use Rattle.cfm_store.specs.Stores.{Pair, pair_of}
 use Rattle.cfm_closure.specs.Fragments.{Fragment, container_at, fragment_of, import_count, loader_at}
-use Rattle.cfm_prepare.specs.Images.{extents_of, first_image_refusal}
-use Rattle.cfm_prepare.specs.Prepared.{addresses_at, first_reloc_refusal, prepared_at}
+use Rattle.cfm_sections.specs.Images.{extents_of, first_image_refusal}
+use Rattle.cfm_sections.specs.Prepared.{addresses_at, first_reloc_refusal, prepared_at}
 use Rattle.cfm_memory.specs.Extents.{ArePlacedBy, Rule}
 use Rattle.cfm_memory.specs.Instances.{Layout}
 use Rattle.cfm_memory.specs.declared.place.Place.{Place}

@@ -22,7 +22,7 @@ use Rattle.cfm_prepare.specs.Addresses.{addresses_from, import_address, section_
 use Rattle.cfm_prepare.specs.Contexts.{ContextState, Open}
 use Rattle.cfm_prepare.specs.Fragments.{Present, places_of, present_of}
 use Rattle.cfm_prepare.specs.Now.{IsPreparedNow}
-use Rattle.cfm_prepare.specs.Prepared.{addresses_at}
+use Rattle.cfm_sections.specs.Prepared.{addresses_at}
 use Rattle.cfm_prepare.specs.Sections.{held_at, section_present}
 use Rattle.cfm_prepare.specs.Steps.{PreparesBy}
 use Rattle.cfm_prepare.proofs.Laws.{container-of, length-there, run-opened, run-prepares}

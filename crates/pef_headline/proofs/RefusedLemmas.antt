@@ -25,7 +25,7 @@ use Rattle.cfm_prepare.specs.declared.fault.PrepareFault.{PrepareFault}
 use Rattle.cfm_prepare.specs.declared.fault.PrepareFault.TheVariants as fault
 use Rattle.pef_format.specs.declared.place.Place.{Place}
 use Rattle.pef_loader.specs.declared.fault.LoaderFault.{LoaderFault}
-use Rattle.cfm_prepare.specs.declared.image_fault.ImageFault.{ImageFault}
+use Rattle.cfm_sections.specs.declared.image_fault.ImageFault.{ImageFault}
 use Rattle.pef_loader.specs.declared.program_fault.ProgramFault.{ProgramFault}
 use Rattle.pef_views.specs.declared.fault.ViewFault.{ViewFault}
 use Rattle.pef_headline.specs.Headline.{IsForeign, OthersAreSoundBy}

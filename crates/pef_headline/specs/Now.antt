@@ -2,7 +2,7 @@
 -- `tvector`), with the present addresses.
 use Rattle.std.specs.Prelude.{ℕ, List, length, map}
 use Rattle.cfm_store.specs.Stores.{Pair}
-use Rattle.cfm_prepare.specs.Prepared.{addresses_at}
+use Rattle.cfm_sections.specs.Prepared.{addresses_at}
 use Rattle.cfm_memory.specs.Extents.{ArePlacedBy, Extent, Rule, Stand}
 use Rattle.cfm_memory.specs.Instances.{Layout}
 use Rattle.cfm_prepare.specs.Addresses.{addresses_from}

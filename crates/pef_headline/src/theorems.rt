@@ -22,7 +22,7 @@ ghost use Rattle.cfm_prepare.specs.declared.imports.ImportTarget.{ImportTarget};
 ghost use Rattle.pef_format.specs.Symbols.{Import};
 ghost use Rattle.pef_format.specs.declared.place.Place.{Place};
 ghost use Rattle.pef_loader.specs.declared.fault.LoaderFault.{LoaderFault};
-ghost use Rattle.cfm_prepare.specs.declared.image_fault.ImageFault.{ImageFault};
+ghost use Rattle.cfm_sections.specs.declared.image_fault.ImageFault.{ImageFault};
 ghost use Rattle.pef_loader.specs.declared.program_fault.ProgramFault.{ProgramFault};
 ghost use Rattle.pef_script.specs.Script.{DescribedScript};
 ghost use Rattle.pef_headline.specs.Headline.{AddressesHaveRoom, HasLeastPrograms, HasLinked, IsReached, LibrariesResolve, MayAnswer, MayAnswerAt, OthersAreSound, OthersAreSoundBy, PreparesAsDescribed, PreparesAtAsDescribed, SectionsFindPlaces, SectionsFindRoom, StaysAsDescribed};

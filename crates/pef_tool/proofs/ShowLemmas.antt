@@ -11,7 +11,7 @@ use Rattle.cfm_closure.specs.Closures.{Closed, closed_of}
 use Rattle.cfm_closure.specs.Promises.{AllRead, IsOfBinding}
 use Rattle.cfm_closure.proofs.Laws.{closed-refused}
 use Rattle.cfm_prepare.proofs.Laws.{lacks-room}
-use Rattle.cfm_prepare.specs.Prepared.{entry_address}
+use Rattle.cfm_sections.specs.Prepared.{entry_address}
 use Rattle.cfm_memory.specs.Extents.{LackRoom, no_instances}
 use Rattle.cfm_prepare.specs.Fragments.{extents_in, places_of}
 use Rattle.cfm_prepare.specs.Placing.{LacksRoom}

@@ -7,7 +7,7 @@ use Rattle.cfm_store.specs.Stores.{name_at}
 use Rattle.cfm_prepare.specs.Fragments.{places_of}
 use Rattle.cfm_prepare.specs.Contexts.{ContextState, open_of}
 use Rattle.cfm_prepare.specs.Readers.{entries_of, main_address}
-use Rattle.cfm_prepare.specs.declared.entries.Entries.{Entries}
+use Rattle.cfm_sections.specs.declared.entries.Entries.{Entries}
 use Rattle.pef_ports.specs.Names.{name_text}
 use Rattle.pef_tool.specs.Fragment.{PlacedSection, entry_text, placed_section, sections_text}
 use Rattle.pef_tool.specs.Answers.Faults.{name_end}

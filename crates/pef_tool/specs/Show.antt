@@ -6,8 +6,8 @@ use Rattle.cfm_closure.specs.Faults.{FailsAs}
 use Rattle.cfm_closure.specs.declared.fault.BindFault.{BindFault}
 use Rattle.cfm_closure.specs.declared.fault.BindFault.TheVariants as bind_fault
 use Rattle.cfm_closure.specs.Closures.{Closed, closed_of}
-use Rattle.cfm_prepare.specs.Prepared.{entry_address}
-use Rattle.cfm_prepare.specs.declared.entries.Entries.{Entries}
+use Rattle.cfm_sections.specs.Prepared.{entry_address}
+use Rattle.cfm_sections.specs.declared.entries.Entries.{Entries}
 use Rattle.cfm_memory.specs.Extents.{LackRoom, at_lowest, given_back, no_instances}
 use Rattle.cfm_memory.specs.declared.place.Place.{Place}
 use Rattle.cfm_prepare.specs.Fragments.{places_of}

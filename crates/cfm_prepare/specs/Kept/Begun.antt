@@ -1,28 +1,15 @@
--- What sections hold when they are placed, before packed images are expanded.
-use Rattle.std.specs.Prelude.{◌≡◌, ℕ, ◌<◌, List, [], ◌∷◌, if◌then◌else◌, length, take}
+-- New fragments that were placed: what their sections hold then, before packed images are expanded.
+use Rattle.std.specs.Prelude.{◌≡◌, ℕ, ◌<◌, List, [], ◌∷◌, length}
 use Rattle.std.specs.Option.{option_map_or}
 use Rattle.cfm_memory.specs.Extents.{Rule, place_at, with_filled}
 use Rattle.cfm_memory.specs.Instances.{Layout}
-use Rattle.pef_format.specs.Sections.{is_packed, kind_of}
-use Rattle.pef_views.specs.Container.{Contained, Section, section_of}
-use Rattle.pef_words.specs.Bytes.{filled}
 use Rattle.cfm_closure.specs.Fragments.{container_at}
+use Rattle.cfm_sections.specs.Begun.{placed_at}
 use Rattle.cfm_store.specs.Stores.{Pair}
 use Rattle.cfm_prepare.specs.Fragments.{Present, present_at}
 use Rattle.cfm_prepare.specs.Kept.Ready.{HavePlaced}
 
--- the image that a section is placed with: none if it is packed, since it is expanded later
-abbrev pub first_image : Section → List ℕ
-first_image s = if is_packed (kind_of s.header.section_kind) then [] else take s.header.unpacked_size s.raw
-
--- the memory of a section when it is placed
-abbrev pub placed_in : Section → List ℕ
-placed_in s = filled (first_image s) s.header.total_size
-
--- the same for section k of a container, and of a fragment
-abbrev pub placed_at : Contained → ℕ → List ℕ
-placed_at c k = option_map_or placed_in (section_of c k) []
-
+-- section k of a fragment when it is placed
 abbrev pub section_placed : List Pair → ℕ → ℕ → List ℕ
 section_placed pairs p k = option_map_or (λ c. placed_at c k) (container_at pairs p) []
 

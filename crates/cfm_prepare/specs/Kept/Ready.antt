@@ -3,7 +3,7 @@ use Rattle.std.specs.Prelude.{◌≡◌, ◌≢◌, ℕ, ◌+◌, ◌<◌, false
 use Rattle.cfm_memory.specs.Extents.{AreApart, AreHeld, Rule, given_back, place_at}
 use Rattle.cfm_memory.specs.Instances.{Layout}
 use Rattle.cfm_memory.specs.declared.place.Place.{Place}
-use Rattle.cfm_prepare.specs.declared.image_fault.ImageFault.{ImageFault}
+use Rattle.cfm_sections.specs.declared.image_fault.ImageFault.{ImageFault}
 use Rattle.pef_loader.specs.declared.program_fault.ProgramFault.{ProgramFault}
 use Rattle.cfm_store.specs.Stores.{Pair, pair_of}
 use Rattle.cfm_prepare.specs.Fragments.{Present, all_given_back, is_present, positions, present_at, present_of}

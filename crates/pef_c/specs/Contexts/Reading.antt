@@ -4,7 +4,7 @@ use Rattle.std.specs.Option.{is_some, option_and_then, unwrap_or}
 use Rattle.cfm_prepare.specs.Contexts.{ContextState, open_of}
 use Rattle.cfm_prepare.specs.Readers.{section_header_of}
 use Rattle.cfm_prepare.specs.Sections.{section_present}
-use Rattle.cfm_prepare.specs.declared.entries.Entries.{Entries}
+use Rattle.cfm_sections.specs.declared.entries.Entries.{Entries}
 use Rattle.cfm_prepare.specs.declared.imports.ImportTarget.{ImportTarget}
 use Rattle.cfm_closure.specs.declared.targets.Target.{Target}
 use Rattle.cfm_closure.specs.declared.targets.Target.TheVariants.{Absolute, At}

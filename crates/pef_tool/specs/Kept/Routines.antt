@@ -1,7 +1,7 @@
 -- The text that is printed of a routine of either kind.
 use Rattle.std.specs.Prelude.{ℕ, ◌-◌, List, Option, codes}
 use Rattle.std.specs.Option.{option_and_then}
-use Rattle.cfm_prepare.specs.declared.entries.Entries.{Entries}
+use Rattle.cfm_sections.specs.declared.entries.Entries.{Entries}
 use Rattle.cfm_prepare.specs.Contexts.{ContextState}
 use Rattle.pef_tool.specs.Fragment.{entry_text}
 use Rattle.pef_tool.specs.Loaded.{entries_in, entry_label, fragment_name, inits_text, terms_text}

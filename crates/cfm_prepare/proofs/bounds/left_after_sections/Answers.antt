@@ -6,7 +6,7 @@ use Rattle.cfm_memory.specs.Placement.{taken}
 use Rattle.pef_views.specs.Container.{Contained}
 use Rattle.pef_views.specs.Views.{contained}
 use Rattle.cfm_prepare.specs.Bounds.{bytes_of}
-use Rattle.cfm_prepare.specs.Images.{extent_at, extent_in, extents_from}
+use Rattle.cfm_sections.specs.Images.{extent_at, extent_in, extents_from}
 use Rattle.cfm_prepare.specs.Kept.Bounds.{left_of}
 use Rattle.cfm_prepare.proofs.BoundLemmas.{bytes-next, step-here}
 use Rattle.cfm_prepare.proofs.bounds.left_after_sections.Goals as goal

@@ -1,7 +1,7 @@
 -- What is left after the sections so far.
 use Rattle.std.proofs.Common.{◌≡◌, ◌-◌}
 use Rattle.cfm_prepare.specs.Bounds.{bytes_of}
-use Rattle.cfm_prepare.specs.Images.{extents_from}
+use Rattle.cfm_sections.specs.Images.{extents_from}
 use Rattle.cfm_prepare.specs.Kept.Bounds.{left_of}
 use Rattle.pef_views.specs.Views.{contained}
 use Rattle.cfm_prepare.proofs.bounds.left_after_sections.Given as goal

@@ -15,7 +15,7 @@ use Rattle.cfm_prepare.proofs.FoundLemmas.{new-has, present-has}
 use Rattle.cfm_prepare.specs.Contexts.{ContextState, Open}
 use Rattle.cfm_prepare.specs.Kept.Users.{CountsMore, CountUsers}
 use Rattle.cfm_prepare.specs.Steps.{HasRoot, IsRefusedLateBy, MayNotPrepareBy, new_of}
-use Rattle.cfm_prepare.specs.Kept.Rules.{rule_of}
+use Rattle.cfm_sections.specs.Rules.{rule_of}
 use Rattle.cfm_prepare.proofs.OpenLemmas.{ends-contains, of-closure, past-of, within-of}
 use Rattle.cfm_prepare.proofs.UsersLemmas.{entered-count, entered-used, same_users, users-few}
 use Rattle.cfm_prepare.proofs.context.Context.open_root.Goals as goal

@@ -5,7 +5,7 @@ use Rattle.std.proofs.lemmas.Result.{err_from_is_err_and}
 use Rattle.cfm_memory.specs.Extents.{Stand}
 use Rattle.cfm_store.specs.Stores.{Pair}
 use Rattle.cfm_prepare.specs.Fragments.{Present, first_bad_image, image_refusal_in, named}
-use Rattle.cfm_prepare.specs.declared.image_fault.ImageFault.{ImageFault}
+use Rattle.cfm_sections.specs.declared.image_fault.ImageFault.{ImageFault}
 use Rattle.cfm_prepare.specs.Kept.Begun.{section_placed}
 use Rattle.cfm_prepare.specs.Kept.Ready.{FillsUpTo, IsLaidOut, found_in}
 use Rattle.cfm_prepare.proofs.FoundLemmas.{found-here, length-found}

@@ -2,7 +2,7 @@
 use Rattle.std.proofs.Common.{◌≡◌, Some, length, sym, ap, ◌∙◌, arith}
 use Rattle.pef_views.specs.Views.{contained}
 use Rattle.cfm_closure.specs.Fragments.{container_at}
-use Rattle.cfm_prepare.proofs.PlaceLemmas.{size-fragment}
+use Rattle.cfm_sections.proofs.Laws.{size-fragment}
 use Rattle.cfm_prepare.specs.Fragments.{named}
 use Rattle.cfm_prepare.proofs.FragmentLemmas.{begun-there, image-there, length-there, placed-there}
 use Rattle.cfm_prepare.proofs.preparation.Preparation.fill_fragment.Goals as goal

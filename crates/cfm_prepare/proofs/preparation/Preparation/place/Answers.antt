@@ -7,7 +7,7 @@ use Rattle.cfm_memory.proofs.Laws.{after-both, after-none}
 use Rattle.cfm_prepare.specs.Fragments.{extents_in}
 use Rattle.cfm_prepare.specs.Kept.Begun.{section_placed}
 use Rattle.cfm_prepare.specs.Kept.Ready.{IsNotPlaced, place_count}
-use Rattle.cfm_prepare.specs.Kept.Rules.{rule_of}
+use Rattle.cfm_sections.specs.Rules.{rule_of}
 use Rattle.cfm_prepare.proofs.FoundLemmas.{absent-next}
 use Rattle.cfm_prepare.proofs.PlacingLemmas.{have-more, not-placed}
 use Rattle.cfm_prepare.proofs.preparation.Preparation.place.Goals as goal

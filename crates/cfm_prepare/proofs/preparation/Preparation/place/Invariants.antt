@@ -2,7 +2,7 @@ use Rattle.std.proofs.Common.{◌≡◌, take}
 use Rattle.cfm_memory.specs.Extents.{rule_after}
 use Rattle.cfm_prepare.specs.Kept.Begun.{HavePlacedWith}
 use Rattle.cfm_prepare.specs.Kept.Ready.{place_count}
-use Rattle.cfm_prepare.specs.Kept.Rules.{rule_of}
+use Rattle.cfm_sections.specs.Rules.{rule_of}
 use Rattle.cfm_prepare.proofs.preparation.Preparation.place.Given as goal
 
 abbrev pub invariant-loop-position : goal.invariant-loop-position

@@ -8,14 +8,14 @@ use Rattle.pef_views.specs.Container.{Contained}
 use Rattle.pef_views.specs.Views.{contained}
 use Rattle.pef_loader.specs.Programs.{fault_in_program}
 use Rattle.pef_loader.specs.declared.program_fault.ProgramFault.{ProgramFault}
-use Rattle.cfm_prepare.specs.declared.relocation.HeaderFault.{HeaderFault}
+use Rattle.cfm_sections.specs.declared.relocation.HeaderFault.{HeaderFault}
 use Rattle.pef_loader.specs.Loader.{reloc_of}
 use Rattle.pef_loader.specs.Views.{loaded}
 use Rattle.pef_reloc.specs.Applied.{Addresses}
 use Rattle.pef_reloc.specs.Headers.{relocated_by}
 use Rattle.cfm_closure.specs.Fragments.{import_count, loader_at}
-use Rattle.cfm_prepare.specs.Images.{filled_at}
-use Rattle.cfm_prepare.specs.Prepared.{first_header_refusal, prepared_at}
+use Rattle.cfm_sections.specs.Images.{filled_at}
+use Rattle.cfm_sections.specs.Prepared.{first_header_refusal, prepared_at}
 use Rattle.cfm_prepare.specs.Addresses.{addresses_from, addresses_of}
 use Rattle.cfm_prepare.specs.Fragments.{named, places_of, present_of}
 use Rattle.cfm_prepare.proofs.FragmentLemmas.{container-of, length-there, prepared-there, program-there, stand-there}

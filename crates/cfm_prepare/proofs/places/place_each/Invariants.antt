@@ -1,9 +1,0 @@
-use Rattle.cfm_memory.specs.Extents.{ArePlacedWith}
-use Rattle.pef_views.specs.Views.{contained}
-use Rattle.cfm_prepare.specs.Kept.Begun.{placed_at}
-use Rattle.cfm_prepare.specs.Kept.Rules.{rule_of}
-use Rattle.cfm_prepare.specs.Images.{extents_from}
-use Rattle.cfm_prepare.proofs.places.place_each.Given as goal
-
-abbrev pub invariant-loop-i : goal.invariant-loop-i
-invariant-loop-i l = ArePlacedWith (rule_of l.rule) l.fn.memory (extents_from (contained l.container) 0 l.i) (placed_at (contained l.container)) l.places.items l.memory

@@ -1,0 +1,4 @@
+mod HeaderLemmas
+mod ImageLemmas
+pub mod Laws
+mod PlaceLemmas
