@@ -126,7 +126,7 @@ impl<'c, 'a> Costed for Words<'c, 'a> {
 
     fn rest(&self, i: u32, limit: u64) -> Option<u64> {
         match Run::at(self.container, self.loader, i) {
-            Some(run) => words_left(run.program.fixups(), limit),
+            Some(run) => run.program.left_after_additions(limit),
             None => Some(limit),
         }
     }
@@ -165,21 +165,6 @@ impl<'c, 'a> Words<'c, 'a> {
             None => Ok(None),
         }
     }
-}
-
-/// Returns what is left of a limit after the words that a program adds to, unless it adds to more.
-fn words_left(fixups: Fixups<'_>, limit: u64) -> Option<u64>
-    ensures { result ≡ less limit (length (fixups_left fixups.entry)) }
-{
-    let mut rest = fixups;
-    let mut left = limit;
-    while let Some(_) = rest.next() {
-        if left == 0 {
-            return None;
-        }
-        left -= 1;
-    }
-    Some(left)
 }
 
 /// Returns the first offset in a section that isn't before a place, unless the place is in a later section.
