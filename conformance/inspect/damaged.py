@@ -398,6 +398,12 @@ note 107 WordOutsideImage reloc 1 halfword 0 at 0000019A word 00000010""")
     case("word-of-an-earlier-program", "180 0002", "note 114 WordRelocatedTwice reloc 1 halfword 0 at 0000019A word 00000000")
     case("second-word-of-an-earlier-program", "180 0002, 18C 8003", """
 note 114 WordRelocatedTwice reloc 1 halfword 0 at 0000019A word 00000004""")
+    # Program 0 adds to words 0, 4 and 8, and program 1, which is for section 2, too, to word 12, or to 8.
+    case("word-after-those-of-an-earlier-program", "180 0002, 18C 4002 8003 8003 8003 8003 8003 8003, 19A 00C1", "")
+    case("last-word-of-an-earlier-program", "180 0002, 18C 4002 8003 8003 8003 8003 8003 8003, 19A 0081", """
+note 114 WordRelocatedTwice reloc 1 halfword 0 at 0000019A word 00000008""")
+    # Words 8 and 4, each once.
+    case("words-from-the-last-to-the-first", "18C A000 0008 4000 A000 0004 4000 8003", "")
     # Program 0 adds to word 0 twice, and then to 4. Program 1 is its last two instructions, which add to word 4.
     case("word-of-a-program-after-one-twice", "18C 4000 A000 0000 4000 4A02 8003 4200, 180 0002 0000 00000002 0000000A", """
 note 113 UnownedBytes loader at 0000019A length 2
