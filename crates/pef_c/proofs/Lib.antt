@@ -1,5 +1,4 @@
 mod ContainerProofs
 mod ContextProofs
 mod Pointers
-mod RowLemmas
 mod WalkSteps

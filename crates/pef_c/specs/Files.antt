@@ -1,3 +1,2 @@
 pub mod Forks
-pub mod Parts
 pub mod Rows

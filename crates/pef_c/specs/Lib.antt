@@ -1,7 +1,5 @@
-pub mod Buffers
 pub mod Names
 pub mod Handles
-pub mod Places
 pub mod Containers
 pub mod Reports
 pub mod Files

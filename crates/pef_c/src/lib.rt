@@ -1,20 +1,16 @@
 //! The library for C. `include/pef.h` says what each call takes and gives, and what its caller must keep.
 //!
-//! Every call returns a number: 0, or the number of a refusal, or from 200 on one of this crate's own. Calls write
+//! Every call returns a number: 0, or the number of a refusal, or from 200 on one of this library's own. Calls write
 //! only into memory that the caller owns.
 #![tactic(auto)]
 
-mod answers;
 mod containers;
 mod contexts;
 mod files;
-mod fill;
 mod names;
-mod place;
 mod pointer;
 mod reports;
 mod scripts;
-mod structs;
 mod theorems;
 
 pub use containers::pef_container_place;
@@ -75,12 +71,6 @@ pub use contexts::pef_remove;
 pub use contexts::pef_reserve;
 pub use contexts::pef_unreserve;
 pub use contexts::pef_version;
-pub use files::PefFinder;
-pub use files::PefForks;
-pub use files::PefMember;
-pub use files::PefPart;
-pub use files::PefResource;
-pub use files::PefResourceMap;
 pub use files::pef_file_container;
 pub use files::pef_file_kind;
 pub use files::pef_find_containers;
@@ -93,6 +83,30 @@ pub use files::pef_resource_map;
 pub use files::pef_resources;
 pub use names::pef_help;
 pub use names::pef_name;
+pub use pef_records::PefEntries;
+pub use pef_records::PefExport;
+pub use pef_records::PefFinder;
+pub use pef_records::PefFinding;
+pub use pef_records::PefFixup;
+pub use pef_records::PefForks;
+pub use pef_records::PefFragmentExport;
+pub use pef_records::PefFragmentSection;
+pub use pef_records::PefHeader;
+pub use pef_records::PefImport;
+pub use pef_records::PefLibrary;
+pub use pef_records::PefLoader;
+pub use pef_records::PefLocation;
+pub use pef_records::PefMember;
+pub use pef_records::PefMissing;
+pub use pef_records::PefNames;
+pub use pef_records::PefNewSection;
+pub use pef_records::PefPart;
+pub use pef_records::PefPlace;
+pub use pef_records::PefRelocation;
+pub use pef_records::PefResource;
+pub use pef_records::PefResourceMap;
+pub use pef_records::PefSection;
+pub use pef_records::PefTarget;
 pub use reports::PefText;
 pub use reports::pef_list;
 pub use reports::pef_list_free;
@@ -104,24 +118,6 @@ pub use reports::pef_report_open;
 pub use reports::pef_report_open_container;
 pub use scripts::pef_link;
 pub use scripts::pef_script_place;
-pub use structs::PefEntries;
-pub use structs::PefExport;
-pub use structs::PefFinding;
-pub use structs::PefFixup;
-pub use structs::PefFragmentExport;
-pub use structs::PefFragmentSection;
-pub use structs::PefHeader;
-pub use structs::PefImport;
-pub use structs::PefLibrary;
-pub use structs::PefLoader;
-pub use structs::PefLocation;
-pub use structs::PefMissing;
-pub use structs::PefNames;
-pub use structs::PefNewSection;
-pub use structs::PefPlace;
-pub use structs::PefRelocation;
-pub use structs::PefSection;
-pub use structs::PefTarget;
 pub use theorems::add_names;
 pub use theorems::close_names;
 pub use theorems::container_names;

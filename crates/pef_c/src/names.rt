@@ -2,7 +2,7 @@
 ghost use Rattle.std.specs.Prelude.{◌≡◌, option_map};
 ghost use Rattle.pef_c.specs.Names.{TextAnswers, help_of, library_help, library_name, name_of};
 
-use crate::answers::NOT_THERE;
+use pef_records::NOT_THERE;
 use pef_refusals::{help, name};
 
 /// The greatest number that a refusal or a note may have. Numbers above it are this library's own.

@@ -3,7 +3,7 @@ use Rattle.std.proofs.Common.{◌≡◌, ℕ, Bool, true, false, List, [], ◌�
 use Rattle.std.specs.Option.{unwrap_or}
 use Rattle.pef_inspect.specs.declared.finding.Finding.{Finding}
 use Rattle.pef_c.specs.Containers.Kept.{flag, kept, numbers, places_kept}
-use Rattle.pef_c.specs.declared.structs.PefFinding.{PefFinding}
+use Rattle.pef_records.specs.declared.structs.PefFinding.{PefFinding}
 
 first_is : (a b c d e f : ℕ) → numbers a b c ≡ numbers d e f → a ≡ d
 first_is a b c d e f is = ap (λ (n : Finding). n.place.row) is

@@ -1,6 +1,6 @@
 -- Rows that come one after the other, and fill places from a number on.
 use Rattle.std.proofs.Common.{◌≡◌, ℕ, zero, suc, ◌+◌, ◌<◌, ◌≤◌, List, [], ◌∷◌, ◌++◌, drop, length, take, slice_index_or, slice_set, refl, ap, ◌∙◌, arith, append_assoc}
-use Rattle.pef_c.specs.Buffers.{FillsPart}
+use Rattle.pef_records.specs.Buffers.{FillsPart}
 
 -- the front of the places gets the first rows
 abbrev front : {A : Type 0} → List A → List A → List A

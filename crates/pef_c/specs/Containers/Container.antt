@@ -3,10 +3,9 @@ use Rattle.std.specs.Prelude.{◌≡◌, ◌⊎◌, ◌==◌, ℕ, List, Option,
 use Rattle.pef_views.specs.Container.{Contained, Section, container_of, section_name_of, section_of}
 use Rattle.pef_views.specs.Faults.{fault_number}
 use Rattle.pef_views.specs.declared.fault.ViewFault.{ViewFault}
-use Rattle.pef_views.specs.declared.header.Header.{Header}
-use Rattle.pef_views.specs.declared.section.SectionHeader.{SectionHeader}
-use Rattle.pef_c.specs.declared.structs.PefHeader.{PefHeader}
-use Rattle.pef_c.specs.declared.structs.PefSection.{PefSection}
+use Rattle.pef_records.specs.Containers.Container.{header_given, section_given}
+use Rattle.pef_records.specs.declared.structs.PefHeader.{PefHeader}
+use Rattle.pef_records.specs.declared.structs.PefSection.{PefSection}
 
 -- the number of the bytes' first refusal
 abbrev pub IsRefusal : List ℕ → ℕ → Type 0
@@ -19,30 +18,6 @@ OfContainer bytes holds = (c : Contained) × (container_of bytes ≡ Ok c) × ho
 -- the bytes are a container that has no such part; or they are refused
 abbrev pub Lacks : {A : Type 0} → List ℕ → (Contained → Option A) → ℕ → Type 0
 Lacks bytes part answer = ((answer ≡ 201) × OfContainer bytes (λ c. part c ≡ None)) ⊎ IsRefusal bytes answer
-
--- the header as C sees it
-abbrev pub header_given : Header → PefHeader
-header_given h = record {
-  date_time_stamp = h.date_time_stamp;
-  old_def_version = h.old_def_version;
-  old_imp_version = h.old_imp_version;
-  current_version = h.current_version;
-  section_count = h.section_count;
-  instantiated_section_count = h.instantiated_section_count;
-}
-
--- a section's header as C sees it
-abbrev pub section_given : SectionHeader → PefSection
-section_given s = record {
-  default_address = s.default_address;
-  total_size = s.total_size;
-  unpacked_size = s.unpacked_size;
-  packed_size = s.packed_size;
-  container_offset = s.container_offset;
-  kind = s.section_kind;
-  share = s.share_kind;
-  alignment = s.alignment;
-}
 
 -- what `pef_header` returns and writes
 abbrev pub HeaderAnswers : List ℕ → PefHeader → PefHeader → ℕ → Type 0

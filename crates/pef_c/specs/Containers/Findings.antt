@@ -6,9 +6,9 @@ use Rattle.pef_inspect.specs.Findings.{finding_number, is_error}
 use Rattle.pef_inspect.specs.More.{AreMore}
 use Rattle.pef_inspect.specs.Oddities.{HasIrregularExports, notes_of}
 use Rattle.pef_inspect.specs.declared.finding.Finding.{Finding}
-use Rattle.pef_c.specs.Buffers.{FillsPart}
-use Rattle.pef_c.specs.Places.{place_or_nowhere}
-use Rattle.pef_c.specs.declared.structs.PefFinding.{PefFinding}
+use Rattle.pef_records.specs.Buffers.{FillsPart}
+use Rattle.pef_records.specs.Places.{place_or_nowhere}
+use Rattle.pef_records.specs.declared.structs.PefFinding.{PefFinding}
 
 abbrev pub finding_row : Finding → PefFinding
 finding_row f = record { place = place_or_nowhere (Some f.place); detail = detail_value (detail_of f.cause); number = finding_number f; is_error = is_error f }

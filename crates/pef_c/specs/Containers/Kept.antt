@@ -5,7 +5,7 @@ use Rattle.pef_format.specs.declared.place.Part.TheVariants.{Header}
 use Rattle.pef_inspect.specs.Findings.{note_finding}
 use Rattle.pef_inspect.specs.declared.finding.Finding.{Finding}
 use Rattle.pef_inspect.specs.declared.note.Note.TheVariants.{ReservedNotZero}
-use Rattle.pef_c.specs.declared.structs.PefFinding.{PefFinding}
+use Rattle.pef_records.specs.declared.structs.PefFinding.{PefFinding}
 
 -- three numbers as a finding
 abbrev pub numbers : ℕ → ℕ → ℕ → Finding

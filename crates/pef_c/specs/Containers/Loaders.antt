@@ -3,10 +3,10 @@ use Rattle.std.specs.Prelude.{◌≡◌, ◌⊎◌, ◌==◌, ℕ, List, Result,
 use Rattle.pef_loader.specs.Faults.{fault_number}
 use Rattle.pef_loader.specs.Loader.{Loaded, loaded_of}
 use Rattle.pef_loader.specs.declared.fault.LoaderFault.{LoaderFault}
-use Rattle.pef_loader.specs.declared.header.LoaderHeader.{LoaderHeader}
 use Rattle.pef_views.specs.Container.{Contained}
 use Rattle.pef_c.specs.Containers.Container.{IsRefusal, OfContainer}
-use Rattle.pef_c.specs.declared.structs.PefLoader.{PefLoader}
+use Rattle.pef_records.specs.Containers.Loaders.{loader_given}
+use Rattle.pef_records.specs.declared.structs.PefLoader.{PefLoader}
 
 -- the loader section of a container, or its first refusal
 abbrev pub loader_in : Contained → Result Loaded LoaderFault
@@ -26,21 +26,6 @@ IsTablesRefusal bytes answer =
 abbrev pub ReadsTables : List ℕ → Result Loaded ℕ → Type 0
 ReadsTables bytes (Ok l) = HasTables bytes l
 ReadsTables bytes (Err number) = IsTablesRefusal bytes number
-
--- the loader header as C sees it
-abbrev pub loader_given : LoaderHeader → PefLoader
-loader_given h = record {
-  main_section = h.main_section;
-  main_offset = h.main_offset;
-  init_section = h.init_section;
-  init_offset = h.init_offset;
-  term_section = h.term_section;
-  term_offset = h.term_offset;
-  library_count = h.library_count;
-  import_count = h.import_count;
-  relocation_count = h.reloc_count;
-  export_count = h.export_count;
-}
 
 -- what `pef_loader` returns and writes
 abbrev pub LoaderAnswers : List ℕ → PefLoader → PefLoader → ℕ → Type 0

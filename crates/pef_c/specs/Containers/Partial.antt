@@ -1,34 +1,30 @@
 -- What the calls return and write that read a container as far as it can be read. 201 means that there is nothing under the
 -- number, or that it isn't in the bytes.
-use Rattle.std.specs.Prelude.{◌≡◌, ◌⊎◌, ◌==◌, ◌-◌, ◌^◌, ℕ, List, [], Option, None, Some, option_map, Result, Ok, Err, MatchBool, length, map}
-use Rattle.std.specs.Option.{unwrap_or}
-use Rattle.pef_format.specs.Exports.{Export}
-use Rattle.pef_format.specs.Symbols.{Import}
+use Rattle.std.specs.Prelude.{◌≡◌, ◌⊎◌, ◌==◌, ℕ, List, Option, None, Some, Result, Ok, Err, MatchBool, length, map}
 use Rattle.pef_views.specs.Container.{Contained}
 use Rattle.pef_views.specs.Faults.{fault_number}
 use Rattle.pef_views.specs.Partial.{header_in, name_of_section, partial_of, sections_allowed}
 use Rattle.pef_views.specs.Section.{raw_of}
 use Rattle.pef_views.specs.declared.fault.ViewFault.{ViewFault}
 use Rattle.pef_views.specs.declared.section.SectionHeader.{SectionHeader}
-use Rattle.pef_format.specs.Rows.{named}
 use Rattle.pef_loader.specs.Faults as loader
 use Rattle.pef_loader.specs.Header.{imports_from, library_place, relocs_from}
-use Rattle.pef_loader.specs.Library.{Library}
 use Rattle.pef_loader.specs.Loader.{Loaded}
 use Rattle.pef_loader.specs.Partial as tables
-use Rattle.pef_loader.specs.Partial.{ExportRow, ImportRow, LibraryRow, RelocationRow, exports_in, rows_in}
+use Rattle.pef_loader.specs.Partial.{exports_in, rows_in}
 use Rattle.pef_loader.specs.declared.fault.LoaderFault.{LoaderFault}
-use Rattle.pef_c.specs.Containers.Container.{header_given, section_given}
-use Rattle.pef_c.specs.Containers.Loaders.{loader_given}
-use Rattle.pef_c.specs.Buffers.{filled, fitting}
-use Rattle.pef_c.specs.Containers.Rows.{export_shown, import_shown, library_shown, relocation_shown}
-use Rattle.pef_c.specs.declared.structs.PefExport.{PefExport}
-use Rattle.pef_c.specs.declared.structs.PefHeader.{PefHeader}
-use Rattle.pef_c.specs.declared.structs.PefImport.{PefImport}
-use Rattle.pef_c.specs.declared.structs.PefLibrary.{PefLibrary}
-use Rattle.pef_c.specs.declared.structs.PefLoader.{PefLoader}
-use Rattle.pef_c.specs.declared.structs.PefRelocation.{PefRelocation}
-use Rattle.pef_c.specs.declared.structs.PefSection.{PefSection}
+use Rattle.pef_records.specs.Buffers.{filled, fitting}
+use Rattle.pef_records.specs.Containers.Container.{header_given, section_given}
+use Rattle.pef_records.specs.Containers.Loaders.{loader_given}
+use Rattle.pef_records.specs.Containers.Partial.{export_in, import_in, library_in, relocation_in}
+use Rattle.pef_records.specs.Containers.Rows.{export_shown, import_shown, library_shown, relocation_shown}
+use Rattle.pef_records.specs.declared.structs.PefExport.{PefExport}
+use Rattle.pef_records.specs.declared.structs.PefHeader.{PefHeader}
+use Rattle.pef_records.specs.declared.structs.PefImport.{PefImport}
+use Rattle.pef_records.specs.declared.structs.PefLibrary.{PefLibrary}
+use Rattle.pef_records.specs.declared.structs.PefLoader.{PefLoader}
+use Rattle.pef_records.specs.declared.structs.PefRelocation.{PefRelocation}
+use Rattle.pef_records.specs.declared.structs.PefSection.{PefSection}
 
 -- the bytes have a container header, and this holds for what can be read of them
 abbrev pub OfPart : List ℕ → (Contained → Type 0) → Type 0
@@ -81,37 +77,6 @@ ReadsPart bytes (Err number) = IsTablesUnreadable bytes number
 abbrev pub PartLoaderAnswers : List ℕ → PefLoader → PefLoader → ℕ → Type 0
 PartLoaderAnswers bytes old new answer =
     MatchBool (answer == 0) ((l : Loaded) × HasPart bytes l × (new ≡ loader_given l.header)) ((new ≡ old) × IsTablesUnreadable bytes answer)
-
--- rows as C sees them: what is missing has no bytes, and a library that no import belongs to has the greatest number
-
-abbrev pub library_part : LibraryRow → Library
-library_part r = named (λ name. unwrap_or name []) r
-
-abbrev pub no_library : ℕ
-no_library = 2 ^ 64 - 1
-
-abbrev pub import_part : ImportRow → Import
-import_part r = record { fields = r.fields; name = unwrap_or r.name []; library = unwrap_or r.library no_library }
-
-abbrev pub relocation_part : RelocationRow → ℕ × List ℕ
-relocation_part r = (r.section, unwrap_or r.program [])
-
-abbrev pub export_part : ExportRow → Export
-export_part r = named (λ name. unwrap_or name []) r
-
--- the rows of each table, by their numbers
-
-abbrev pub library_in : Loaded → ℕ → Option Library
-library_in l i = option_map library_part (tables.library_row l i)
-
-abbrev pub import_in : Loaded → ℕ → Option Import
-import_in l j = option_map import_part (tables.import_row l j)
-
-abbrev pub relocation_in : Loaded → ℕ → Option (ℕ × List ℕ)
-relocation_in l k = option_map relocation_part (tables.relocation_row l k)
-
-abbrev pub export_in : Loaded → ℕ → Option Export
-export_in l i = option_map export_part (tables.export_row l i)
 
 -- how many rows of each table are in the bytes
 

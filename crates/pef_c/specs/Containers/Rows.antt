@@ -1,34 +1,16 @@
--- The rows of a loader section's tables as C sees them, and what the calls return and write that read them.
-use Rattle.std.specs.Prelude.{◌≡◌, ◌⊎◌, ℕ, ◌-◌, ◌==◌, List, Option, None, Some, MatchBool, length, map}
+-- What the calls return and write that read the rows of a loader section's tables.
+use Rattle.std.specs.Prelude.{◌≡◌, ◌⊎◌, ℕ, ◌==◌, List, Option, None, Some, MatchBool, length, map}
 use Rattle.pef_format.specs.Exports.{Export}
 use Rattle.pef_format.specs.Symbols.{Import}
 use Rattle.pef_loader.specs.ImportNames.{named_import_of}
-use Rattle.pef_loader.specs.Library.{Library}
 use Rattle.pef_loader.specs.Loader.{Loaded, export_of, import_of, library_of, named_of, reloc_of}
-use Rattle.pef_c.specs.Buffers.{filled, fitting}
 use Rattle.pef_c.specs.Containers.Loaders.{HasTables, IsTablesRefusal}
-use Rattle.pef_c.specs.declared.structs.PefExport.{PefExport}
-use Rattle.pef_c.specs.declared.structs.PefImport.{PefImport}
-use Rattle.pef_c.specs.declared.structs.PefLibrary.{PefLibrary}
-use Rattle.pef_c.specs.declared.structs.PefRelocation.{PefRelocation}
-
--- the rows that the structs hold
-
-abbrev pub library_shown : PefLibrary → Library
-library_shown v = record {
-  fields = record { current = v.current_version; old_imp = v.old_imp_version; count = v.import_count; first = v.first_import; options = v.options };
-  name = v.name.now;
-}
-
-abbrev pub import_shown : PefImport → Import
-import_shown v = record { fields = record { class = v.class; weak = v.weak }; name = v.name.now; library = v.library }
-
-abbrev pub export_shown : PefExport → Export
-export_shown v = record { fields = record { class = v.class; section = v.section; value = v.value }; name = v.name.now }
-
--- the section of a relocation header, and its instructions
-abbrev pub relocation_shown : PefRelocation → ℕ × List ℕ
-relocation_shown v = (v.section, v.instructions.now)
+use Rattle.pef_records.specs.Buffers.{filled, fitting}
+use Rattle.pef_records.specs.Containers.Rows.{export_shown, import_shown, library_shown, relocation_shown}
+use Rattle.pef_records.specs.declared.structs.PefExport.{PefExport}
+use Rattle.pef_records.specs.declared.structs.PefImport.{PefImport}
+use Rattle.pef_records.specs.declared.structs.PefLibrary.{PefLibrary}
+use Rattle.pef_records.specs.declared.structs.PefRelocation.{PefRelocation}
 
 -- 0, and the rows from a number on are in the first places, and counted; or a refusal, and nothing is written
 abbrev pub RowsAnswer : {A : Type 0} → List ℕ → (Loaded → ℕ → Option A) → (Loaded → ℕ) → ℕ → List A → List A → ℕ → ℕ → ℕ → Type 0

@@ -14,10 +14,10 @@ use Rattle.cfm_prepare.specs.declared.remove_fault.RemoveFault.{RemoveFault}
 use Rattle.pef_faults.specs.Names as faults
 use Rattle.pef_faults.specs.Places.{fault_place}
 use Rattle.pef_faults.specs.declared.fault.Fault.TheVariants.{Prepare}
-use Rattle.pef_c.specs.Places.{place_or_nowhere}
+use Rattle.pef_records.specs.Places.{place_or_nowhere}
 use Rattle.pef_c.specs.declared.contexts.handle.PefContext.{PefContext}
-use Rattle.pef_c.specs.declared.structs.PefNames.{PefNames}
-use Rattle.pef_c.specs.declared.structs.PefPlace.{PefPlace}
+use Rattle.pef_records.specs.declared.structs.PefNames.{PefNames}
+use Rattle.pef_records.specs.declared.structs.PefPlace.{PefPlace}
 
 -- the context that C holds, if it is open
 abbrev pub held : PefContext → Option ContextState

@@ -9,9 +9,9 @@ use Rattle.cfm_prepare.specs.Contexts.{ContextState, open_of}
 use Rattle.cfm_prepare.specs.FragmentExports.{PlacedExport, fragment_export, fragment_export_named, fragment_loader, meant}
 use Rattle.cfm_prepare.specs.Locations.{IsLocated, Located}
 use Rattle.pef_c.specs.Contexts.Reading.{target_shown}
-use Rattle.pef_c.specs.declared.structs.PefFragmentExport.{PefFragmentExport}
-use Rattle.pef_c.specs.declared.structs.PefLocation.{PefLocation}
-use Rattle.pef_c.specs.declared.structs.PefTarget.{PefTarget}
+use Rattle.pef_records.specs.declared.structs.PefFragmentExport.{PefFragmentExport}
+use Rattle.pef_records.specs.declared.structs.PefLocation.{PefLocation}
+use Rattle.pef_records.specs.declared.structs.PefTarget.{PefTarget}
 
 -- an export of a fragment as C sees it: its name and number, where it ends, the import that it passes on, if it does, and its class
 pub record ExportRow : Type 0 where

@@ -7,8 +7,8 @@ use Rattle.cfm_prepare.specs.Faults.{fault_number}
 use Rattle.cfm_prepare.specs.Lacking.{Lacks, MayNotTell}
 use Rattle.cfm_prepare.specs.declared.fault.PrepareFault.{PrepareFault}
 use Rattle.pef_c.specs.Contexts.Context.{Names, fault_names}
-use Rattle.pef_c.specs.Buffers.{filled, fitting}
-use Rattle.pef_c.specs.declared.structs.PefMissing.{PefMissing}
+use Rattle.pef_records.specs.Buffers.{filled, fitting}
+use Rattle.pef_records.specs.declared.structs.PefMissing.{PefMissing}
 
 -- a missing library as C sees it. Without a fragment of its name there are no versions of one
 pub record MissingRow : Type 0 where

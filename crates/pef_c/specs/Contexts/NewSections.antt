@@ -6,8 +6,8 @@ use Rattle.cfm_prepare.specs.NewSections.{AreNewSections, MayNotTellSections}
 use Rattle.cfm_prepare.specs.declared.fault.PrepareFault.{PrepareFault}
 use Rattle.cfm_prepare.specs.declared.new_sections.NewSection.{NewSection}
 use Rattle.pef_c.specs.Contexts.Context.{Names, fault_names}
-use Rattle.pef_c.specs.Buffers.{filled, fitting}
-use Rattle.pef_c.specs.declared.structs.PefNewSection.{PefNewSection}
+use Rattle.pef_records.specs.Buffers.{filled, fitting}
+use Rattle.pef_records.specs.declared.structs.PefNewSection.{PefNewSection}
 
 -- a section as C sees it
 abbrev pub section_row : NewSection → PefNewSection

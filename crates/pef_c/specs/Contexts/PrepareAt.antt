@@ -8,8 +8,8 @@ use Rattle.cfm_prepare.specs.declared.place_fault.PlaceFault.TheVariants as faul
 use Rattle.pef_faults.specs.Places.{fault_place}
 use Rattle.pef_faults.specs.declared.fault.Fault.TheVariants.{Prepare}
 use Rattle.pef_c.specs.Contexts.Context.{Changes, Names, fault_names}
-use Rattle.pef_c.specs.Places.{place_or_nowhere}
-use Rattle.pef_c.specs.declared.structs.PefPlace.{PefPlace}
+use Rattle.pef_records.specs.Places.{place_or_nowhere}
+use Rattle.pef_records.specs.declared.structs.PefPlace.{PefPlace}
 
 -- the names of the error. A wrong number of addresses has none
 abbrev pub names_at : PlaceFault → Names

@@ -9,10 +9,10 @@ use Rattle.cfm_prepare.specs.declared.imports.ImportTarget.{ImportTarget}
 use Rattle.cfm_closure.specs.declared.targets.Target.{Target}
 use Rattle.cfm_closure.specs.declared.targets.Target.TheVariants.{Absolute, At}
 use Rattle.pef_views.specs.declared.section.SectionHeader.{SectionHeader}
-use Rattle.pef_c.specs.Buffers.{CopiesOut}
-use Rattle.pef_c.specs.declared.structs.PefEntries.{PefEntries}
-use Rattle.pef_c.specs.declared.structs.PefFragmentSection.{PefFragmentSection}
-use Rattle.pef_c.specs.declared.structs.PefTarget.{PefTarget}
+use Rattle.pef_records.specs.Buffers.{CopiesOut}
+use Rattle.pef_records.specs.declared.structs.PefEntries.{PefEntries}
+use Rattle.pef_records.specs.declared.structs.PefFragmentSection.{PefFragmentSection}
+use Rattle.pef_records.specs.declared.structs.PefTarget.{PefTarget}
 
 -- 0, and the value is written; or 201, if there is none, or 202, and nothing is written
 abbrev pub ReadAnswers : {A : Type 0} → (ContextState → Option A) → Option ContextState → A → A → ℕ → Type 0

@@ -5,7 +5,7 @@ use Rattle.mac_forks.specs.MacFile.{MacFileIs, mac_file_of}
 use Rattle.mac_forks.specs.declared.fault.ForkFault.{ForkFault}
 use Rattle.cfm_members.specs.MemberLookupFaults.{member_lookup_fault_number}
 use Rattle.cfm_members.specs.declared.member_lookup_fault.MemberLookupFault.{MemberLookupFault}
-use Rattle.pef_c.specs.Files.Parts.{ForksRow, forks_row}
+use Rattle.pef_records.specs.Files.Parts.{ForksRow, forks_row}
 
 -- `pef_forks`: 0, and the forks of the file; or the error of its header, and nothing is written
 abbrev pub ForksAnswers : List ℕ → ForksRow → ForksRow → ℕ → Type 0

@@ -4,7 +4,7 @@ use Rattle.pef_listing.specs.Faults.{fault_number}
 use Rattle.pef_listing.specs.Listed.{Parts, listed_of}
 use Rattle.pef_listing.specs.Listing.{listing_text}
 use Rattle.pef_listing.specs.declared.fault.ListFault.{ListFault}
-use Rattle.pef_c.specs.Buffers.{Fills, FillsPart, IsTooLong}
+use Rattle.pef_records.specs.Buffers.{Fills, FillsPart, IsTooLong}
 use Rattle.pef_c.specs.Reports.Unread.{unread_text}
 use Rattle.pef_c.specs.declared.reports.text_handle.PefText.{PefText}
 

@@ -6,7 +6,7 @@ use Rattle.pef_script.specs.Text.Grammar.{script_of}
 use Rattle.pef_script.specs.declared.text.fault.LineFault.{LineFault}
 use Rattle.pef_script.specs.declared.text.places.Word.{Word}
 use Rattle.pef_write.specs.Linked.{IsLinked, LinkedContainer}
-use Rattle.pef_c.specs.Buffers.{Fills, IsTooLong}
+use Rattle.pef_records.specs.Buffers.{Fills, IsTooLong}
 
 -- the text is a script, and this is linked from it
 abbrev pub IsLinkedOf : List ℕ → LinkedContainer → Type 0

@@ -1,5 +1,5 @@
 -- What `pef_script_place` returns and writes. 99 means that an allocation failed.
-use Rattle.std.specs.Prelude.{◌≡◌, ◌⊎◌, ◌==◌, ◌-◌, ℕ, List, Option, None, Ok, Err, MatchBool}
+use Rattle.std.specs.Prelude.{◌≡◌, ◌⊎◌, ◌==◌, ℕ, List, Option, None, Ok, Err, MatchBool}
 use Rattle.std.specs.Option.{unwrap_or}
 use Rattle.pef_format.specs.Places.{part_code}
 use Rattle.pef_format.specs.declared.place.Part.TheVariants.{Line}
@@ -9,8 +9,8 @@ use Rattle.pef_script.specs.Text.Grammar.{script_of}
 use Rattle.pef_script.specs.declared.text.fault.LineFault.{LineFault}
 use Rattle.pef_script.specs.declared.text.fault.ScriptFault.TheVariants as script_fault
 use Rattle.pef_script.specs.declared.text.places.Word.{Word}
-use Rattle.pef_c.specs.declared.structs.PefPlace.{PefPlace}
-use Rattle.pef_c.specs.Places.{place_or_nowhere}
+use Rattle.pef_records.specs.declared.structs.PefPlace.{PefPlace}
+use Rattle.pef_records.specs.Places.{place_or_nowhere}
 
 -- the place of a word of a line
 abbrev pub word_place : ℕ → Word → PefPlace

@@ -1,10 +1,8 @@
 //! Containers. Each call reads them anew from their bytes, and allocates nothing.
-ghost use Rattle.std.specs.Prelude.{◌≡◌};
-ghost use Rattle.pef_c.specs.Containers.Container.{HeaderAnswers, SectionAnswers, SectionNameAnswers, header_given, section_given};
+ghost use Rattle.pef_c.specs.Containers.Container.{HeaderAnswers, SectionAnswers, SectionNameAnswers};
 
-use crate::answers::{NOT_THERE, view_number};
-use crate::structs::{PefHeader, PefSection};
-use pef_views::{Container, Header, SectionHeader};
+use pef_records::{NOT_THERE, PefHeader, PefSection, header_given, section_given, view_number};
+use pef_views::Container;
 
 /// Reads a container's header.
 ///
@@ -66,35 +64,5 @@ pub extern "C" fn pef_section_name<'a>(
             0
         }
         None => NOT_THERE,
-    }
-}
-
-/// Returns a container header as C sees it.
-pub(crate) fn header_given(header: Header) -> PefHeader
-    ensures { result ≡ header_given header }
-{
-    PefHeader {
-        date_time_stamp: header.date_time_stamp,
-        old_def_version: header.old_def_version,
-        old_imp_version: header.old_imp_version,
-        current_version: header.current_version,
-        section_count: header.section_count,
-        instantiated_section_count: header.instantiated_section_count,
-    }
-}
-
-/// Returns a section's header as C sees it.
-pub(crate) fn section_given(header: SectionHeader) -> PefSection
-    ensures { result ≡ section_given header }
-{
-    PefSection {
-        default_address: header.default_address,
-        total_size: header.total_size,
-        unpacked_size: header.unpacked_size,
-        packed_size: header.packed_size,
-        container_offset: header.container_offset,
-        kind: header.section_kind,
-        share: header.share_kind,
-        alignment: header.alignment,
     }
 }

@@ -1,7 +1,7 @@
 ghost use Rattle.pef_c.specs.Containers.Packed.{ExpandAnswers};
 
-use crate::answers::{given, pack_number};
 use pef_pidata::expand;
+use pef_records::{given, pack_number};
 
 /// Expands packed bytes until `out` is full.
 ///

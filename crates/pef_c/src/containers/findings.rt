@@ -2,15 +2,13 @@
 ghost use Rattle.std.specs.Prelude.{◌≡◌, ◌-◌, ◌++◌, [], drop, length, map};
 ghost use Rattle.pef_inspect.specs.Errors.{errors_of};
 ghost use Rattle.pef_inspect.specs.Oddities.{Adds, HasIrregularExports, notes_of};
-ghost use Rattle.pef_c.specs.Buffers.{FillsPart};
+ghost use Rattle.pef_records.specs.Buffers.{FillsPart};
 ghost use Rattle.pef_c.specs.Containers.Findings.{FindingsAnswer, MoreNotesAnswer, finding_row};
 ghost use Rattle.pef_c.specs.Containers.Told.{told_items};
 
-use crate::answers::OUT_OF_MEMORY;
 use crate::containers::told::Told;
-use crate::place::place_or_nowhere;
-use crate::structs::PefFinding;
 use pef_inspect::{Finding, Findings, find_errors, find_more_notes, find_notes};
+use pef_records::{OUT_OF_MEMORY, PefFinding, place_or_nowhere};
 use std::alloc::Global;
 use std::convert::Infallible;
 

@@ -1,22 +1,13 @@
 //! What a relocation program adds to which words. The container is read anew, and nothing is allocated.
-ghost use Rattle.std.specs.Prelude.{◌≡◌};
 ghost use Rattle.pef_loader.specs.Loader.{reloc_of};
 ghost use Rattle.pef_loader.specs.Views.{loaded};
-ghost use Rattle.pef_reloc.specs.Traces.{addition_seen};
 ghost use Rattle.pef_reloc.specs.Unrolled.{program_fault};
-ghost use Rattle.pef_c.specs.Containers.Fixups.{FixupsAnswer, HeaderAnswer, ProgramAnswer, fixup_row, fixup_shown};
+ghost use Rattle.pef_c.specs.Containers.Fixups.{FixupsAnswer, HeaderAnswer, ProgramAnswer};
 
-use crate::answers::NOT_THERE;
 use crate::containers::loader::read_tables;
-use crate::fill::{Rows, fill_rows};
-use crate::structs::PefFixup;
 use pef_loader::Loader;
-use pef_reloc::{Addition, Fixups, Program, Source};
-
-/// A section or an import is added.
-const SECTION: u32 = 1;
-
-const IMPORT: u32 = 2;
+use pef_records::{NOT_THERE, PefFixup, fill_rows};
+use pef_reloc::Program;
 
 /// Reads the additions of a relocation header's program, from number `from` on, into the first places, and counts them.
 ///
@@ -64,42 +55,5 @@ fn read_program(instructions: &[u8], from: usize, places: &mut [PefFixup], count
             0
         }
         Err(fault) => fault.number(),
-    }
-}
-
-impl<'a> Rows<PefFixup> for Fixups<'a> {
-    ghost use Rattle.std.specs.Prelude.{map};
-    ghost use Rattle.pef_reloc.specs.Left.{fixups_left};
-    ghost use Rattle.pef_c.specs.Containers.Fixups.{FixupRow, fixup_row, fixup_shown};
-
-    ghost Held = { FixupRow };
-
-    ghost shown = { fixup_shown };
-
-    ghost left = { λ r. map fixup_row (fixups_left r) };
-
-    fn take_row(&mut self) -> Option<PefFixup> {
-        match self.next() {
-            Some(addition) => Some(fixup_given(addition)),
-            None => None,
-        }
-    }
-}
-
-/// Returns an addition as C sees it.
-fn fixup_given(addition: Addition) -> PefFixup
-    ensures { fixup_shown result ≡ fixup_row (addition_seen addition) }
-{
-    match addition.source {
-        Source::Section(section) => PefFixup {
-            offset: addition.offset,
-            number: u64::from(section),
-            kind: SECTION,
-        },
-        Source::Import(import) => PefFixup {
-            offset: addition.offset,
-            number: import,
-            kind: IMPORT,
-        },
     }
 }

@@ -2,11 +2,10 @@
 ghost use Rattle.std.specs.Prelude.{◌≡◌, ◌==◌, false, IfErr};
 ghost use Rattle.pef_loader.specs.Views.{loaded};
 ghost use Rattle.pef_words.specs.Refusals.{result_map};
-ghost use Rattle.pef_c.specs.Containers.Loaders.{LoaderAnswers, ReadsTables, loader_given};
+ghost use Rattle.pef_c.specs.Containers.Loaders.{LoaderAnswers, ReadsTables};
 
-use crate::answers::{loader_number, view_number};
-use crate::structs::PefLoader;
-use pef_loader::{Loader, LoaderHeader};
+use pef_loader::Loader;
+use pef_records::{PefLoader, loader_given, loader_number, view_number};
 use pef_views::Container;
 
 /// Reads the loader section of a container, or returns the number of the first refusal.
@@ -37,22 +36,4 @@ pub extern "C" fn pef_loader(container: &[u8], loader: &mut PefLoader) -> u32
     };
     *loader = loader_given(header);
     0
-}
-
-/// Returns a loader header as C sees it.
-pub(crate) fn loader_given(header: LoaderHeader) -> PefLoader
-    ensures { result ≡ loader_given header }
-{
-    PefLoader {
-        main_section: header.main_section,
-        main_offset: header.main_offset,
-        init_section: header.init_section,
-        init_offset: header.init_offset,
-        term_section: header.term_section,
-        term_offset: header.term_offset,
-        library_count: header.library_count,
-        import_count: header.import_count,
-        relocation_count: header.reloc_count,
-        export_count: header.export_count,
-    }
 }

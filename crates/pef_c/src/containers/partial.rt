@@ -5,11 +5,11 @@ ghost use Rattle.pef_words.specs.Refusals.{result_map};
 ghost use Rattle.pef_loader.specs.PartialViews.{partly_loaded};
 ghost use Rattle.pef_c.specs.Containers.Partial.{PartHeaderAnswers, PartLoaderAnswers, PartNameAnswers, PartSectionAnswers, ReadsPart};
 
-use crate::answers::{NOT_THERE, loader_number, view_number};
-use crate::containers::container::{header_given, section_given};
-use crate::containers::loader::loader_given;
-use crate::structs::{PefHeader, PefLoader, PefSection};
 use pef_loader::PartialLoader;
+use pef_records::{
+    NOT_THERE, PefHeader, PefLoader, PefSection, header_given, loader_given, loader_number,
+    section_given, view_number,
+};
 use pef_views::PartialContainer;
 
 /// Reads the header of a container that may be damaged.

@@ -2,11 +2,9 @@
 ghost use Rattle.std.specs.Prelude.{◌≡◌};
 ghost use Rattle.pef_c.specs.Containers.Place.{ContainerPlaces};
 
-use crate::answers::list_number;
-use crate::place::place_or_nowhere;
-use crate::structs::PefPlace;
 use pef_faults::Fault;
 use pef_listing::Listing;
+use pef_records::{PefPlace, list_number, place_or_nowhere};
 
 /// Finds the first error of a container: of its header and its sections, of its loader section, and of its relocation
 /// programs, in the order in which `pef_list` reports them.

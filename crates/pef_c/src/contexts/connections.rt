@@ -7,10 +7,9 @@ ghost use Rattle.cfm_prepare.specs.Readers.{import_target_of, numbered_export, r
 ghost use Rattle.pef_c.specs.Contexts.Context.{held};
 ghost use Rattle.pef_c.specs.Contexts.Reading.{CopyAnswers, MadeAnswers, MakesOut, ReadAnswers, target_given};
 
-use crate::answers::{NOT_OPEN, NOT_THERE, OUT_OF_MEMORY, copy_answer};
 use crate::contexts::handle::{PefContext, put, take};
-use crate::structs::PefTarget;
 use cfm_prepare::{Connection, Context, ImportTarget, Target};
+use pef_records::{NOT_OPEN, NOT_THERE, OUT_OF_MEMORY, PefTarget, copy_answer};
 use std::alloc::Global;
 
 /// The kinds of targets (`PEF_TARGET_MISSING` and the others).

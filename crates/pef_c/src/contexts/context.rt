@@ -5,14 +5,14 @@ ghost use Rattle.cfm_memory.specs.Faults as memory;
 ghost use Rattle.cfm_prepare.specs.Faults.{add_fault_number, close_fault_number, fault_number, remove_fault_number};
 ghost use Rattle.pef_c.specs.Contexts.Context.{AddAnswers, AddsIn, CloseAnswers, ClosesIn, NewAddAnswers, NewAddsIn, OpenAnswers, PlacedPrepareAnswers, PrepareAnswers, PreparesIn, RemoveAnswers, RemovesIn, ReserveAnswers, ReservesIn, UnreserveAnswers, UnreservesIn, held, names_shown};
 
-use crate::answers::{NAME_TAKEN, NOT_OPEN, NOT_THERE, OUT_OF_MEMORY, given};
 use crate::contexts::handle::{PefContext, put, take};
 use crate::contexts::refusal_names::{names_of, place_of};
-use crate::place::place_or_nowhere;
-use crate::structs::{PefNames, PefPlace};
 use cfm_closure::Store;
 use cfm_memory::MemoryFault;
 use cfm_prepare::{AddFault, CloseFault, Connection, Context, PrepareFault, RemoveFault};
+use pef_records::{
+    NAME_TAKEN, NOT_OPEN, NOT_THERE, OUT_OF_MEMORY, PefNames, PefPlace, given, place_or_nowhere,
+};
 use std::alloc::Global;
 
 /// Opens a context without fragments. No section may pass the address `limit`. A context that was open is freed.

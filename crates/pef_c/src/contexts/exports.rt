@@ -6,13 +6,12 @@ ghost use Rattle.pef_c.specs.Contexts.Context.{held};
 ghost use Rattle.pef_c.specs.Contexts.Exports.{export_row, export_row_of, export_shown, exports_of, import_of, import_passed, is_passed, named_row_of};
 ghost use Rattle.pef_c.specs.Contexts.Reading.{ReadAnswers};
 
-use crate::answers::{NOT_OPEN, NOT_THERE, given};
 use crate::contexts::connections::target_given;
 use crate::contexts::handle::{PefContext, put, take};
-use crate::structs::PefFragmentExport;
 use cfm_prepare::{Connection, Context, FragmentExport, ImportTarget};
 use pef_format::ExportValue;
 use pef_loader::import_named;
+use pef_records::{NOT_OPEN, NOT_THERE, PefFragmentExport, given};
 use std::alloc::Global;
 
 /// Counts the exports of a fragment of a connection's closure.

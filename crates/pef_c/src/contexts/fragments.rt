@@ -10,10 +10,9 @@ ghost use Rattle.cfm_prepare.specs.Sections.{section_present};
 ghost use Rattle.pef_c.specs.Contexts.Context.{held};
 ghost use Rattle.pef_c.specs.Contexts.Reading.{CopyAnswers, ReadAnswers, entries_given, fragment_section_of};
 
-use crate::answers::{NOT_OPEN, NOT_THERE, copy_answer, given};
 use crate::contexts::handle::{PefContext, put, take};
-use crate::structs::{PefEntries, PefFragmentSection};
 use cfm_prepare::{Connection, Context, Entries};
+use pef_records::{NOT_OPEN, NOT_THERE, PefEntries, PefFragmentSection, copy_answer, given};
 use std::alloc::Global;
 
 /// Copies the fragments of a connection's closure to the front of `buffer`, in closure order.

@@ -6,12 +6,11 @@ ghost use Rattle.cfm_prepare.specs.Locations.{location_seen};
 ghost use Rattle.pef_c.specs.Contexts.Context.{held};
 ghost use Rattle.pef_c.specs.Contexts.Exports.{AtAnswers, AtIn, export_row, export_shown, location_row, location_shown, no_export};
 
-use crate::answers::{NOT_OPEN, NOT_THERE};
 use crate::contexts::connections::target_given;
 use crate::contexts::exports::export_given;
 use crate::contexts::handle::{PefContext, put, take};
-use crate::structs::{PefFragmentExport, PefLocation};
 use cfm_prepare::{Context, FragmentExport, ImportTarget, Location};
+use pef_records::{NOT_OPEN, NOT_THERE, PefFragmentExport, PefLocation};
 use std::alloc::Global;
 
 /// Reads in which section of which fragment an address is, and the nearest export there at it or before it.

@@ -3,15 +3,13 @@ ghost use Rattle.std.specs.Prelude.{◌≡◌, length, map};
 ghost use Rattle.cfm_closure.specs.Views.{missing_seen};
 ghost use Rattle.pef_c.specs.Contexts.Context.{held, names_shown};
 ghost use Rattle.pef_c.specs.Contexts.Missing.{MissingAnswers, TellsIn, missing_at, missing_row, missing_shown};
-ghost use Rattle.pef_c.specs.Buffers.{filled, fitting};
+ghost use Rattle.pef_records.specs.Buffers.{filled, fitting};
 
-use crate::answers::{NOT_OPEN, given};
 use crate::contexts::context::prepare_number;
 use crate::contexts::handle::{PefContext, put, take};
 use crate::contexts::refusal_names::names_of;
-use crate::fill::{Table, fill_table};
-use crate::structs::{PefMissing, PefNames};
 use cfm_prepare::{Context, MissingLibrary};
+use pef_records::{NOT_OPEN, PefMissing, PefNames, Table, fill_table, given};
 use std::alloc::Global;
 
 /// Reads the libraries that the fragment with this name and those that it needs name and that no fragment serves, from

@@ -3,15 +3,13 @@
 ghost use Rattle.std.specs.Prelude.{◌≡◌, length};
 ghost use Rattle.pef_c.specs.Contexts.Context.{held, names_shown};
 ghost use Rattle.pef_c.specs.Contexts.NewSections.{NewSectionsAnswers, TellsSectionsIn, section_at, section_row};
-ghost use Rattle.pef_c.specs.Buffers.{filled, fitting};
+ghost use Rattle.pef_records.specs.Buffers.{filled, fitting};
 
-use crate::answers::{NOT_OPEN, given};
 use crate::contexts::context::prepare_number;
 use crate::contexts::handle::{PefContext, put, take};
 use crate::contexts::refusal_names::names_of;
-use crate::fill::{Table, fill_table};
-use crate::structs::{PefNames, PefNewSection};
 use cfm_prepare::{Context, NewSection};
+use pef_records::{NOT_OPEN, PefNames, PefNewSection, Table, fill_table, given};
 use std::alloc::Global;
 
 /// Reads the sections that `pef_prepare` would place for this name, in its order, from number `from` on, into the first
@@ -79,7 +77,7 @@ struct SectionRows<'b> {
 
 impl<'b> Table<PefNewSection> for SectionRows<'b> {
     ghost use Rattle.pef_c.specs.Contexts.NewSections.{section_at};
-    ghost use Rattle.pef_c.specs.declared.structs.PefNewSection.{PefNewSection};
+    ghost use Rattle.pef_records.specs.declared.structs.PefNewSection.{PefNewSection};
 
     ghost Held = { PefNewSection };
 

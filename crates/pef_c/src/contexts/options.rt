@@ -5,10 +5,10 @@ ghost use Rattle.pef_c.specs.Contexts.Context.{held};
 ghost use Rattle.pef_c.specs.Contexts.Options.{OpenAnswersWith, OpenWithAnswers, bound_of, or_usual, read_options, version};
 ghost use Rattle.pef_words.specs.Refusals.{result_map};
 
-use crate::answers::{BAD_OPTIONS, OUT_OF_MEMORY};
 use crate::contexts::handle::{PefContext, put, take};
 use cfm_closure::Store;
 use cfm_prepare::{Context, Granule, Options};
+use pef_records::{BAD_OPTIONS, OUT_OF_MEMORY};
 use std::alloc::Global;
 
 /// The version of the library, as `PEF_VERSION_NUMBER` of `include/pef.h` has it: a byte for each part.

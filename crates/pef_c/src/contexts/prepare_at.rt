@@ -4,13 +4,11 @@ ghost use Rattle.cfm_prepare.specs.Faults.{place_fault_number};
 ghost use Rattle.pef_c.specs.Contexts.Context.{held, names_shown};
 ghost use Rattle.pef_c.specs.Contexts.PrepareAt.{PrepareAtAnswers, PreparesAtIn, names_at, place_at};
 
-use crate::answers::{NOT_OPEN, given};
 use crate::contexts::context::prepare_number;
 use crate::contexts::handle::{PefContext, put, take};
 use crate::contexts::refusal_names::{names_of, place_of};
-use crate::place::place_or_nowhere;
-use crate::structs::{PefNames, PefPlace};
 use cfm_prepare::{Context, PlaceFault};
+use pef_records::{NOT_OPEN, PefNames, PefPlace, given, place_or_nowhere};
 use std::alloc::Global;
 
 /// Opens a connection to the fragment with this name as `pef_prepare_with_place` does, but places the sections that

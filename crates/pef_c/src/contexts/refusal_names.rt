@@ -1,14 +1,13 @@
 //! The names and the place that are reported with the error of a preparation.
 ghost use Rattle.std.specs.Prelude.{◌≡◌, option_map};
 ghost use Rattle.pef_c.specs.Contexts.Context.{fault_names, name_or_none, names_shown};
-ghost use Rattle.pef_c.specs.Places.{place_or_nowhere};
+ghost use Rattle.pef_records.specs.Places.{place_or_nowhere};
 ghost use Rattle.pef_faults.specs.Places.{fault_place};
 ghost use Rattle.pef_faults.specs.declared.fault.Fault.TheVariants.{Prepare};
 
-use crate::place::place_or_nowhere;
-use crate::structs::{PefNames, PefPlace};
 use cfm_prepare::PrepareFault;
 use pef_faults::Fault;
+use pef_records::{PefNames, PefPlace, place_or_nowhere};
 
 /// Returns the names of a fragment that isn't prepared, of its library and of a symbol.
 pub(crate) fn names_of(fault: PrepareFault<'static>) -> PefNames

@@ -4,11 +4,11 @@ ghost use Rattle.pef_listing.specs.Listing.{listing_text};
 ghost use Rattle.pef_listing.specs.Views.{parts};
 ghost use Rattle.pef_c.specs.Reports.List.{ListAnswers, NextAnswers, OpenListAnswers, unread};
 
-use crate::answers::{NOT_OPEN, OUT_OF_MEMORY, ROOM_TOO_SMALL, copy_out, given, list_number};
 use crate::reports::text_handle::{PefText, put, take};
 use crate::reports::unread::Unread;
 use pef_listing::{Listing, ListingReader};
 use pef_ports::{Page, StreamFault, Text, flush};
+use pef_records::{NOT_OPEN, OUT_OF_MEMORY, ROOM_TOO_SMALL, copy_out, given, list_number};
 use std::alloc::Global;
 
 /// Lists a container, and copies the lines to the front of `buffer`.

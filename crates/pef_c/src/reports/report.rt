@@ -5,13 +5,13 @@ ghost use Rattle.pef_c.specs.Reports.List.{NextAnswers, unread};
 ghost use Rattle.pef_report.specs.Views.{inspected};
 ghost use Rattle.pef_c.specs.Reports.Report.{KeepAnswers, OpenContainerAnswers, OpenReportAnswers};
 
-use crate::answers::{OUT_OF_MEMORY, given};
 use crate::reports::list::read_next;
 use crate::reports::text_handle::{PefText, put, take};
 use crate::reports::unread::{MadeBytes, Unread};
 use mac_report::FileReport;
 use mac_rows::OutputFormat;
 use pef_ports::{Page, StreamFault, Text, flush};
+use pef_records::{OUT_OF_MEMORY, given};
 use pef_report::Inspection;
 use std::alloc::Global;
 

@@ -1,6 +1,6 @@
 ghost use Rattle.pef_c.specs.Scripts.Link.{LinkAnswers};
 
-use crate::answers::{OUT_OF_MEMORY, ROOM_TOO_SMALL, copy_out, given, line_number};
+use pef_records::{OUT_OF_MEMORY, ROOM_TOO_SMALL, copy_out, given, line_number};
 use pef_script::{Script, ScriptFault};
 use pef_write::link_container;
 use std::alloc::Global;

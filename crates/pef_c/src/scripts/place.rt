@@ -2,10 +2,8 @@
 ghost use Rattle.std.specs.Prelude.{◌≡◌};
 ghost use Rattle.pef_c.specs.Scripts.Place.{ScriptPlaces, word_place};
 
-use crate::answers::{OUT_OF_MEMORY, given, line_number};
-use crate::place::place_or_nowhere;
-use crate::structs::PefPlace;
 use pef_format::Part;
+use pef_records::{OUT_OF_MEMORY, PefPlace, given, line_number, place_or_nowhere};
 use pef_script::{Script, ScriptFault, Word};
 use std::alloc::Global;
 

@@ -1,7 +1,7 @@
 -- The loader section that was read is the one whose header is given.
 use Rattle.std.proofs.Common.{◌∙◌, ap}
 use Rattle.pef_loader.specs.PartialViews.{partly_loaded}
-use Rattle.pef_c.specs.Containers.Loaders.{loader_given}
+use Rattle.pef_records.specs.Containers.Loaders.{loader_given}
 use Rattle.pef_c.proofs.containers.partial.pef_partial_loader.Goals as goal
 
 pub returns : goal.returns

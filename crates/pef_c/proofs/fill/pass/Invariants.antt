@@ -1,6 +1,0 @@
--- This many are passed.
-use Rattle.std.proofs.Common.{◌≡◌, drop}
-use Rattle.pef_c.proofs.fill.pass.Given as goal
-
-abbrev pub invariant-passed : goal.invariant-passed
-invariant-passed g l = g.I.Rows.left l.rows ≡ drop l.counter (g.I.Rows.left l.fn.rows)

@@ -1,0 +1,4 @@
+pub mod Buffers
+pub mod Places
+pub mod Containers
+pub mod Files
