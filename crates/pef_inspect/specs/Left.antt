@@ -12,8 +12,7 @@ use Rattle.pef_inspect.specs.Oddities.{runs_reached}
 use Rattle.pef_inspect.specs.Twice.{words_cost, words_reached}
 use Rattle.pef_inspect.specs.declared.limits.Limits.{Limits}
 
--- each limit less what the parts that were within it cost. To find that a program has more words than are left, as many are
--- counted, so that none is left then
+-- each limit less what the parts that were within it cost. If a program has more words than are left, none is left
 abbrev pub left_words : Limits → Contained → Loaded → ℕ
 left_words limits c l =
     if nat_lt (words_reached limits c l) (runs_reached limits c l) then 0
