@@ -382,6 +382,18 @@ error 32 CutInstruction reloc 0 halfword 4 at 00000194""")
     case("repeat-of-a-repeat", "18E 9000 9000", "error 35 NestedRepeat reloc 0 halfword 2 at 00000190")
     # 4 + 4 x 4,194,303 + 1 steps.
     case("one-step-too-many", "18C 8000 8000 8000 8000 B0FF FFFF", "error 36 TooManySteps reloc 0 halfword 4 at 00000194")
+    # Each pass adds to the next word. After the first one, seven passes end at word 28, the last one, and eight don't.
+    case("passes-to-the-end", "18C 4000 9006 8003 8003 8003 8003 8003", "")
+    case("pass-past-the-end", "18C 4000 9007 8003 8003 8003 8003 8003", "error 37 WordOutside reloc 0 halfword 0 at 0000018C word 00000020")
+    # Each pass adds the next import. There are three.
+    case("passes-of-imports", "18C 4A00 9001 8003 8003 8003 8003 8003", "")
+    case("pass-of-a-fourth-import", "18C 4A00 9002 8003 8003 8003 8003 8003", """
+error 38 ImportOutside reloc 0 halfword 0 at 0000018C word 0000000C""")
+    # Each pass sets the position, and adds to word 4. Or it moves on by a byte from 1D to 1E, and the word there passes the end.
+    case("passes-at-one-word", "18C A000 0004 4000 9204 8003 8003 8003", """
+note 114 WordRelocatedTwice reloc 0 halfword 0 at 0000018C word 00000004""")
+    case("passes-past-the-end", "18C A000 001D 8000 9204 4000 8003 8003", """
+error 37 WordOutside reloc 0 halfword 4 at 00000194 word 0000001E""")
     # The memory of section 2 ends at 32. Word 28 is the last one.
     case("word-past-the-end", "196 001D", "error 37 WordOutside reloc 0 halfword 6 at 00000198 word 0000001D")
     # Seven words of section 1, whose image has 16 bytes and whose memory has 24.
