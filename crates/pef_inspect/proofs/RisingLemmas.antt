@@ -11,20 +11,9 @@ use Rattle.pef_inspect.specs.Twice.{is_among, words_in}
 use Rattle.pef_inspect.proofs.Seeing.{among_last, among_middle}
 use Rattle.pef_inspect.proofs.Within.{nil-right}
 
--- nothing is before the first place
-pub before_none : (place : ℕ × ℕ) → AreBefore [] place
-before_none place word is = absurd (cc is)
-
--- a program without words
-pub follow_none : (before : List (ℕ × ℕ)) (place : ℕ × ℕ) → AreBefore before place → Follow before [] place
+-- no words
+follow_none : (before : List (ℕ × ℕ)) (place : ℕ × ℕ) → AreBefore before place → Follow before [] place
 follow_none before place are = record { once = refl; all = subst (λ words. AreBefore words place) (nil-right before) are }
-
--- the words before a place are before the same place in its section, and before any in a later one
-pub before_later : (before : List (ℕ × ℕ)) (place : ℕ × ℕ) (section first : ℕ) → AreBefore before place → place.0 < section → AreBefore before (section, first)
-before_later before place section first are later word is = elim (are word is) [
-  | inl low ↦ inl (omega (arith, low, later))
-  | inr same ↦ (let at = same.0 in inl (omega (arith, at, later)))
-]
 
 -- a word at or after a place is none of those before it
 apart : (before : List (ℕ × ℕ)) (section from offset : ℕ) → AreBefore before (section, from) → from ≤ offset → is_among before (section, offset) ≡ false
