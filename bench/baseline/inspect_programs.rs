@@ -30,7 +30,7 @@ pub fn print_relocations(
         take(&mut limits.program_bytes, bytes.len() as u64)?;
         let program = Program::read(loader, section, bytes)?;
         take(&mut limits.steps, program.steps)?;
-        let run = program.run(|_, _| ())?;
+        let run = program.run(false, |_, _| ())?;
         let at = loader.relocations_at() + 12 * number;
         lines.begin(at, b" reloc");
         lines.numbers(&[(b" section ", section), (b" halfwords ", count)]);
@@ -68,7 +68,7 @@ fn add_twice(programs: &[(Program, bool)]) -> Option<bool> {
     }
     let mut words = Vec::new();
     for (program, _) in programs {
-        program.run(|from, moves| {
+        program.run(true, |from, moves| {
             words.extend(moves.words(from).map(|word| (program.section, word)));
         })?;
     }
@@ -131,8 +131,9 @@ impl Program {
         Some(count)
     }
 
-    /// Does the program without a section's memory, unless a word or an import isn't there.
-    fn run(&self, mut keep: impl FnMut(u64, &Moves)) -> Option<Run> {
+    /// Does the program without a section's memory, unless a word or an import isn't there. Unless every pass of a repeat is to be
+    /// done, those between the first and the last one are left out.
+    fn run(&self, every_pass: bool, mut keep: impl FnMut(u64, &Moves)) -> Option<Run> {
         let mut run = Run::default();
         [run.memory, run.image, run.imports] = self.limits;
         for (place, instruction) in self.instructions.iter().enumerate() {
@@ -141,9 +142,13 @@ impl Program {
                 let reach = self.reach(place, instruction.first)?;
                 (block, passes) = (&self.moves[place - reach..place], instruction.second);
             }
-            for _ in 0..passes {
-                for moves in block {
-                    run.pass(moves, &mut keep)?;
+            for pass in 0..passes {
+                run.pass_block(block, &mut keep)?;
+                if pass == 0 && passes > 2 && !every_pass {
+                    if let Some(after) = run.after(block, u64::from(passes) - 1) {
+                        run = after;
+                        break;
+                    }
                 }
             }
             let words = block.iter().map(|moves| moves.count * moves.width / 4);
@@ -236,7 +241,7 @@ impl Moves {
 type Outside = (usize, u64);
 
 /// What a program does: how many words it adds to, whether it goes back, and the first word outside the image.
-#[derive(Default)]
+#[derive(Clone, Copy, Default)]
 struct Run {
     position: u64,
     import: u64,
@@ -249,6 +254,25 @@ struct Run {
 }
 
 impl Run {
+    #[inline]
+    fn pass_block(&mut self, block: &[Moves], keep: &mut impl FnMut(u64, &Moves)) -> Option<()> {
+        block.iter().try_for_each(|moves| self.pass(moves, keep))
+    }
+
+    /// After this many passes more of a block that was passed once. All of them move the registers by as much as the first of them,
+    /// so that only the last one is tested, unless it is the first with a word outside the image.
+    fn after(&self, block: &[Moves], passes: u64) -> Option<Run> {
+        let mut next = *self;
+        next.pass_block(block, &mut |_, _| ())?;
+        let position = next.position.checked_sub(self.position)?;
+        let import = next.import.checked_sub(self.import)?;
+        let mut last = next;
+        last.position += position * (passes - 2);
+        last.import += import * (passes - 2);
+        last.pass_block(block, &mut |_, _| ())?;
+        (last.outside == self.outside).then_some(last)
+    }
+
     /// If the last word of an instruction is inside, all are.
     #[inline]
     fn pass(&mut self, moves: &Moves, keep: &mut impl FnMut(u64, &Moves)) -> Option<()> {
