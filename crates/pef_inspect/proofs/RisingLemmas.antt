@@ -2,7 +2,7 @@
 use Rattle.std.proofs.Common.{◌≡◌, ◌∙◌, ℕ, ◌+◌, ◌<◌, ◌≤◌, List, [], ◌∷◌, Bool, true, false, ◌==◌, ◌&&◌, ◌||◌, cond, Option, None, Some, refl, subst, sym, ◌⊎◌, inl, inr, arith}
 use Rattle.std.specs.Prelude.{nat_lt}
 use Rattle.std.specs.Option.{option_to_list}
-use Rattle.std.proofs.lemmas.Bool.{ltb-false}
+use Rattle.std.proofs.lemmas.Bool.{and_parts, ltb-false}
 use Rattle.std.proofs.lemmas.Bool.Decides.{eqb_tells}
 use Rattle.pef_reloc.specs.declared.fixup.Fixup.{Fixup}
 use Rattle.pef_words.specs.Findings.{all_among}
@@ -26,18 +26,13 @@ apart before section from offset are high = by (is_among before (section, offset
       | inr same ↦ (let low = same.1 in absurd (omega (arith, low, high)))
     ]
 
-both : (a b : Bool) → (a && b) ≡ true → (a ≡ true) × (b ≡ true)
-both true true is = (refl, refl)
-both true false is = absurd (cc is)
-both false b is = absurd (cc is)
-
 -- .. and with it those before are before the next offset
 before_next : (before : List (ℕ × ℕ)) (section from offset : ℕ) → AreBefore before (section, from) → from ≤ offset → AreBefore ((section, offset) ∷ before) (section, offset + 1)
 before_next before section from offset are high q is = by (q.0 == section && q.1 == offset) refl is
   where
     by : (b : Bool) → (q.0 == section && q.1 == offset) ≡ b → (b || is_among before q) ≡ true → (q.0 < section) ⊎ ((q.0 ≡ section) × (q.1 < offset + 1))
     by true same is =
-        let equal = both (q.0 == section) (q.1 == offset) same in
+        let equal = and_parts (q.0 == section) (q.1 == offset) same in
         elim (eqb_tells q.0 section) [
           | inl first ↦ elim (eqb_tells q.1 offset) [
             | inl second ↦ (let at = second.1 in inr (first.1, omega (arith, at)))

@@ -1,6 +1,6 @@
 -- The passes of a block. Each register is moved on by the same number in each pass, or set to the same value. So after the first pass all
 -- passes move it alike, and the last one is the furthest on: if that isn't refused, none is.
-use Rattle.std.proofs.Common.{◌≡◌, ℕ, zero, suc, ◌+◌, ◌*◌, ◌≤◌, Bool, true, false, cond, not, List, [], ◌∷◌, map, nat_lt, nat_le, Option, None, Some, refl, ap, sym, subst, ◌∙◌, ◌⊎◌, inl, inr, arith, mul-le-mul_left, mul-le-mul_right, IfSome, ◌^◌}
+use Rattle.std.proofs.Common.{◌≡◌, ℕ, zero, suc, ◌+◌, ◌*◌, ◌≤◌, Bool, true, false, cond, not, List, [], ◌∷◌, map, nat_lt, nat_le, None, Some, refl, ap, sym, subst, ◌∙◌, ◌⊎◌, inl, inr, arith, mul-le-mul_left, mul-le-mul_right, ◌^◌}
 use Rattle.std.proofs.lemmas.Bool.{leb-true, le-leb, lt-ltb, ltb-true}
 use Rattle.std.specs.Option.{option_map, option_or}
 use Rattle.pef_reloc.specs.Applied.{fault_at}
@@ -15,7 +15,8 @@ use Rattle.pef_reloc.specs.Unrolled.{Step, instrs_in, repeated}
 use Rattle.pef_reloc.specs.Verified.{act_stop, first_stop, run_stop}
 use Rattle.pef_reloc.specs.Kept.Walks.{MovesOn, WalksTo}
 use Rattle.pef_reloc.specs.declared.verifying.Walk.{Walk}
-use Rattle.pef_reloc.proofs.WalkLemmas.{walks-then}
+use Rattle.pef_reloc.proofs.WalkLemmas.{not_stopped, walks-then}
+use Rattle.pef_words.proofs.Laws.Refusals.{neither}
 
 -- a register is moved on by a number, or set to it
 record Shifts (get : State → ℕ) (f : State → State) : Type 0 where
@@ -157,14 +158,6 @@ below-next f s t e low = record {
   imports = shift-below (λ s. s.import_index) f s t e.imports low.imports;
 }
 
-or-none : {F : Type 0} (x y : Option F) → option_or x y ≡ None → (x ≡ None) × (y ≡ None)
-or-none None y none = (refl, none)
-or-none (Some f) y none = absurd (cc none)
-
-map-none : {F G : Type 0} (g : F → G) (x : Option F) → option_map g x ≡ None → x ≡ None
-map-none g None none = refl
-map-none g (Some f) none = absurd (cc none)
-
 -- a word that ends in the memory, and one before it
 inside : (b : Bool) (stop : Stop) → cond b None (Some stop) ≡ None → b ≡ true
 inside true stop none = refl
@@ -192,7 +185,7 @@ row-below : (z : Sizes) (n p q w j k : ℕ) → p ≤ q → first_stop z (map ad
 unfolding row first_stop
 row-below z zero p q w j k low none = refl
 row-below z (suc n) p q w j k low none =
-    let both = or-none (act_stop z (add (added q (Section k)))) (first_stop z (map add (row n (q + w) w (Section k)))) none in
+    let both = neither (act_stop z (add (added q (Section k)))) (first_stop z (map add (row n (q + w) w (Section k)))) none in
     let rest = row-below z n (p + w) (q + w) w j k (omega (arith, low)) both.1 in
     rw (word-below z p q j k low both.0, rest) refl
 
@@ -200,8 +193,8 @@ pairs-below : (z : Sizes) (n p q w j k l m : ℕ) → p ≤ q → first_stop z (
 unfolding pairs first_stop
 pairs-below z zero p q w j k l m low none = refl
 pairs-below z (suc n) p q w j k l m low none =
-    let first = or-none (act_stop z (add (added q (Section k)))) _ none in
-    let second = or-none (act_stop z (add (added (q + 4) (Section m)))) (first_stop z (map add (pairs n (q + w) w (Section k) (Section m)))) first.1 in
+    let first = neither (act_stop z (add (added q (Section k)))) _ none in
+    let second = neither (act_stop z (add (added (q + 4) (Section m)))) (first_stop z (map add (pairs n (q + w) w (Section k) (Section m)))) first.1 in
     let rest = pairs-below z n (p + w) (q + w) w j k l m (omega (arith, low)) second.1 in
     rw (word-below z p q j k low first.0, word-below z (p + 4) (q + 4) l m (omega (arith, low)) second.0, rest) refl
 
@@ -209,21 +202,21 @@ numbered-below : (z : Sizes) (n p q i j : ℕ) → p ≤ q → i ≤ j → first
 unfolding numbered first_stop
 numbered-below z zero p q i j low few none = refl
 numbered-below z (suc n) p q i j low few none =
-    let both = or-none (act_stop z (add (added q (Import j)))) (first_stop z (map add (numbered n (q + 4) (j + 1)))) none in
+    let both = neither (act_stop z (add (added q (Import j)))) (first_stop z (map add (numbered n (q + 4) (j + 1)))) none in
     let rest = numbered-below z n (p + 4) (q + 4) (i + 1) (j + 1) (omega (arith, low)) (omega (arith, few)) both.1 in
     rw (import-below z p q i j low few both.0, rest) refl
 
 -- one act
 one-below : (z : Sizes) (x y : Act) → (act_stop z y ≡ None → act_stop z x ≡ None) → first_stop z (y ∷ []) ≡ None → first_stop z (x ∷ []) ≡ None
 unfolding first_stop
-one-below z x y low none = let both = or-none (act_stop z y) None none in rw (low both.0) refl
+one-below z x y low none = let both = neither (act_stop z y) None none in rw (low both.0) refl
 
 -- .. and two
 two-below : (z : Sizes) (x y x' y' : Act) → (act_stop z y ≡ None → act_stop z x ≡ None) → (act_stop z y' ≡ None → act_stop z x' ≡ None) → first_stop z (y ∷ y' ∷ []) ≡ None → first_stop z (x ∷ x' ∷ []) ≡ None
 unfolding first_stop
 two-below z x y x' y' low low' none =
-    let first = or-none (act_stop z y) (option_or (act_stop z y') None) none in
-    let second = or-none (act_stop z y') None first.1 in
+    let first = neither (act_stop z y) (option_or (act_stop z y') None) none in
+    let second = neither (act_stop z y') None first.1 in
     rw (low first.0, low' second.0) refl
 
 none-below : (z : Sizes) → first_stop z [] ≡ None
@@ -257,8 +250,8 @@ block-below : (z : Sizes) (block : List Step) (s t : State) → Below s t → ru
 unfolding run_stop
 block-below z [] s t low none = refl
 block-below z (x ∷ xs) s t low none =
-    let both = or-none (option_map (fault_at x.0) (first_stop z (acts_of x.1 t))) (run_stop z xs (next_state x.1 t)) none in
-    let here = instr-below z x.1 s t low (map-none (fault_at x.0) (first_stop z (acts_of x.1 t)) both.0) in
+    let both = neither (option_map (fault_at x.0) (first_stop z (acts_of x.1 t))) (run_stop z xs (next_state x.1 t)) none in
+    let here = instr-below z x.1 s t low (not_stopped x.0 (first_stop z (acts_of x.1 t)) both.0) in
     rw (here, block-below z xs (next_state x.1 s) (next_state x.1 t) (below-next (next_state x.1) s t (instr-effects x.1) low) both.1) refl
 
 state-same : (s t : State) → s.position ≡ t.position → s.import_index ≡ t.import_index → s.c ≡ t.c → s.d ≡ t.d → s ≡ t
@@ -341,10 +334,6 @@ passes-leap z block s far end p i more it position imports c d last =
     let walk = passes-walk z block s p i more (more + 1) 0 it fine (omega arith) in
     subst (λ x. WalksTo z s x (repeated (more + 1) block) None) (sym done)
     (subst (λ x. WalksTo z x (at-pass s p i (more + 1)) (repeated (more + 1) block) None) (first-pass s p i) walk)
-
-pub some-more : {A : Type 0} (P Q : A → Type 0) (o : Option A) → ((x : A) → P x → Q x) → IfSome o P → IfSome o Q
-some-more P Q None more is = tt
-some-more P Q (Some x) more is = more x is
 
 -- a move by one pass, after passes that each move no further
 pub moves-far : (w last after : Walk) (by index more passes : ℕ) → more + 1 ≡ passes → by ≤ 2 ^ 17 → index ≤ 2 ^ 17 → last.position ≡ w.position + by * more → last.import_index ≡ w.import_index + index * more

@@ -37,7 +37,7 @@ run_stop-append z (x ∷ xs) ys s =
     ap (option_or here) (run_stop-append z xs ys (next_state x.1 s))
     ∙ or_thrice here (run_stop z xs (next_state x.1 s)) (run_stop z ys (state_after (instrs_in xs) (next_state x.1 s)))
 
-not_stopped : (at : ℕ) (answer : Option Stop) → option_map (fault_at at) answer ≡ None → answer ≡ None
+pub not_stopped : (at : ℕ) (answer : Option Stop) → option_map (fault_at at) answer ≡ None → answer ≡ None
 not_stopped at None none = refl
 not_stopped at (Some stop) none = absurd (cc none)
 
