@@ -57,11 +57,15 @@ fn print_piece<W: Sink>(out: &mut W, page: &mut Page, piece: Piece<'_>) -> Resul
     }
 }
 
-/// Prints a number in decimal.
+/// Prints a number in decimal. One digit needs no buffer.
 #[inline(always)]
+#[tactic(auto, using(std::proofs::lemmas::Fmt::decimal_digit))]
 pub(crate) fn print_number<W: Sink>(out: &mut W, page: &mut Page, n: u64) -> Result<(), StreamFault>
     ensures { Sends result (W.stream out.old) (W.stream out.new) page.old.items page.new.items (decimal n) }
 {
+    if n < 10 {
+        return send(out, page, &[b'0' + n as u8]);
+    }
     let mut buffer = Buffer::new();
     send(out, page, buffer.format(n).as_bytes())
 }

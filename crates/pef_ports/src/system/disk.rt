@@ -36,14 +36,18 @@ pub trait Disk {
 /// No clause can say what a real file gives, so a call of the system may do anything.
 impl<R: rt::Files + AllocGlobal> Disk for R {
     fn read_file(&self, path: &str) -> io::Result<Vec<u8>> {
-        if fs::metadata(self, path)?.is_file() {
-            return fs::read(self, path);
+        let metadata = fs::metadata(self, path)?;
+        let mut file = File::open(self, path)?;
+        if metadata.is_file() {
+            // One byte more: the read that finds the end needs room, too.
+            let room = (metadata.len() as usize).saturating_add(1);
+            let mut bytes = Vec::with_capacity(self.alloc(), room)?;
+            file.read_to_end(&mut bytes)?;
+            return Ok(bytes);
         }
         // A device or a pipe need not have an end.
         let mut bytes = Vec::new(self.alloc());
-        File::open(self, path)?
-            .take(MOST_BYTES + 1)
-            .read_to_end(&mut bytes)?;
+        file.take(MOST_BYTES + 1).read_to_end(&mut bytes)?;
         if bytes.len() as u64 > MOST_BYTES {
             return Err(Error::from(ErrorKind::FileTooLarge));
         }
