@@ -1,11 +1,11 @@
-ghost use Rattle.std.specs.Prelude.{◌≡◌, ◌+◌, ◌<◌, length, min, option_map};
+ghost use Rattle.std.specs.Prelude.{◌≡◌, ◌+◌, ◌^◌, ◌≤◌, length, min, option_map};
 ghost use Rattle.std.specs.Option.{option_copied};
 ghost use Rattle.pef_words.specs.Bytes.{name_at};
 ghost use Rattle.pef_loader.specs.CutNames.{cut_name};
 ghost use Rattle.pef_loader.specs.Kept.Marks.{AreMarks};
 ghost use Rattle.pef_loader.specs.Kept.Names.{NamesEndAt, front_name};
 
-use crate::marks::{MARKS, NO_MARK, known_end, mark_places, zero_between};
+use crate::marks::{MARKS, NO_MARK, known_end, mark_places, step_of, step_power, zero_between};
 use crate::names::names_end;
 use pef_words::Cut;
 
@@ -23,11 +23,12 @@ pub struct CutName<'a> {
 pub struct Names<'a> {
     pub(crate) cut: Cut<'a>,
     pub(crate) end: usize,
-    step: usize,
+    /// Places are a power of two apart: this one.
+    power: u32,
     marks: [u32; MARKS],
     ghost ended: { NamesEndAt cut.bytes.now end },
-    ghost stepped: { 0 < step },
-    ghost marked: { AreMarks cut.bytes.now step marks },
+    ghost small: { power ≤ 58 },
+    ghost marked: { AreMarks cut.bytes.now (2 ^ power) marks },
 }
 
 impl<'a> Names<'a> {
@@ -41,7 +42,7 @@ impl<'a> Names<'a> {
         Names {
             cut,
             end: names_end(cut),
-            step: cut.len() / MARKS + 1,
+            power: step_power(cut.len(), MARKS),
             marks: [NO_MARK; MARKS],
         }
     }
@@ -51,12 +52,12 @@ impl<'a> Names<'a> {
         requires { NamesEndAt cut.bytes.now end }
         ensures { names_bytes result ≡ cut.entry.bytes.now }
     {
-        let step = cut.len() / MARKS + 1;
+        let power = step_power(cut.len(), MARKS);
         Names {
             cut,
             end,
-            step,
-            marks: mark_places(cut, step),
+            power,
+            marks: mark_places(cut, step_of(power)),
         }
     }
 
@@ -74,7 +75,7 @@ impl<'a> Names<'a> {
         if from >= self.end {
             return None;
         }
-        let end = match known_end(self.cut, self.step, &self.marks, from) {
+        let end = match known_end(self.cut, self.power, &self.marks, from) {
             Some(end) => end,
             None => zero_between(self.cut, from, self.cut.len())?,
         };

@@ -13,6 +13,30 @@ pub(crate) const MARKS: usize = 64;
 /// The mark of a place from which on the first zero byte isn't known.
 pub(crate) const NO_MARK: u32 = u32::MAX;
 
+/// The greatest power of two that places may be apart. So none of `MARKS` places wraps.
+const MAX_POWER: u32 = 58;
+
+/// Returns the power of two that places are apart if `marks` of them reach to the end of `len` bytes. A search divides by the
+/// step, and that takes much longer for other numbers.
+pub(crate) fn step_power(len: usize, marks: usize) -> u32
+    requires { 0 < marks }
+    ensures { result ≤ 58 }
+{
+    let least = len / marks;
+    (usize::BITS - least.leading_zeros()).min(MAX_POWER)
+}
+
+/// Returns how far places are apart.
+#[inline(always)]
+pub(crate) fn step_of(power: u32) -> usize
+    requires { power ≤ 58 }
+    ensures step { result ≡ 2 ^ power }
+    ensures some { 0 < result }
+    ensures few { result ≤ 2 ^ 58 }
+{
+    1 << power
+}
+
 /// Returns the first zero byte from `from` on and before `to`.
 pub(crate) fn zero_between(cut: Cut<'_>, from: usize, to: usize) -> Option<usize>
     requires order { from ≤ to }
@@ -63,12 +87,13 @@ pub(crate) fn mark_of(end: Option<usize>) -> u32
 }
 
 /// Returns the first zero byte from `from` on, if it is before the next place or that place is marked.
-pub(crate) fn known_end(cut: Cut<'_>, step: usize, marks: &[u32], from: usize) -> Option<usize>
-    requires step { 0 < step }
-    requires marks { AreMarks cut.bytes.now step marks.now }
+pub(crate) fn known_end(cut: Cut<'_>, power: u32, marks: &[u32], from: usize) -> Option<usize>
+    requires power { power ≤ 58 }
+    requires marks { AreMarks cut.bytes.now (2 ^ power) marks.now }
     requires inside { from < length cut.bytes.now }
-    ensures { TellsEnd cut.entry.bytes.now step from result }
+    ensures { TellsEnd cut.entry.bytes.now (2 ^ power) from result }
 {
+    let step = step_of(power);
     let near = (step - from % step).min(cut.len() - from);
     match zero_between(cut, from, from + near) {
         Some(end) => Some(end),

@@ -1,10 +1,10 @@
-ghost use Rattle.std.specs.Prelude.{◌≡◌, ◌+◌, ◌*◌, ◌/◌, ◌<◌, length};
+ghost use Rattle.std.specs.Prelude.{◌≡◌, ◌+◌, ◌*◌, ◌/◌, ◌^◌, ◌<◌, ◌≤◌, length};
 ghost use Rattle.std.specs.Option.{option_copied};
 ghost use Rattle.pef_words.specs.Bytes.{name_at};
 ghost use Rattle.pef_loader.specs.Kept.Marks.{AreMarks, AreNonzero, FindsZero};
 
 use crate::cut_name::Names;
-use crate::marks::{NO_MARK, known_end, mark_of, zero_between};
+use crate::marks::{NO_MARK, known_end, mark_of, step_of, step_power, zero_between};
 
 /// How many places a reader marks. They are on the stack, and no call may take more than 64 KB of that.
 const FAR_MARKS: usize = 256;
@@ -13,10 +13,11 @@ const FAR_MARKS: usize = 256;
 #[derive(Drop)]
 pub(crate) struct NameReader<'a> {
     pub names: Names<'a>,
-    step: usize,
+    /// Places are a power of two apart: this one.
+    power: u32,
     marks: [u32; FAR_MARKS],
-    ghost stepped: { 0 < step },
-    ghost marked: { AreMarks names.cut.bytes.now step marks },
+    ghost small: { power ≤ 58 },
+    ghost marked: { AreMarks names.cut.bytes.now (2 ^ power) marks },
 }
 
 impl<'a> NameReader<'a> {
@@ -27,7 +28,7 @@ impl<'a> NameReader<'a> {
     {
         NameReader {
             names,
-            step: names.len() / FAR_MARKS + 1,
+            power: step_power(names.len(), FAR_MARKS),
             marks: [NO_MARK; FAR_MARKS],
         }
     }
@@ -41,7 +42,7 @@ impl<'a> NameReader<'a> {
         if from >= names.end {
             return None;
         }
-        let end = match known_end(names.cut, self.step, &self.marks, from) {
+        let end = match known_end(names.cut, self.power, &self.marks, from) {
             Some(end) => end,
             None => self.search(from)?,
         };
@@ -51,13 +52,13 @@ impl<'a> NameReader<'a> {
     /// Returns the first zero byte from `from` on, and marks the next place with it. There is none before that place.
     fn search(&mut self, from: usize) -> Option<usize>
         requires inside { from < length self.old.names.cut.bytes.now }
-        requires far { AreNonzero self.old.names.cut.bytes.now from ((from / self.old.step + 1) * self.old.step) }
+        requires far { AreNonzero self.old.names.cut.bytes.now from ((from / 2 ^ self.old.power + 1) * 2 ^ self.old.power) }
         ensures end { FindsZero self.old.names.cut.bytes.now from (length self.old.names.cut.bytes.now) result }
         ensures same { self.new.names ≡ self.old.names }
     {
         let cut = self.names.cut;
         let end = zero_between(cut, from, cut.len());
-        let k = from / self.step + 1;
+        let k = from / step_of(self.power) + 1;
         if k < FAR_MARKS {
             self.marks[k] = mark_of(end);
         }

@@ -1,5 +1,5 @@
 -- The places from this one on are marked, and the first zero byte from it on may be known.
-use Rattle.std.proofs.Common.{◌≡◌, ◌*◌, IfSome}
+use Rattle.std.proofs.Common.{◌*◌, IfSome}
 use Rattle.pef_loader.specs.Kept.Marks.{AreMarks, IsFirstZero}
 use Rattle.pef_loader.proofs.marks.mark_places.Given as goal
 
