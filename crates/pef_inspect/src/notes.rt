@@ -4,7 +4,7 @@ ghost use Rattle.pef_words.specs.Findings.{all_met};
 ghost use Rattle.pef_views.specs.Partial.{sections_allowed};
 ghost use Rattle.pef_views.specs.PartialViews.{partly};
 ghost use Rattle.pef_loader.specs.PartialViews.{export_seen, partly_loaded};
-ghost use Rattle.pef_inspect.specs.Oddities.{Adds, HasIrregularExports, IrregularContainer, behind_notes, entry_notes, export_notes, header_notes, image_size, instantiable_at, instantiable_sections, irregular_note, is_past, is_past_entry, is_name_outside, is_past_value, is_unknown_kind, is_unknown_share, loader_notes, name_begins, note_at, notes_in, notes_of, notes_within, section_notes, word_inside, word_note, word_outside};
+ghost use Rattle.pef_inspect.specs.Oddities.{Adds, HasIrregularExports, IrregularContainer, behind_notes, entry_notes, export_notes, header_notes, image_size, instantiable_at, instantiable_sections, irregular_note, library_notes, is_past, is_past_entry, is_name_outside, is_past_value, is_unknown_kind, is_unknown_share, loader_notes, name_begins, note_at, notes_in, notes_of, notes_within, section_notes, word_inside, word_note, word_outside};
 ghost use Rattle.pef_inspect.specs.Runs.{run_seen};
 ghost use Rattle.pef_loader.specs.Partial.{partial_of};
 
@@ -19,7 +19,7 @@ use pef_format::layout::{
     OLD_DEF_VERSION_AT, OLD_IMP_VERSION_AT, RELOCATION_RESERVED_AT, SECTION_KIND_AT,
     SECTION_RESERVED_AT, SHARE_KIND_AT,
 };
-use pef_format::{ExportValue, Part, SectionKind, Share};
+use pef_format::{ExportValue, LibraryFields, Part, SectionKind, Share};
 use pef_loader::{PartialExport, PartialLoader, partial_place};
 use pef_reloc::{RelocFault, Sizes, verify};
 use pef_views::{PartialContainer, SectionHeader};
@@ -362,36 +362,50 @@ impl<'c, 'a> Rows for Libraries<'c, 'a> {
     ghost found = { λ rows i. library_row (partly rows.container.now) (partly_loaded rows.loader.now) i };
 
     fn take_row<S: Findings>(&mut self, i: u32, sink: &mut S) -> Result<(), S::Error> {
-        let container = self.container;
         match self.loader.library_fields(i as usize) {
             Some((library, reserved)) => {
-                let tests = [
-                    (
-                        library.old_imp > library.current,
-                        note_at(
-                            container,
-                            Note::VersionBelowOldest,
-                            Part::Library,
-                            i,
-                            LIBRARY_OLD_IMP_VERSION_AT,
-                        ),
-                    ),
-                    (
-                        reserved != 0,
-                        note_at(
-                            container,
-                            Note::ReservedNotZero,
-                            Part::Library,
-                            i,
-                            LIBRARY_RESERVED_AT,
-                        ),
-                    ),
-                ];
-                take_met(&tests, sink)
+                // Most libraries have no note, and the places of those that they might have aren't looked for.
+                if library.old_imp <= library.current && reserved == 0 {
+                    return Ok(());
+                }
+                take_met(&library_notes(self.container, i, library, reserved), sink)
             }
             None => Ok(()),
         }
     }
+}
+
+/// Returns the tests of library `i`: its fields and its reserved bytes.
+fn library_notes(
+    container: &PartialContainer<'_>,
+    i: u32,
+    library: LibraryFields,
+    reserved: u32,
+) -> [(bool, Finding); 2]
+    ensures { result ≡ library_notes (partly container.now) i (library, reserved) }
+{
+    [
+        (
+            library.old_imp > library.current,
+            note_at(
+                container,
+                Note::VersionBelowOldest,
+                Part::Library,
+                i,
+                LIBRARY_OLD_IMP_VERSION_AT,
+            ),
+        ),
+        (
+            reserved != 0,
+            note_at(
+                container,
+                Note::ReservedNotZero,
+                Part::Library,
+                i,
+                LIBRARY_RESERVED_AT,
+            ),
+        ),
+    ]
 }
 
 /// Returns the tests of the entry points.
