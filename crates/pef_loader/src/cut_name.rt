@@ -23,7 +23,7 @@ pub struct CutName<'a> {
 pub struct Names<'a> {
     pub(crate) cut: Cut<'a>,
     pub(crate) end: usize,
-    /// Places are a power of two apart: this one.
+    /// How far places are apart, as a power of two.
     power: u32,
     marks: [u32; MARKS],
     ghost ended: { NamesEndAt cut.bytes.now end },

@@ -13,11 +13,11 @@ pub(crate) const MARKS: usize = 64;
 /// The mark of a place from which on the first zero byte isn't known.
 pub(crate) const NO_MARK: u32 = u32::MAX;
 
-/// The greatest power of two that places may be apart. So none of `MARKS` places wraps.
+/// The greatest power of a step. So none of `MARKS` places wraps.
 const MAX_POWER: u32 = 58;
 
-/// Returns the power of two that places are apart if `marks` of them reach to the end of `len` bytes. A search divides by the
-/// step, and that takes much longer for other numbers.
+/// Returns how far places are apart, as a power of two, if `marks` of them reach to the end of `len` bytes. Each search divides by
+/// the step, and by another number that takes longer than all else of a short search.
 pub(crate) fn step_power(len: usize, marks: usize) -> u32
     requires { 0 < marks }
     ensures { result ≤ 58 }
@@ -26,7 +26,7 @@ pub(crate) fn step_power(len: usize, marks: usize) -> u32
     (usize::BITS - least.leading_zeros()).min(MAX_POWER)
 }
 
-/// Returns how far places are apart.
+/// Returns two to a power.
 #[inline(always)]
 pub(crate) fn step_of(power: u32) -> usize
     requires { power ≤ 58 }

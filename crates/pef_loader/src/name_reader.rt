@@ -13,7 +13,7 @@ const FAR_MARKS: usize = 256;
 #[derive(Drop)]
 pub(crate) struct NameReader<'a> {
     pub names: Names<'a>,
-    /// Places are a power of two apart: this one.
+    /// How far places are apart, as a power of two.
     power: u32,
     marks: [u32; FAR_MARKS],
     ghost small: { power ≤ 58 },
