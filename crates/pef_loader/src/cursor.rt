@@ -32,6 +32,7 @@ impl OwnerCursor {
     }
 
     /// Returns the first library that has import `j`.
+    #[inline(always)]
     pub(crate) fn owner(&mut self, tables: LoaderTables<'_>, j: usize) -> Option<usize>
         requires range { HasRange tables.cut.bytes.now self.old }
         requires order { 0 < self.old.library → AreInOrder tables.cut.bytes.now tables.header.library_count }
