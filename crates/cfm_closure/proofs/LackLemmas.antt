@@ -23,7 +23,7 @@ use Rattle.cfm_closure.proofs.PathLemmas.{bound_to-is, then_assoc}
 use Rattle.cfm_closure.proofs.WalkRules.{came, same_ok}
 
 -- of two entries the stricter one is weak only if both are
-stricter-weak : (x m : Missing) → (stricter x m).weak ≡ true → (x.weak ≡ true) × (m.weak ≡ true)
+pub stricter-weak : (x m : Missing) → (stricter x m).weak ≡ true → (x.weak ≡ true) × (m.weak ≡ true)
 stricter-weak x m weak = by x.weak m.weak refl refl weak
   where
     by : (a b : Bool) → x.weak ≡ a → m.weak ≡ b → (cond (a && not b) m x).weak ≡ true → (x.weak ≡ true) × (m.weak ≡ true)

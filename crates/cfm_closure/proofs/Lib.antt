@@ -36,6 +36,7 @@ mod SameLemmas
 mod SameTargetLemmas
 mod SearchLemmas
 mod SharedLemmas
+mod SoughtLemmas
 mod StoreLemmas
 mod SymbolLemmas
 mod TableLemmas

@@ -1,7 +1,8 @@
 -- Properties of closures apart from their definitions.
-use Rattle.std.specs.Prelude.{◌≡◌, ◌≢◌, ◌⊎◌, ⊤, ℕ, ◌<◌, true, List, [], ◌∷◌, ◌++◌, length, Option, None, Some, Result, Ok, Err, Contains}
+use Rattle.std.specs.Prelude.{◌≡◌, ◌≢◌, ◌⊎◌, ⊤, ℕ, zero, suc, ◌<◌, Bool, true, List, [], ◌∷◌, ◌++◌, length, Option, None, Some, Result, Ok, Err, Contains}
 use Rattle.std.specs.List.{AllByRecursion}
 use Rattle.std.specs.Option.{option_map_or}
+use Rattle.pef_format.specs.Symbols.{options_of}
 use Rattle.pef_format.specs.declared.place.Place.{Place}
 use Rattle.pef_loader.specs.Library.{Library}
 use Rattle.pef_loader.specs.Loader.{IsLoader, Loaded, library_of}
@@ -10,7 +11,8 @@ use Rattle.cfm_closure.specs.Faults.{BindRefusal, implementation_too_new, implem
 use Rattle.cfm_closure.specs.Fragments.{Fragment, fragment_of, import_count, import_place, loader_at}
 use Rattle.cfm_closure.specs.Missing.{Missing, missing_entry, serving}
 use Rattle.cfm_closure.specs.Walk.{order_of}
-use Rattle.cfm_closure.specs.declared.missing.Served.TheVariants.{ByNone}
+use Rattle.cfm_closure.specs.declared.missing.Served.TheVariants.{By, ByNone}
+use Rattle.cfm_closure.specs.declared.versions.Implementation.{Implementation}
 use Rattle.cfm_closure.specs.declared.targets.Target.{Target}
 use Rattle.cfm_closure.specs.declared.targets.Target.TheVariants.{Absolute, At}
 use Rattle.cfm_closure.specs.Reexports.{MeetsAgain}
@@ -84,8 +86,27 @@ abbrev pub target_within : List Pair → List ℕ → ℕ → ℕ → Result (Op
 target_within pairs order p j =
     option_map_or (λ answer. answer) (follow (exports_among pairs order) pairs p j) (Err (reexport_loop (pair_of pairs p).name (symbol_of pairs p j) (import_place pairs p j)))
 
--- a missing library is an entry of a fragment that is read, and no fragment serves it
-pub record IsLacking (pairs : List Pair) (m : Missing) : Type 0 where
+-- an entry of a fragment is served by another one
+pub record IsEntryTo (pairs : List Pair) (from to : ℕ) : Type 0 where
+  pub fragment : Fragment
+  pub read : fragment_of pairs from ≡ Ok fragment
+  pub index : ℕ
+  pub library : Library
+  pub entry : library_of fragment.loader index ≡ Some library
+  pub serves : serving pairs library ≡ Ok (By to)
+
+-- n entries lead from a root to a fragment, each from the fragment that serves the one before it
+abbrev pub LeadsIn : List Pair → ℕ → ℕ → ℕ → Type 0
+LeadsIn pairs root zero p = p ≡ root
+LeadsIn pairs root (suc n) p = (q : ℕ) × LeadsIn pairs root n q × IsEntryTo pairs q p
+
+-- a fragment is the root, or entries lead to it
+abbrev pub IsSought : List Pair → ℕ → ℕ → Type 0
+IsSought pairs root p = (n : ℕ) × LeadsIn pairs root n p
+
+-- a missing library is an entry of the root or of a fragment to which entries lead, and no fragment serves it
+pub record IsLacking (pairs : List Pair) (root : ℕ) (m : Missing) : Type 0 where
+  pub sought : IsSought pairs root m.fragment
   pub fragment : Fragment
   pub read : fragment_of pairs m.fragment ≡ Ok fragment
   pub index : ℕ
@@ -93,6 +114,17 @@ pub record IsLacking (pairs : List Pair) (m : Missing) : Type 0 where
   pub entry : library_of fragment.loader index ≡ Some library
   pub none : serving pairs library ≡ Ok (ByNone m.found)
   pub is : m ≡ missing_entry m.fragment library m.found
+
+-- one of the missing libraries has a name, and is weak only if an entry with this name is
+abbrev pub IsListed : List ℕ → Bool → List Missing → Type 0
+IsListed name weak [] = ⊥
+IsListed name weak (m ∷ ms) = ((m.name ≡ name) × (m.weak ≡ true → weak ≡ true)) ⊎ IsListed name weak ms
+
+-- a fragment is read, and each of its entries that no fragment serves is among the missing libraries
+pub record LacksOnly (pairs : List Pair) (ms : List Missing) (p : ℕ) : Type 0 where
+  pub fragment : Fragment
+  pub read : fragment_of pairs p ≡ Ok fragment
+  pub listed : (l : ℕ) (library : Library) (found : Option Implementation) → library_of fragment.loader l ≡ Some library → serving pairs library ≡ Ok (ByNone found) → IsListed library.name (options_of library.fields.options).weak ms
 
 -- each of the missing libraries has a name of its own
 abbrev pub AreApart : List Missing → Type 0

@@ -17,7 +17,7 @@ ghost use Rattle.cfm_closure.specs.Orders.{EndsWith, IsComplete, IsInitOrder};
 ghost use Rattle.cfm_closure.specs.Walk.{order_of};
 ghost use Rattle.cfm_closure.specs.Closures.{Closed, closed_of};
 ghost use Rattle.cfm_closure.specs.Missing.{Missing, missing_of};
-ghost use Rattle.cfm_closure.specs.Promises.{AllRead, AreApart, AreWeak, HasTarget, IsEndless, IsLacking, IsOfBinding, IsOfUnread, target_within};
+ghost use Rattle.cfm_closure.specs.Promises.{AllRead, AreApart, AreWeak, HasTarget, IsEndless, IsLacking, IsSought, LacksOnly, IsOfBinding, IsOfUnread, target_within};
 ghost use Rattle.cfm_closure.specs.Reexports.{MeetsAgain};
 ghost use Rattle.cfm_closure.specs.Targets.{exports_among, follow, target_of};
 
@@ -107,11 +107,13 @@ pub fn removed_pairs()
     ensures target { (pairs : List Pair) (name : List ℕ) (p root : ℕ) (c : Closed) → root < length pairs → closed_of pairs root ≡ Ok c → MayBeRemoved pairs c.order name p → (q j : ℕ) → Contains c.order q → target_of (without_pair pairs p) q j ≡ target_of pairs q j }
 {}
 
-/// What is missing are library entries of fragments that are read, which no fragment of the store serves: there is none with
-/// the name, or its versions don't fit. Each name is there once. If only weak libraries are missing, the walk of the closure
-/// isn't refused: all other entries of its fragments are served.
+/// What is missing are the library entries that no fragment of the store serves, of the root and of all fragments to which served
+/// entries lead: there is no fragment with the name, or its versions don't fit. Each of their names is there once. It is weak only if
+/// all entries with this name are. If only weak libraries are missing, the walk of the closure isn't refused: all other entries of
+/// its fragments are served.
 pub fn missing_libraries()
-    ensures lacking { (pairs : List Pair) (root : ℕ) (missing : List Missing) → missing_of pairs root ≡ Ok missing → AllByRecursion (IsLacking pairs) missing }
+    ensures lacking { (pairs : List Pair) (root : ℕ) (missing : List Missing) → missing_of pairs root ≡ Ok missing → AllByRecursion (IsLacking pairs root) missing }
+    ensures complete { (pairs : List Pair) (root : ℕ) (missing : List Missing) → root < length pairs → missing_of pairs root ≡ Ok missing → (p : ℕ) → IsSought pairs root p → LacksOnly pairs missing p }
     ensures once { (pairs : List Pair) (root : ℕ) (missing : List Missing) → missing_of pairs root ≡ Ok missing → AreApart missing }
     ensures weak { (pairs : List Pair) (root : ℕ) (missing : List Missing) → missing_of pairs root ≡ Ok missing → AreWeak missing → (order : List ℕ) × (order_of pairs root ≡ Ok order) }
 {}

@@ -1,6 +1,6 @@
 -- The container of a fragment, by its name in the table of fragments (the resource `cfrg` 0), or by its number among the
 -- containers that a search finds. Which member has a name if several have, and how errors are told, is this project's own.
-use Rattle.std.specs.Prelude.{ℕ, pos, ◌+◌, ◌==◌, ◌&&◌, ◌%◌, ◌^◌, Bool, false, List, [], ◌∷◌, Option, None, Some, option_map, Result, Ok, Err, not, if◌then◌else◌}
+use Rattle.std.specs.Prelude.{ℕ, pos, ◌+◌, ◌==◌, ◌&&◌, ◌%◌, ◌^◌, Bool, false, List, [], ◌∷◌, Option, None, Some, option_map, Result, Ok, Err, length, not, if◌then◌else◌}
 use Rattle.std.specs.Int.{cast_signed, w16}
 use Rattle.std.specs.List.{slice_get}
 use Rattle.std.specs.Option.{option_map_or, option_or}
@@ -32,6 +32,14 @@ abbrev pub fork_bytes : Option (Result Lying ForkFault) → Result (List ℕ) Me
 fork_bytes None = Err NoContainer
 fork_bytes (Some (Ok part)) = Ok part.bytes
 fork_bytes (Some (Err fault)) = Err (Fork fault)
+
+-- the resource fork with some bytes. An empty one is none
+abbrev pub fork_read : Result ForkIs ResourceFault → Result ForkIs MemberLookupFault
+fork_read (Ok fork) = Ok fork
+fork_read (Err fault) = Err (Resource fault)
+
+unfoldable pub resources_of : List ℕ → Result ForkIs MemberLookupFault
+resources_of bytes = if length bytes == 0 then Err NoContainer else fork_read (fork_of bytes)
 
 -- the bytes of a resource that a fork has
 abbrev pub contents_bytes : Result Lying ResourceFault → Result (List ℕ) MemberLookupFault
@@ -88,13 +96,9 @@ named_by name data_fork resources =
     and_then (resource_bytes (resource_with resources 0x6366_7267 (pos 0)))
     (λ table. and_then (named_in name (table_of table)) (λ m. lying_in m data_fork resources (locator_of m.header)))
 
-abbrev pub named_with : List ℕ → Option (Result Lying ForkFault) → Result ForkIs ResourceFault → Result (List ℕ) MemberLookupFault
-named_with name data_fork (Ok resources) = named_by name data_fork resources
-named_with name data_fork (Err fault) = Err (Resource fault)
-
 -- .. of which the resource fork has these bytes
 unfoldable pub named_in_forks : List ℕ → Option (Result Lying ForkFault) → List ℕ → Result (List ℕ) MemberLookupFault
-named_in_forks name data_fork resources = named_with name data_fork (fork_of resources)
+named_in_forks name data_fork resources = and_then (resources_of resources) (named_by name data_fork)
 
 -- .. of a data fork and of a file with the resource fork
 abbrev pub named_beside : List ℕ → Option (Result Lying ForkFault) → List ℕ → Result MacFileIs ForkFault → Result (List ℕ) MemberLookupFault
@@ -118,12 +122,11 @@ abbrev pub table_read : Result TableIs MemberFault → Result TableIs MemberLook
 table_read (Ok table) = Ok table
 table_read (Err fault) = Err (Member fault)
 
-abbrev pub table_in_fork : Result ForkIs ResourceFault → Result TableIs MemberLookupFault
-table_in_fork (Ok resources) = and_then (resource_bytes (resource_with resources 0x6366_7267 (pos 0))) (λ table. table_read (table_of table))
-table_in_fork (Err fault) = Err (Resource fault)
+abbrev pub table_in_fork : ForkIs → Result TableIs MemberLookupFault
+table_in_fork resources = and_then (resource_bytes (resource_with resources 0x6366_7267 (pos 0))) (λ table. table_read (table_of table))
 
 abbrev pub table_with : List ℕ → Result MacFileIs ForkFault → Result TableIs MemberLookupFault
-table_with bytes (Ok file) = and_then (fork_bytes (resource_fork_of bytes file)) (λ fork. table_in_fork (fork_of fork))
+table_with bytes (Ok file) = and_then (fork_bytes (resource_fork_of bytes file)) (λ fork. and_then (resources_of fork) table_in_fork)
 table_with bytes (Err fault) = Err (Fork fault)
 
 unfoldable pub table_in_file : List ℕ → Result TableIs MemberLookupFault

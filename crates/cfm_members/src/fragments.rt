@@ -4,9 +4,9 @@ ghost use Rattle.std.specs.Option.{option_copied};
 ghost use Rattle.pef_words.specs.Refusals.{result_map};
 ghost use Rattle.mac_forks.specs.MacFile.{mac_file_of};
 ghost use Rattle.mac_forks.specs.Views.{mac_file_seen, part_seen};
-ghost use Rattle.mac_resources.specs.Fork.{fork_of};
 ghost use Rattle.mac_resources.specs.Views.{fork_seen, resource_seen};
 ghost use Rattle.cfm_members.specs.Fragments.{
+  and_then,
   container_in_pair,
   container_named,
   container_numbered,
@@ -20,6 +20,7 @@ ghost use Rattle.cfm_members.specs.Fragments.{
   named_in,
   named_in_forks,
   resource_bytes,
+  resources_of,
   table_in_file,
   table_in_fork,
   table_read,
@@ -108,9 +109,9 @@ pub fn container_in_forks<'a>(
 ) -> Result<&'a [u8], MemberLookupFault>
     ensures { result_map (λ container. container.now) result ≡ named_in_forks name.now (option_map (result_map part_seen) data_fork.entry) resources.entry.now }
 {
-    let resources = match ResourceFork::read(resources) {
+    let resources = match read_resources(resources) {
         Ok(resources) => resources,
-        Err(fault) => return Err(MemberLookupFault::Resource(fault)),
+        Err(fault) => return Err(fault),
     };
     let table = match resource_bytes(resources.find(FRAGMENT_TABLE_TYPE, FRAGMENT_TABLE_ID)) {
         Ok(table) => table,
@@ -127,7 +128,7 @@ pub fn container_in_forks<'a>(
 /// # Errors
 ///
 /// The first error of the file's header, of the resource fork's entry, of the fork's header and map, and of the table's bytes and
-/// header. Without a resource fork or the resource it is [`MemberLookupFault::NoContainer`].
+/// header. Without a resource fork or the resource it is [`MemberLookupFault::NoContainer`]. An empty fork is none.
 #[tactic(auto, unfolding(crate::specs::Fragments::table_in_file))]
 pub fn fragment_table<'a>(bytes: &'a [u8]) -> Result<FragmentTable<'a>, MemberLookupFault>
     ensures { result_map table_seen result ≡ table_in_file bytes.entry.now }
@@ -144,11 +145,11 @@ pub fn fragment_table<'a>(bytes: &'a [u8]) -> Result<FragmentTable<'a>, MemberLo
 
 /// Returns the table of fragments of a resource fork.
 fn table_in_fork<'a>(resources: &'a [u8]) -> Result<FragmentTable<'a>, MemberLookupFault>
-    ensures { result_map table_seen result ≡ table_in_fork (fork_of resources.entry.now) }
+    ensures { result_map table_seen result ≡ and_then (resources_of resources.entry.now) table_in_fork }
 {
-    let resources = match ResourceFork::read(resources) {
+    let resources = match read_resources(resources) {
         Ok(resources) => resources,
-        Err(fault) => return Err(MemberLookupFault::Resource(fault)),
+        Err(fault) => return Err(fault),
     };
     match resource_bytes(resources.find(FRAGMENT_TABLE_TYPE, FRAGMENT_TABLE_ID)) {
         Ok(table) => read_table(table),
@@ -193,6 +194,24 @@ fn fork_bytes<'a>(
         Some(Ok(part)) => Ok(part.bytes),
         Some(Err(fault)) => Err(MemberLookupFault::Fork(fault)),
         None => Err(MemberLookupFault::NoContainer),
+    }
+}
+
+/// Returns the resource fork with some bytes. An empty one is none.
+///
+/// # Errors
+///
+/// The fork's header and map can't be read, or it is empty: [`MemberLookupFault::NoContainer`].
+#[tactic(auto, unfolding(crate::specs::Fragments::resources_of))]
+pub fn read_resources<'a>(bytes: &'a [u8]) -> Result<ResourceFork<'a>, MemberLookupFault>
+    ensures { result_map fork_seen result ≡ resources_of bytes.entry.now }
+{
+    if bytes.is_empty() {
+        return Err(MemberLookupFault::NoContainer);
+    }
+    match ResourceFork::read(bytes) {
+        Ok(resources) => Ok(resources),
+        Err(fault) => Err(MemberLookupFault::Resource(fault)),
     }
 }
 

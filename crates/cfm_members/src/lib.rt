@@ -24,6 +24,7 @@ pub use file_kind::FileKind;
 pub use forks::Forks;
 pub use fragments::{
     container_in_forks, container_in_pair, fragment_table, named_container, numbered_container,
+    read_resources,
 };
 pub use member::{Locator, Member, MemberHeader, Usage};
 pub use member_lookup_fault::MemberLookupFault;

@@ -3,4 +3,5 @@ mod NamedLemmas
 mod PreparedLemmas
 mod ReadLemmas
 mod SoundLemmas
+mod StubbedLemmas
 mod WrittenLemmas

@@ -1,6 +1,10 @@
 -- If a preparation reports an error of a fragment's bytes, an error is found in them.
 use Rattle.std.proofs.Common.{◌≡◌, ◌∙◌, ℕ, ◌≤◌, List, ◌++◌, None, Some, Ok, Err, Contains, inl, inr, sym, ap, subst, arith}
+use Rattle.std.specs.Borrow.{Bor}
 use Rattle.std.proofs.lemmas.List.Elements.{All-contains}
+use Rattle.pef_format.specs.declared.place.Place.{Place}
+use Rattle.pef_pidata.specs.declared.fault.PackFault.{PackFault}
+use Rattle.pef_reloc.specs.declared.fault.RelocFault.{RelocFault}
 use Rattle.cfm_store.specs.Stores.{Pair, pair_of, place_of}
 use Rattle.cfm_closure.specs.Closures.{closed_of}
 use Rattle.cfm_closure.specs.Faults.{BindRefusal, FailsAs, no_container, no_loader}
@@ -88,10 +92,18 @@ names-bound s asked root (bind.ReexportLoop f y place) is low fails = absurd (om
 names-bound s asked root (bind.InitLoop f place) is low fails = absurd (omega (arith, low))
 names-bound s asked root bind.OutOfMemory is low fails = absurd (omega (arith, low))
 
+-- an image or a program that is refused is one of a fragment that isn't sound
+
+pub pack-unsound : (rule : Rule) (s : ContextState) (asked : List ℕ) (f : Bor (List ℕ)) (k : PackFault) (place : Place) → IsRefusedLateBy rule s asked (fragment.Pack f k place) → NamesUnsound s.pairs f.now
+pack-unsound rule s asked f k place late = unfilled s asked f.now late.closure (record { fault = k; place = place }) late.why
+
+pub reloc-unsound : (rule : Rule) (s : ContextState) (asked : List ℕ) (f : Bor (List ℕ)) (k : RelocFault) (section : ℕ) (place : Place) → IsRefusedLateBy rule s asked (fragment.Reloc f k section place) → NamesUnsound s.pairs f.now
+reloc-unsound rule s asked f k section place late = unrelocated s asked f.now late.closure (record { fault = k; section = section; place = place }) late.why
+
 names-late : (rule : Rule) (s : ContextState) (asked : List ℕ) (f : FragmentFault) → fragments.fault_number f ≤ 39 → IsRefusedLateBy rule s asked f → FragmentNames s.pairs f
 names-late rule s asked (fragment.NoRoom f place) low late = absurd (omega (arith, low))
-names-late rule s asked (fragment.Pack f k place) low late = unfilled s asked f.now late.closure (record { fault = k; place = place }) late.why
-names-late rule s asked (fragment.Reloc f k section place) low late = unrelocated s asked f.now late.closure (record { fault = k; section = section; place = place }) late.why
+names-late rule s asked (fragment.Pack f k place) low late = pack-unsound rule s asked f k place late
+names-late rule s asked (fragment.Reloc f k section place) low late = reloc-unsound rule s asked f k section place late
 names-late rule s asked fragment.OutOfMemory low late = absurd (omega (arith, low))
 
 pub names_only_unsound : (rule : Rule) (s : ContextState) (asked : List ℕ) (f : PrepareFault) → fault_number f ≤ 39 → MayNotPrepareBy rule s asked f → Names s.pairs f

@@ -199,5 +199,5 @@ module _ (script : DescribedScript) (k : LinkedContainer) (linked : IsLinked scr
 pub linked_are_sound : LinkedAreSound
 linked_are_sound = record {
   sound = λ script l linked. linked-sound script l linked;
-  none = λ script l limits linked bytes steps. ((is_read_back script l linked).container, linked-none script l linked limits bytes steps);
+  none = λ script l limits linked bytes steps. ((is_read_back script l linked).container, (is_read_back script l linked).read, linked-none script l linked limits bytes steps);
 }

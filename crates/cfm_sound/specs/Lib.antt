@@ -1,3 +1,4 @@
 pub mod Named
 pub mod Placed
+pub mod Stubbed
 pub mod Written

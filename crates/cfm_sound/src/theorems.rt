@@ -1,6 +1,7 @@
 //! The laws of containers in which no error is found, and of those that were linked.
 ghost use Rattle.cfm_sound.specs.Named.{NamesOnlyUnsound};
 ghost use Rattle.cfm_sound.specs.Placed.{PlacedAreSound};
+ghost use Rattle.cfm_sound.specs.Stubbed.{StubbedPrepare};
 ghost use Rattle.cfm_sound.specs.Written.{LinkedAreSound};
 
 /// A container in which no error is found, and nothing is left unverified, is never named, whatever the limits were. If a
@@ -24,4 +25,14 @@ pub fn placed_containers_are_sound()
 #[tactic(auto, using(crate::proofs::WrittenLemmas::linked_are_sound))]
 pub fn linked_containers_are_sound()
     ensures { LinkedAreSound }
+{}
+
+/// Whatever sound containers you have, you can see their memory. Take the pairs of a store in whose containers no error is found and
+/// nothing is left unverified, and after them the pairs of what `cfm_stubs::stubs` returns for this store, with numbers. Then a
+/// preparation of any of its names, by whichever rule its sections are placed, ends with no error but 65 and 66 (loops), 67 (room), 69
+/// (connections), 99 (memory), and 70 and 75 (bounds of the context), and with 62, 63 and 64 only for a library that was there before.
+/// Each import from a stub means the number that the stub's exports have for its name.
+#[tactic(auto, using(crate::proofs::StubbedLemmas::stubbed_prepare))]
+pub fn stubbed_containers_prepare()
+    ensures { StubbedPrepare }
 {}

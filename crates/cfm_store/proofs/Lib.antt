@@ -5,3 +5,4 @@ pub mod Laws
 mod NameLemmas
 mod NumberLemmas
 mod PlaceLemmas
+mod SliceLemmas

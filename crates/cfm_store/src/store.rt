@@ -2,8 +2,8 @@ ghost use Rattle.std.specs.Prelude.{◌≡◌, ◌==◌, ◌<◌, ◌≤◌, ◌
 ghost use Rattle.std.specs.Option.{option_and_then};
 ghost use Rattle.indexmap.specs.IndexMap.{spare};
 ghost use Rattle.cfm_store.specs.Additions.{free_for, free_from, has_room, with_put, without_pair};
-ghost use Rattle.cfm_store.specs.Places.{NotesPlace};
-ghost use Rattle.cfm_store.specs.Kept.Places.{SetsPlace};
+ghost use Rattle.cfm_store.specs.Places.{NotesPlace, NotesSlice};
+ghost use Rattle.cfm_store.specs.Kept.Places.{SetsPlace, SetsSlice, slice_of};
 ghost use Rattle.cfm_store.specs.Seen.{pair_seen, place_seen};
 ghost use Rattle.cfm_store.specs.Stores.{no_pair, pair_of, place_of, taken};
 ghost use Rattle.cfm_store.specs.Limits.{most_pairs};
@@ -29,7 +29,7 @@ const LONGEST_HASHED: usize = 255;
 #[derive(Drop)]
 pub struct Store<'a> {
     pairs: Vec<Option<(&'a [u8], &'a [u8])>>,
-    /// The place of the first pair of each name.
+    /// The place of the first pair of each name. Each key is that pair's own slice of the name.
     places: IndexMap<NameKey<'a>, usize>,
 }
 
@@ -45,7 +45,7 @@ impl<'a> Model for Store<'a> {
 
     ghost view = { λ s. map place_seen s.pairs.items };
 
-    ghost invariant = { λ s. IsStore (map place_seen s.pairs.items) s.places.entries };
+    ghost invariant = { λ s. IsStore s.pairs.items s.places.entries };
 }
 
 impl fmt::Debug for Store<'_> {
@@ -236,6 +236,7 @@ pub fn note_place<'a>(
     place: usize,
 ) -> Result<(), AllocFailed<(NameKey<'a>, usize)>>
     ensures ok { OnOk result (NotesPlace places.old.entries name.now place places.new.entries) }
+    ensures slice { OnOk result (NotesSlice places.old.entries name.entry places.new.entries) }
     ensures err { OnErr result (places.new.entries ≡ places.old.entries) }
 {
     let key = NameKey { bytes: name };
@@ -253,9 +254,10 @@ fn note_removed<'a>(
     name: &'a [u8],
 )
     requires { 0 < spare places.old }
-    ensures { SetsPlace places.old.entries name.now (place_of (map place_seen pairs.now) name.now) places.new.entries }
+    ensures place { SetsPlace places.old.entries name.now (place_of (map place_seen pairs.now) name.now) places.new.entries }
+    ensures slice { SetsSlice places.old.entries name.now (slice_of pairs.now name.now) places.new.entries }
 {
-    places.swap_remove(&NameKey { bytes: name });
+    places.shift_remove(&NameKey { bytes: name });
     let Some((name, place)) = first_named(pairs, name) else {
         return;
     };
@@ -269,6 +271,7 @@ fn note_removed<'a>(
 #[tactic(auto, unfolding(crate::specs::Stores::place_of))]
 fn first_named<'a>(pairs: &[Option<(&'a [u8], &'a [u8])>], name: &[u8]) -> Option<(&'a [u8], usize)>
     ensures place { option_map (λ r. r.1) result ≡ place_of (map place_seen pairs.now) name.now }
+    ensures slice { option_map (λ r. r.0) result ≡ slice_of pairs.now name.now }
     ensures name { IfSome result (λ r. r.0.now ≡ name.now) }
 {
     for place in 0..pairs.len() {

@@ -1,55 +1,30 @@
-//! Closures of linked scripts: the worked examples of binding. `conformance` has the other cases.
-use crate::closures::told;
+//! Closures of linked scripts: the worked examples of binding.
+use cfm_closure::{BindFault, Closure, Target, closure};
 use std::alloc::Global;
 use std::process::Abort;
 use test_data::changes::{At, Change};
 use test_data::scripts::{LIBRARY, USER};
-use test_links::fragments::Fragment;
+use test_links::fragments::{Fragment, containers, store_of};
 
-/// Fragments, and the text of the closure of the first.
-const LIBRARIES: &[(&[Fragment], &str)] = &[
-    (
-        &[("A", USER, &[]), ("B", USER, &[]), ("L", LIBRARY, &[])],
-        "order 2 0, init 2 0, 0.0 at 2 0 0",
-    ),
-    (&[("A", USER, &[])], "61 LibraryMissing A L"),
-    (
-        &[("A", "library L 1 0 weak\nimport v data strong\n", &[])],
-        "order 0, init 0, 0.0 none",
-    ),
-    (
-        &[
-            ("A", "library L 1 0 -\nimport w data strong\n", &[]),
-            ("L", LIBRARY, &[]),
-        ],
-        "62 SymbolMissing A L w",
-    ),
-];
+/// A closure: its order, the order of initialization, and the targets of imports by fragment and number.
+type Found = (
+    &'static [usize],
+    &'static [usize],
+    &'static [(usize, usize, Option<Target>)],
+);
 
-/// Two fragments that need one another.
-const ORDERS: &[(&[Fragment], &str)] = &[
-    (
-        &[
-            ("A", "library B 0 0 -\n", &[]),
-            ("B", "library A 0 0 -\n", &[]),
-        ],
-        "order 1 0, init 1 0",
-    ),
-    (
-        &[
-            ("A", "library B 0 0 -\n", &[]),
-            ("B", "library A 0 0 before\n", &[]),
-        ],
-        "order 1 0, init 0 1",
-    ),
-    (
-        &[
-            ("A", "library B 0 0 before\n", &[]),
-            ("B", "library A 0 0 before\n", &[]),
-        ],
-        "66 InitLoop B",
-    ),
-];
+/// The fragment, the library and the symbol in a refusal.
+type Names<'a> = (&'a [u8], &'a [u8], &'a [u8]);
+
+/// A refusal: its number, and its names.
+type Refusal = (u32, Names<'static>);
+
+/// The first byte of section 0 of fragment 2.
+const AT_LIBRARY: Option<Target> = Some(Target::At {
+    fragment: 2,
+    section: 0,
+    offset: 0,
+});
 
 /// Bytes written over the section of the only export, so that the export is absolute or passes on an import.
 const ABSOLUTE: &[Change] = &[(At::End(2), b"\xFF\xFE")];
@@ -60,15 +35,58 @@ const REEXPORT: &[Change] = &[(At::End(2), b"\xFF\xFD")];
 const M: &str =
     "versions 1 0 0\nlibrary L 1 0 -\nimport v data strong\nsection m data process 4 4\nexport u data m 0\n";
 
-/// An import of that export, which passes on an import or is absolute; and one that leads to itself.
-const TARGETS: &[(&[Fragment], &str)] = &[
+/// Fragments, and the closure of the first.
+const BOUND: &[(&[Fragment], Result<Found, Refusal>)] = &[
+    (
+        &[("A", USER, &[]), ("B", USER, &[]), ("L", LIBRARY, &[])],
+        Ok((&[2, 0], &[2, 0], &[(0, 0, AT_LIBRARY)])),
+    ),
+    (&[("A", USER, &[])], Err((61, (b"A", b"L", b"")))),
+    (
+        &[("A", "library L 1 0 weak\nimport v data strong\n", &[])],
+        Ok((&[0], &[0], &[(0, 0, None)])),
+    ),
+    (
+        &[
+            ("A", "library L 1 0 -\nimport w data strong\n", &[]),
+            ("L", LIBRARY, &[]),
+        ],
+        Err((62, (b"A", b"L", b"w"))),
+    ),
+    // Two fragments that need one another.
+    (
+        &[
+            ("A", "library B 0 0 -\n", &[]),
+            ("B", "library A 0 0 -\n", &[]),
+        ],
+        Ok((&[1, 0], &[1, 0], &[])),
+    ),
+    (
+        &[
+            ("A", "library B 0 0 -\n", &[]),
+            ("B", "library A 0 0 before\n", &[]),
+        ],
+        Ok((&[1, 0], &[0, 1], &[])),
+    ),
+    (
+        &[
+            ("A", "library B 0 0 before\n", &[]),
+            ("B", "library A 0 0 before\n", &[]),
+        ],
+        Err((66, (b"B", b"", b""))),
+    ),
+    // An import of that export, which passes on an import or is absolute; and one that leads to itself.
     (
         &[
             ("A", "library M 1 0 -\nimport u data strong\n", &[]),
             ("M", M, REEXPORT),
             ("L", LIBRARY, &[]),
         ],
-        "order 2 1 0, init 2 1 0, 1.0 at 2 0 0, 0.0 at 2 0 0",
+        Ok((
+            &[2, 1, 0],
+            &[2, 1, 0],
+            &[(1, 0, AT_LIBRARY), (0, 0, AT_LIBRARY)],
+        )),
     ),
     (
         &[
@@ -76,7 +94,11 @@ const TARGETS: &[(&[Fragment], &str)] = &[
             ("M", M, ABSOLUTE),
             ("L", LIBRARY, &[]),
         ],
-        "order 2 1 0, init 2 1 0, 1.0 at 2 0 0, 0.0 is 0",
+        Ok((
+            &[2, 1, 0],
+            &[2, 1, 0],
+            &[(1, 0, AT_LIBRARY), (0, 0, Some(Target::Absolute(0)))],
+        )),
     ),
     (
         &[(
@@ -84,21 +106,76 @@ const TARGETS: &[(&[Fragment], &str)] = &[
             "versions 1 0 0\nlibrary P 1 0 -\nimport u data strong\nsection m data process 4 4\nexport u data m 0\n",
             REEXPORT,
         )],
-        "65 ReexportLoop P u",
+        Err((65, (b"P", b"", b"u"))),
     ),
 ];
 
-/// Tests the text of the closures of some fragments.
-fn test_reported(rt: &impl Abort, alloc: Global, rows: &[(&[Fragment], &str)]) {
-    for row in rows {
+#[test]
+fn closures(rt: HostRuntime) {
+    for row in BOUND {
         let (fragments, wanted) = *row;
-        assert!(rt; told(rt, alloc, fragments).as_str() == wanted);
+        test_closure(&rt, rt.alloc(), fragments, wanted);
     }
 }
 
-#[test]
-fn closures(rt: HostRuntime) {
-    for table in [LIBRARIES, ORDERS, TARGETS] {
-        test_reported(&rt, rt.alloc(), table);
+/// Tests the closure of the first of some fragments.
+fn test_closure(
+    rt: &impl Abort,
+    alloc: Global,
+    fragments: &[Fragment],
+    wanted: Result<Found, Refusal>,
+) {
+    let containers = containers(alloc, fragments).expect(rt, "containers");
+    let store = store_of(alloc, fragments, &containers).expect(rt, "a store");
+    assert!(rt; !store.is_empty());
+    match closure(alloc, &store, 0) {
+        Ok(closure) => test_found(rt, &closure, wanted),
+        Err(fault) => test_refused(rt, fault, wanted),
+    }
+}
+
+fn test_found(rt: &impl Abort, closure: &Closure<'_>, wanted: Result<Found, Refusal>) {
+    let Ok((order, init_order, targets)) = wanted else {
+        panic!(rt; "a closure");
+    };
+    assert!(rt; (closure.order(), closure.init_order()) == (order, init_order));
+    for p in closure.order() {
+        for j in 0..closure.loader(*p).imports() {
+            assert!(rt; targets.contains(&(*p, j, closure.target(*p, j))));
+        }
+    }
+}
+
+fn test_refused(rt: &impl Abort, fault: BindFault<'_>, wanted: Result<Found, Refusal>) {
+    let Err((number, names)) = wanted else {
+        panic!(rt; "{fault}");
+    };
+    assert!(rt;
+        fault.number() == number && names_in(fault) == names,
+        "{fault}"
+    );
+}
+
+/// Returns the fragment, the library and the symbol in a refusal of one of the rows.
+fn names_in<'a>(fault: BindFault<'a>) -> Names<'a> {
+    match fault {
+        BindFault::LibraryMissing {
+            fragment,
+            library,
+            ..
+        } => (fragment, library, b""),
+        BindFault::SymbolMissing {
+            fragment,
+            library,
+            symbol,
+            ..
+        } => (fragment, library, symbol),
+        BindFault::ReexportLoop {
+            fragment,
+            symbol,
+            ..
+        } => (fragment, b"", symbol),
+        BindFault::InitLoop { fragment, .. } => (fragment, b"", b""),
+        _ => (b"", b"", b""),
     }
 }

@@ -1,4 +1,4 @@
-//! The calls on files by which `inspect` and `extract` look for a resource fork in another file, and what they report if
+//! The calls on files by which `inspect`, `extract`, `prepare` and `stubs` look for a resource fork in another file, and what they report if
 //! reading it lacks memory.
 
 use pef_tool::FileFault;
@@ -126,6 +126,17 @@ const CALLS: &[(Contents, &[&str], u64, u64, u64)] = &[
         &["extract", "d/a", "#0", "out"],
         1,
         0,
+        0,
+    ),
+    (&[("d/._a", b"r")], &["prepare", "d/a"], 2, 0, 0),
+    (&[("d/%a", b"r")], &["prepare", "N=d/a"], 7, 5, 0),
+    (&[("d/._a", b"r")], &["stubs", "d/a"], 2, 0, 0),
+    (&[], &["prepare", "d/a", "none"], 11, 10, 0),
+    (
+        &[("d/._a", b"r")],
+        &["prepare", "d/a", "--library", "none"],
+        3,
+        1,
         0,
     ),
 ];

@@ -84,33 +84,36 @@ const TOOLS: &[u8] =
 const APP: &[u8] =
     b"library Tools 1 0 -\nimport answer data strong\nsection data data process 4 8\nbytes data 0000000000000004\nfix data 0 import answer\nfix data 4 section data\nmain data 0\n";
 
-/// Tests the memory of a machine: the library lies at 00010000, and the application after it, at 00010010.
-fn test_loaded(rt: &impl Abort, machine: &Machine) {
+/// Tests what `load` copies: the library lies at 00010000, and the application after it, at 00010010.
+fn test_load(rt: &impl Abort, alloc: Global, tools: &[u8], app: &[u8]) -> Result<(), Fail> {
+    let mut machine = Machine { memory: [0xEE; 24] };
+    load(alloc, tools, app, &mut machine)?;
     let mut wanted = [0xEE; 24];
     wanted[..4].copy_from_slice(&[0, 0, 0, 0x2A]);
     wanted[16..].copy_from_slice(&[0, 1, 0, 0, 0, 1, 0, 0x14]);
     assert!(rt; machine.memory == wanted);
+    Ok(())
+}
+
+/// The machine has memory for the library alone, which is in the first page.
+fn test_load_in_pages(
+    rt: &impl Abort,
+    alloc: Global,
+    tools: &[u8],
+    app: &[u8],
+) -> Result<(), Fail> {
+    let mut machine = Machine { memory: [0xEE; 24] };
+    load_in_pages(alloc, tools, app, &mut machine)?;
+    let mut wanted = [0xEE; 24];
+    wanted[..4].copy_from_slice(&[0, 0, 0, 0x2A]);
+    assert!(rt; machine.memory == wanted);
+    Ok(())
 }
 
 #[test]
 fn loading(rt: HostRuntime) -> Result<(), Fail> {
     let tools = link_text(rt.alloc(), TOOLS).expect(&rt, "a container");
     let app = link_text(rt.alloc(), APP).expect(&rt, "a container");
-    let mut machine = Machine { memory: [0xEE; 24] };
-    load(rt.alloc(), tools.bytes(), app.bytes(), &mut machine)?;
-    test_loaded(&rt, &machine);
-    Ok(())
-}
-
-/// The machine has memory for the library alone, which is in the first page.
-#[test]
-fn loading_in_pages(rt: HostRuntime) -> Result<(), Fail> {
-    let tools = link_text(rt.alloc(), TOOLS).expect(&rt, "a container");
-    let app = link_text(rt.alloc(), APP).expect(&rt, "a container");
-    let mut machine = Machine { memory: [0xEE; 24] };
-    load_in_pages(rt.alloc(), tools.bytes(), app.bytes(), &mut machine)?;
-    let mut wanted = [0xEE; 24];
-    wanted[..4].copy_from_slice(&[0, 0, 0, 0x2A]);
-    assert!(&rt; machine.memory == wanted);
-    Ok(())
+    test_load(&rt, rt.alloc(), tools.bytes(), app.bytes())?;
+    test_load_in_pages(&rt, rt.alloc(), tools.bytes(), app.bytes())
 }

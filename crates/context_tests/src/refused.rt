@@ -1,57 +1,81 @@
 //! Calls in which an allocation fails. To test this, run it with one allocation failing after another, as
 //! `tools/refuse-memory` does.
 
-use crate::fixture::{LIMIT, context_of, tell_memory};
-use crate::readers::{prepared, test_reported, told};
+use crate::contexts::{A, B, L, LIMIT, USERS, context_of, prepared, test_firsts};
 use cfm_memory::{Memory, MemoryFault, Place};
 use cfm_prepare::{AddFault, Connection, Context, Store};
 use std::alloc::Global;
-use std::fmt::Write;
 use std::process::Abort;
 use std::test::Fail;
 use test_data::refusals::{say_answered, say_begins};
-use test_data::scripts::{LIBRARY, USER};
+use test_data::scripts::LIBRARY;
 use test_links::fragments::{Fragment, containers};
 
-/// A library with one export, and two fragments that import it.
-const FRAGMENTS: &[Fragment] = &[("A", USER, &[]), ("B", USER, &[]), ("L", LIBRARY, &[])];
-
-/// The same with more in the two, so that each reader has something to report.
+/// Two fragments that need a library, with so much in them that each reader has something to report.
 const RICH_FRAGMENTS: &[Fragment] = &[("A", RICH, &[]), ("B", RICH, &[]), ("L", LIBRARY, &[])];
 
 const RICH: &str =
     "library L 1 0 before\nimport v data strong\nsection a data process 4 4\nfix a 0 import v\nexport own data a 0\nmain a 0\ninit a 2\nterm a 3\n";
 
-/// Returns what each reader of a context reports about the first two connections and about all fragments.
-fn all_reported(rt: &impl Abort, alloc: Global, context: &Context<'_>) -> String {
-    let mut text = told(rt, alloc, context, Connection(0));
-    let second = told(rt, alloc, context, Connection(1));
-    text.push_str(&second).expect(rt, "memory");
+/// Returns what each reader of a context reports about the first two connections and about all fragments, as numbers.
+fn reported(rt: &impl Abort, alloc: Global, context: &Context<'_>) -> Vec<usize> {
+    let mut notes = Vec::new(alloc);
+    for number in 0..2 {
+        note_connection(rt, &mut notes, context, Connection(number));
+    }
     for position in 0..3 {
-        tell_fragment(rt, &mut text, context, position);
+        note_fragment(rt, &mut notes, context, position);
     }
-    text
+    notes
 }
 
-/// Writes how many sections of a fragment are present, the first of them, and the entry point of the first connection.
-fn tell_fragment(rt: &impl Abort, text: &mut String, context: &Context<'_>, position: usize) {
-    let named = context.name(position).is_some();
-    let count = context.section_count(position);
-    write!(text, ", {named} {count}").expect(rt, "memory");
-    if let Some((address, bytes)) = context.fragment_section(position, 0) {
-        tell_memory(rt, text, address, bytes);
-    }
-    tell_entries(rt, text, context, position);
+fn note_connection(
+    rt: &impl Abort,
+    notes: &mut Vec<usize>,
+    context: &Context<'_>,
+    connection: Connection,
+) {
+    note_address(rt, notes, context.symbol(connection, b"own"));
+    note_address(rt, notes, context.main(connection));
+    note_section(rt, notes, context.section(connection, 0));
+    note_order(rt, notes, context.init_order(connection));
+    note_order(rt, notes, context.fragments(connection));
 }
 
-fn tell_entries(rt: &impl Abort, text: &mut String, context: &Context<'_>, position: usize) {
+/// Notes what is reported about a fragment, and about its entry points in the first connection.
+fn note_fragment(rt: &impl Abort, notes: &mut Vec<usize>, context: &Context<'_>, position: usize) {
+    note(rt, notes, context.section_count(position));
+    note_section(rt, notes, context.fragment_section(position, 0));
     let Some(entries) = context.fragment_entries(Connection(0), position) else {
         return;
     };
     for entry in [entries.init, entries.main, entries.term] {
-        let address = entry.unwrap_or(0);
-        write!(text, " {address:08X}").expect(rt, "memory");
+        note_address(rt, notes, entry);
     }
+}
+
+fn note_section(rt: &impl Abort, notes: &mut Vec<usize>, section: Option<(u32, &[u8])>) {
+    let Some((address, bytes)) = section else {
+        return;
+    };
+    note(rt, notes, address as usize);
+    for byte in bytes {
+        note(rt, notes, usize::from(*byte));
+    }
+}
+
+fn note_order(rt: &impl Abort, notes: &mut Vec<usize>, order: Option<&[usize]>) {
+    for position in order.unwrap_or(&[]) {
+        note(rt, notes, *position);
+    }
+}
+
+fn note_address(rt: &impl Abort, notes: &mut Vec<usize>, address: Option<u32>) {
+    note(rt, notes, address.unwrap_or(0) as usize);
+}
+
+fn note(rt: &impl Abort, notes: &mut Vec<usize>, number: usize) {
+    notes.push(number).expect(rt, "memory");
 }
 
 /// Prepares the second of two fragments after the first, and once more if an allocation fails.
@@ -59,28 +83,24 @@ fn prepare_again(
     rt: &(impl Abort + Print),
     alloc: Global,
     fragments: &[Fragment],
-    wanted: &str,
 ) -> Result<(), Fail> {
     let containers = containers(alloc, fragments).ok_or("no containers")?;
     let mut context = context_of(rt, alloc, fragments, &containers, LIMIT);
     assert!(rt; prepared(&mut context, b"A") == Ok(0));
-    prepare_second(rt, alloc, &mut context)?;
-    test_reported(rt, alloc, &context, 1, wanted);
-    Ok(())
+    prepare_second(rt, alloc, &mut context)
 }
 
-/// Prepares the second fragment, and tests that the readers report the same about the first as before.
+/// Prepares the second fragment. It lies after the first one.
 fn prepare_second(
     rt: &(impl Abort + Print),
     alloc: Global,
     context: &mut Context<'_>,
 ) -> Result<(), Fail> {
-    let first = told(rt, alloc, context, Connection(0));
-    let before = all_reported(rt, alloc, context);
+    let before = reported(rt, alloc, context);
     say_begins(rt)?;
     let refused = prepare_until_answered(rt, alloc, context, &before);
     say_answered(rt, refused)?;
-    test_reported(rt, alloc, context, 0, &first);
+    test_firsts(rt, context, &[A, B, L]);
     Ok(())
 }
 
@@ -89,12 +109,12 @@ fn prepare_until_answered(
     rt: &impl Abort,
     alloc: Global,
     context: &mut Context<'_>,
-    before: &str,
+    before: &[usize],
 ) -> bool {
     let mut answer = prepared(context, b"B");
     let refused = answer == Err(99);
     if refused {
-        assert!(rt; all_reported(rt, alloc, context).as_str() == before);
+        assert!(rt; reported(rt, alloc, context).as_slice() == before);
         answer = prepared(context, b"B");
     }
     assert!(rt; answer == Ok(1));
@@ -105,15 +125,12 @@ fn prepare_until_answered(
 /// this one would have returned.
 #[test]
 fn prepared_again(rt: HostRuntime) -> Result<(), Fail> {
-    let wanted = "no own, no v, no main, 0 at 00010020 00010000, no 1, order 2 1, order 2 1";
-    prepare_again(&rt, rt.alloc(), FRAGMENTS, wanted)
+    prepare_again(&rt, rt.alloc(), USERS)
 }
 
 #[test]
 fn rich_prepared_again(rt: HostRuntime) -> Result<(), Fail> {
-    let wanted =
-        "own 00010020, no v, main 00010020, 0 at 00010020 00010000, no 1, order 2 1, order 2 1";
-    prepare_again(&rt, rt.alloc(), RICH_FRAGMENTS, wanted)
+    prepare_again(&rt, rt.alloc(), RICH_FRAGMENTS)
 }
 
 /// A fragment that names a library, a weak one and another one, of which the first alone is there.

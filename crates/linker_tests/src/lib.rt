@@ -1,11 +1,7 @@
-//! Tests of scripts and of the linker, a file for each library, a table for each call. They go through public calls. The
-//! expected values come from the format's documents and worked examples, never from the program.
+//! Worked rows of scripts and of the linker, and calls in which an allocation fails. They go through public calls. The expected
+//! values come from the format's documents and worked examples, never from the program. `cases/` has many more.
 #![tactic(auto)]
 
-#[cfg(test)]
-mod places;
-#[cfg(test)]
-mod programs;
 #[cfg(test)]
 mod refused;
 #[cfg(test)]

@@ -18,7 +18,7 @@ walks bytes (at ∷ places) text tally last are =
     let here = are.2 in
     let next = tallied tally (rest_from bytes at) here.row in
     let others = walks bytes places are.1 next last are.3 in
-    (others.0, (are.0, next, are.1, record { row = here.row; is = here.is; printed = here.printed; counted = refl }, others.1, are.4), others.2)
+    (others.0, (are.0, next, are.1, record { row = here.row; is = here.is.is; printed = here.printed; counted = refl }, others.1, are.4), others.2)
 
 pub parts_join : PartsJoin
 parts_join path bytes other containers last are =

@@ -13,5 +13,5 @@ mod turn;
 
 pub use file::FileReport;
 pub use parts::ReportPart;
-pub use theorems::parts_join;
+pub use theorems::{parts_join, reports_without_errors_are_right};
 pub use turn::Turn;

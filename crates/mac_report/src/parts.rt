@@ -2,11 +2,12 @@
 ghost use Rattle.std.specs.Prelude.{◌≡◌, IfOk, List, OnOk, ℕ, option_map};
 ghost use Rattle.pef_ports.specs.Sent.{Prints};
 ghost use Rattle.mac_rows.specs.Views.{data_file_seen};
-ghost use Rattle.mac_report.specs.Parts.{IsContainerText, IsExcerpt, IsPartText};
+ghost use Rattle.mac_report.specs.Parts.{IsContainerText, IsExcerpt, IsKnown, IsPartText};
 ghost use Rattle.mac_report.specs.Reports.{found_of, json_end};
+ghost use Rattle.mac_report.specs.Views.{row_seen};
 
 use crate::file::{FileReport, FoundIn, print_json_end};
-use crate::row::read_row;
+use crate::row::{Row, read_row};
 use crate::turn::Turn;
 use cfm_members::Contents;
 use mac_rows::{DataFile, OutputFormat};
@@ -63,8 +64,7 @@ impl<'a> ReportPart<'a> {
     ///
     /// # Errors
     ///
-    /// There is no memory for these bytes or, at the end, for the errors of the file. If there is none to look into a container, its
-    /// object has the error 99.
+    /// There is no memory for these bytes, to look into a container, or, at the end, for the errors of the file.
     pub fn to_bytes<A: Allocator + Copy>(self, alloc: A) -> Result<Vec<u8, A>, StreamFault>
         ensures { IfOk result (λ text. IsPartText self.entry text.items) }
     {
@@ -156,8 +156,7 @@ fn print_container<A: Allocator + Copy, W: Sink>(
 ) -> Result<(), StreamFault>
     ensures { OnOk result ((text : List ℕ) × IsContainerText container.entry.bytes.now container.entry.turn container.entry.place text × Prints (W.stream out.old) (W.stream out.new) page.old.items page.new.items text) }
 {
-    let contents = Contents::of(container.bytes);
-    let row = read_row(alloc, contents, container.place, container.turn);
+    let row = known_row(alloc, container)?;
     row.print(
         out,
         page,
@@ -176,9 +175,23 @@ fn print_excerpt<A: Allocator + Copy, W: Sink>(
 ) -> Result<(), StreamFault>
     ensures { OnOk result ((text : List ℕ) × IsExcerpt container.entry.bytes.now container.entry.turn container.entry.place most text × Prints (W.stream out.old) (W.stream out.new) page.old.items page.new.items text) }
 {
+    let row = known_row(alloc, container)?;
+    row.print_excerpt(out, page, most)
+}
+
+/// Inspects a container, unless an allocation fails.
+fn known_row<'a, A: Allocator + Copy>(
+    alloc: A,
+    container: ContainerAt<'a>,
+) -> Result<Row<'a, A>, StreamFault>
+    ensures { IfOk result (λ row. IsKnown container.entry.bytes.now container.entry.turn container.entry.place (row_seen row)) }
+{
     let contents = Contents::of(container.bytes);
     let row = read_row(alloc, contents, container.place, container.turn);
-    row.print_excerpt(out, page, most)
+    if row.is_lacking() {
+        return Err(StreamFault);
+    }
+    Ok(row)
 }
 
 /// The end of a report.

@@ -4,7 +4,7 @@ ghost use Rattle.pef_ports.specs.Sent.{Sends};
 ghost use Rattle.pef_report.specs.Views.{inspected};
 ghost use Rattle.pef_rows.specs.Objects.{separator};
 ghost use Rattle.mac_report.specs.Containers.{IsInspected, IsRow, errors_in, inspected_object, inspected_text, lacking_line, lacking_object, lacking_text, notes_in, row_text};
-ghost use Rattle.mac_report.specs.Parts.{excerpt_text};
+ghost use Rattle.mac_report.specs.Parts.{excerpt_text, is_lacking};
 ghost use Rattle.mac_report.specs.Views.{row_seen};
 
 use crate::turn::Turn;
@@ -86,8 +86,17 @@ impl<'a, A: Allocator + Copy> Row<'a, A> {
     {
         match self {
             Row::Inspected(inspection) => inspection.print_excerpt(out, page, most),
-            Row::Lacking(at) => print_lacking_fields(out, page, *at),
-            Row::Skipped => print_tokens(out, page, &[]),
+            Row::Lacking(_) | Row::Skipped => print_tokens(out, page, &[]),
+        }
+    }
+
+    /// Returns whether an allocation failed.
+    pub(crate) fn is_lacking(&self) -> bool
+        ensures { result ≡ is_lacking (row_seen self.now) }
+    {
+        match self {
+            Row::Lacking(_) => true,
+            Row::Inspected(_) | Row::Skipped => false,
         }
     }
 

@@ -12,9 +12,9 @@ use Rattle.cfm_members.specs.Members.{MemberIs, all_members}
 use Rattle.cfm_members.specs.declared.fault.MemberFault.{MemberFault}
 use Rattle.cfm_members.specs.declared.file_kind.FileKind.{FileKind}
 use Rattle.cfm_members.specs.declared.file_kind.FileKind.TheVariants.{Container}
-use Rattle.cfm_members.specs.declared.member_lookup_fault.MemberLookupFault.TheVariants.{Fork, Resource, Member, NoContainer}
+use Rattle.cfm_members.specs.declared.member_lookup_fault.MemberLookupFault.TheVariants.{Fork, Resource, Member}
 use Rattle.mac_rows.specs.DataFiles.{DataFileIs, members_fork}
-use Rattle.mac_rows.specs.MacParts.{MemberTableIs, PlaceIs, WrappingIs, elsewhere, lying, member_table_of, missing, place_of, resources_in, wrapping_of}
+use Rattle.mac_rows.specs.MacParts.{MemberTableIs, PlaceIs, WrappingIs, elsewhere, lying, member_table_of, missing, no_container, place_of, resources_in, wrapping_of}
 use Rattle.mac_rows.specs.declared.file_finding.FileFinding.{FileFinding}
 use Rattle.mac_rows.specs.declared.file_finding.FileFinding.TheVariants.{Error}
 use Rattle.mac_rows.specs.declared.member_table.FileError.{FileError}
@@ -22,17 +22,17 @@ use Rattle.mac_rows.specs.declared.member_table.FileError.{FileError}
 -- the error of the header of a file or of its rows of entries, and of the entry of a fork
 abbrev pub header_faults : Option ForkFault → List FileFinding
 header_faults None = []
-header_faults (Some fault) = Error (record { fault = Fork fault; base = 0 }) ∷ []
+header_faults (Some fault) = Error (record { fault = Fork fault; base = 0; member = None }) ∷ []
 
 abbrev pub entry_faults : Option (Result Lying ForkFault) → List FileFinding
 entry_faults None = []
 entry_faults (Some (Ok part)) = []
-entry_faults (Some (Err fault)) = Error (record { fault = Fork fault; base = 0 }) ∷ []
+entry_faults (Some (Err fault)) = Error (record { fault = Fork fault; base = 0; member = None }) ∷ []
 
 -- an error of a resource fork that begins at an offset of the file
 abbrev pub resource_fault_list : ℕ → Option ResourceFault → List FileFinding
 resource_fault_list base None = []
-resource_fault_list base (Some fault) = Error (record { fault = Resource fault; base = base }) ∷ []
+resource_fault_list base (Some fault) = Error (record { fault = Resource fault; base = base; member = None }) ∷ []
 
 -- the errors of a resource: of its row, of its name and of its bytes
 abbrev pub name_fault : Option (Result (List ℕ) ResourceFault) → Option ResourceFault
@@ -55,22 +55,22 @@ resources_faults base (row ∷ rows) = resource_faults base row ++ resources_fau
 -- an error of a table of fragments that begins at an offset of the file
 abbrev pub member_fault_list : ℕ → Option MemberFault → List FileFinding
 member_fault_list base None = []
-member_fault_list base (Some fault) = Error (record { fault = Member fault; base = base }) ∷ []
+member_fault_list base (Some fault) = Error (record { fault = Member fault; base = base; member = None }) ∷ []
 
 -- no container begins where one should be
-abbrev pub none_there : ℕ → FileKind → List FileFinding
-none_there at Container = []
-none_there at kind = Error (record { fault = NoContainer; base = at }) ∷ []
+abbrev pub none_there : MemberTableIs → MemberIs → FileKind → List FileFinding
+none_there t m Container = []
+none_there t m kind = Error (no_container t m) ∷ []
 
-abbrev pub place_faults : PlaceIs → List FileFinding
-place_faults elsewhere = []
-place_faults (missing found) = Error found ∷ []
-place_faults (lying at bytes) = none_there at (kind_of bytes)
+abbrev pub place_faults : MemberTableIs → MemberIs → PlaceIs → List FileFinding
+place_faults t m elsewhere = []
+place_faults t m (missing found) = Error found ∷ []
+place_faults t m (lying at bytes) = none_there t m (kind_of bytes)
 
 -- the errors of a member: of its name, of its size and of its container
 abbrev pub member_faults : MemberTableIs → MemberIs → List FileFinding
 member_faults t m =
-    member_fault_list t.table_base (err m.name) ++ (member_fault_list t.table_base m.fault ++ place_faults (place_of t m))
+    member_fault_list t.table_base (err m.name) ++ (member_fault_list t.table_base m.fault ++ place_faults t m (place_of t m))
 
 abbrev pub row_faults : MemberTableIs → Result MemberIs MemberFault → List FileFinding
 row_faults t (Ok m) = member_faults t m

@@ -38,11 +38,14 @@ member_of (MemberCut member offset) = Some member
 member_of (MemberNameCut member offset) = Some member
 member_of (FragmentOutside member offset) = Some member
 
-abbrev pub error_row : MemberLookupFault → Option ℕ
-error_row (Fork fault) = entry_of fault
-error_row (Resource fault) = None
-error_row (Member fault) = member_of fault
-error_row NoContainer = None
+abbrev pub row_of : Option ℕ → MemberLookupFault → Option ℕ
+row_of member (Fork fault) = entry_of fault
+row_of member (Resource fault) = None
+row_of member (Member fault) = member_of fault
+row_of member NoContainer = member
+
+abbrev pub error_row : FileError → Option ℕ
+error_row found = row_of found.member found.fault
 
 -- the offset in the file of the field
 abbrev pub offset_from : ℕ → MemberLookupFault → Option ℕ

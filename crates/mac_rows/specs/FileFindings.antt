@@ -7,7 +7,7 @@ use Rattle.pef_rows.specs.Objects.{separator}
 use Rattle.pef_rows.specs.Tokens.{number_or_null}
 use Rattle.mac_rows.specs.FileErrors.{error_offset, error_row, part_key}
 use Rattle.mac_rows.specs.declared.file_finding.FileFinding.{FileFinding}
-use Rattle.mac_rows.specs.declared.file_finding.FileFinding.TheVariants.{Error, BytesAfterForks, FragmentShort, DataForkElsewhere, NotUnpacked}
+use Rattle.mac_rows.specs.declared.file_finding.FileFinding.TheVariants.{Error, BytesAfterForks, FragmentShort, DataForkElsewhere, NotUnpacked, FragmentArchitecture, FragmentUsage}
 use Rattle.mac_rows.specs.declared.file_finding.OtherFormat.{OtherFormat}
 use Rattle.mac_rows.specs.declared.file_finding.OtherFormat.TheVariants.{StuffIt, CompactPro, BinHex, Zip, DiskCopy, Hfs, HfsPlus, PartitionMap, Iso9660}
 use Rattle.mac_rows.specs.declared.output_format.OutputFormat.{OutputFormat}
@@ -25,6 +25,8 @@ finding_number (BytesAfterForks at len) = 117
 finding_number (FragmentShort at member len) = 118
 finding_number (DataForkElsewhere at member) = 119
 finding_number (NotUnpacked at format) = 120
+finding_number (FragmentArchitecture at member) = 122
+finding_number (FragmentUsage at member) = 123
 
 abbrev pub finding_name : FileFinding → List ℕ
 finding_name (Error found) = member_lookup_fault_name found.fault
@@ -32,6 +34,8 @@ finding_name (BytesAfterForks at len) = codes "BytesAfterForks"
 finding_name (FragmentShort at member len) = codes "FragmentShort"
 finding_name (DataForkElsewhere at member) = codes "DataForkElsewhere"
 finding_name (NotUnpacked at format) = codes "NotUnpacked"
+finding_name (FragmentArchitecture at member) = codes "FragmentArchitecture"
+finding_name (FragmentUsage at member) = codes "FragmentUsage"
 
 abbrev pub finding_part : FileFinding → List ℕ
 finding_part (Error found) = part_key found.fault
@@ -39,13 +43,17 @@ finding_part (BytesAfterForks at len) = codes "fork"
 finding_part (FragmentShort at member len) = codes "fragment"
 finding_part (DataForkElsewhere at member) = codes "fragment"
 finding_part (NotUnpacked at format) = codes "fork"
+finding_part (FragmentArchitecture at member) = codes "fragment"
+finding_part (FragmentUsage at member) = codes "fragment"
 
 abbrev pub finding_row : FileFinding → Option ℕ
-finding_row (Error found) = error_row found.fault
+finding_row (Error found) = error_row found
 finding_row (BytesAfterForks at len) = None
 finding_row (FragmentShort at member len) = Some member
 finding_row (DataForkElsewhere at member) = Some member
 finding_row (NotUnpacked at format) = None
+finding_row (FragmentArchitecture at member) = Some member
+finding_row (FragmentUsage at member) = Some member
 
 abbrev pub finding_offset : FileFinding → Option ℕ
 finding_offset (Error found) = error_offset found
@@ -53,6 +61,8 @@ finding_offset (BytesAfterForks at len) = Some at
 finding_offset (FragmentShort at member len) = Some at
 finding_offset (DataForkElsewhere at member) = Some at
 finding_offset (NotUnpacked at format) = Some at
+finding_offset (FragmentArchitecture at member) = Some at
+finding_offset (FragmentUsage at member) = Some at
 
 -- a format in one word, and a program that opens it
 abbrev pub format_word : OtherFormat → List ℕ
@@ -84,6 +94,8 @@ finding_tail (BytesAfterForks at len) = codes " length " ++ decimal len
 finding_tail (FragmentShort at member len) = codes " length " ++ decimal len
 finding_tail (DataForkElsewhere at member) = []
 finding_tail (NotUnpacked at format) = codes " format " ++ (format_word format ++ (codes " open " ++ opener_word format))
+finding_tail (FragmentArchitecture at member) = []
+finding_tail (FragmentUsage at member) = []
 
 unfoldable pub format_members : OtherFormat → List ℕ
 format_members format = codes ",\"format\":\"" ++ format_word format ++ codes "\",\"open\":\"" ++ opener_word format ++ codes "\""
@@ -94,6 +106,8 @@ finding_members (BytesAfterForks at len) = codes ",\"length\":" ++ decimal len
 finding_members (FragmentShort at member len) = codes ",\"length\":" ++ decimal len
 finding_members (DataForkElsewhere at member) = []
 finding_members (NotUnpacked at format) = format_members format
+finding_members (FragmentArchitecture at member) = []
+finding_members (FragmentUsage at member) = []
 
 abbrev pub finding_word : FileFinding → List ℕ
 finding_word (Error found) = codes "error "

@@ -1,5 +1,6 @@
 -- What is odd about a file besides its containers, and breaks no rule: bytes after the forks of MacBinary, fragments that don't
--- hold their container, or whose data fork isn't there, and files of other formats, which aren't unpacked. Which oddities are
+-- hold their container, whose data fork isn't there, whose architecture isn't that of their container, or whose codes no table has,
+-- and files of other formats, which aren't unpacked. Which oddities are
 -- noted, and by which bytes a format is recognised, is this project's own.
 use Rattle.std.specs.Prelude.{ℕ, ◌+◌, ◌-◌, ◌==◌, ◌&&◌, ◌||◌, Bool, List, [], ◌∷◌, ◌++◌, Option, None, Some, Result, Ok, Err, codes, drop, length, nat_le, nat_lt, take, if◌then◌else◌}
 use Rattle.std.specs.Option.{unwrap_or}
@@ -7,8 +8,11 @@ use Rattle.std.specs.Str.{bytes_eq}
 use Rattle.pef_words.specs.Bytes.{number_at}
 use Rattle.mac_forks.specs.Parts.{Lying}
 use Rattle.cfm_members.specs.Contents.{readable}
+use Rattle.cfm_members.specs.Kinds.{kind_of}
 use Rattle.cfm_members.specs.Members.{MemberIs, all_members, locator_of}
 use Rattle.cfm_members.specs.declared.fault.MemberFault.{MemberFault}
+use Rattle.cfm_members.specs.declared.file_kind.FileKind.{FileKind}
+use Rattle.cfm_members.specs.declared.file_kind.FileKind.TheVariants.{Container}
 use Rattle.cfm_members.specs.declared.member.Locator.{Locator}
 use Rattle.cfm_members.specs.declared.member.Locator.TheVariants as locator
 use Rattle.pef_views.specs.Partial.{partial_of}
@@ -17,7 +21,7 @@ use Rattle.mac_rows.specs.DataFiles.{DataFileIs, member_table_in}
 use Rattle.mac_rows.specs.MacParts.{MemberTableIs, PlaceIs, WrappingIs, elsewhere, lying, missing, place_of, wrapping_of}
 use Rattle.mac_rows.specs.Sums.{up_to}
 use Rattle.mac_rows.specs.declared.file_finding.FileFinding.{FileFinding}
-use Rattle.mac_rows.specs.declared.file_finding.FileFinding.TheVariants.{BytesAfterForks, FragmentShort, DataForkElsewhere, NotUnpacked}
+use Rattle.mac_rows.specs.declared.file_finding.FileFinding.TheVariants.{BytesAfterForks, FragmentShort, DataForkElsewhere, NotUnpacked, FragmentArchitecture, FragmentUsage}
 use Rattle.mac_rows.specs.declared.file_finding.OtherFormat.{OtherFormat}
 use Rattle.mac_rows.specs.declared.file_finding.OtherFormat.TheVariants.{StuffIt, CompactPro, BinHex, Zip, DiskCopy, Hfs, HfsPlus, PartitionMap, Iso9660}
 
@@ -116,9 +120,39 @@ placed_notes t m elsewhere = absent_notes t m (locator_of m.header)
 placed_notes t m (missing found) = []
 placed_notes t m (lying at bytes) = if nat_lt m.member 256 then short_notes t m (needed_of (partial_of bytes)) (length bytes) else []
 
--- the notes on a member
+-- the architecture of a container, if one begins some bytes
+abbrev pub architecture_if : FileKind → List ℕ → Option ℕ
+architecture_if Container bytes = number_at 4 bytes 8
+architecture_if kind bytes = None
+
+abbrev pub architecture_at : PlaceIs → Option ℕ
+architecture_at elsewhere = None
+architecture_at (missing found) = None
+architecture_at (lying at bytes) = architecture_if (kind_of bytes) bytes
+
+-- an architecture of a table is `pwpc`, `m68k` or `????`, which is any
+abbrev pub is_known : ℕ → Bool
+is_known architecture = architecture == 0x7077_7063 || (architecture == 0x6D36_386B || architecture == 0x3F3F_3F3F)
+
+-- .. and that of the container, if there is one
+abbrev pub agrees : ℕ → Option ℕ → Bool
+agrees architecture None = is_known architecture
+agrees architecture (Some own) = architecture == own || architecture == 0x3F3F_3F3F
+
+abbrev pub architecture_notes : MemberTableIs → MemberIs → Option ℕ → List FileFinding
+architecture_notes t m own =
+    if agrees m.header.architecture own then [] else FragmentArchitecture (member_offset t m) m.member ∷ []
+
+-- a usage that the format doesn't name: the greatest is 4
+abbrev pub usage_notes : MemberTableIs → MemberIs → List FileFinding
+usage_notes t m = if nat_lt 4 m.header.usage_code then FragmentUsage (member_offset t m) m.member ∷ [] else []
+
+-- all notes on a member whose container is at a place
+abbrev pub all_notes : MemberTableIs → MemberIs → PlaceIs → List FileFinding
+all_notes t m place = placed_notes t m place ++ (architecture_notes t m (architecture_at place) ++ usage_notes t m)
+
 abbrev pub row_notes : MemberTableIs → Result MemberIs MemberFault → List FileFinding
-row_notes t (Ok m) = placed_notes t m (place_of t m)
+row_notes t (Ok m) = all_notes t m (place_of t m)
 row_notes t (Err fault) = []
 
 abbrev pub members_notes : MemberTableIs → List (Result MemberIs MemberFault) → List FileFinding

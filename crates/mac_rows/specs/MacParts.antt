@@ -86,12 +86,16 @@ table_part fork = resource_with fork 0x6366_7267 (pos 0) >>= (λ r. whole r.cont
 abbrev pub member_table_with : Option Lying → ℕ → ForkIs → ℕ → Result TableIs MemberFault → Result MemberTableIs FileError
 member_table_with data_fork base fork table_base (Ok fragments) =
     Ok (record { data_fork = data_fork; fork_base = base; fork = fork; table_base = table_base; fragments = fragments })
-member_table_with data_fork base fork table_base (Err fault) = Err (record { fault = Member fault; base = table_base })
+member_table_with data_fork base fork table_base (Err fault) = Err (record { fault = Member fault; base = table_base; member = None })
 
 -- the table of fragments, or its error; none if there is no resource `cfrg` 0
 abbrev pub member_table_of : Option Lying → ℕ → ForkIs → Option (Result MemberTableIs FileError)
 member_table_of data_fork base fork =
     table_part fork >>= (λ part. Some (member_table_with data_fork base fork (up_to (base + part.offset)) (table_of part.bytes)))
+
+-- the error of a member whose container isn't there. It is at the member
+abbrev pub no_container : MemberTableIs → MemberIs → FileError
+no_container t m = record { fault = NoContainer; base = up_to (t.table_base + m.offset); member = Some m.member }
 
 -- where the container of a member is: the table doesn't say, or not in the files at hand. Or it isn't there, an error. Or it
 -- is at an offset of the file that has its fork, with these bytes
@@ -104,7 +108,7 @@ pub data PlaceIs : Type 0 where
 abbrev pub place_in_data : MemberTableIs → ℕ → Option (Result Lying MemberFault) → PlaceIs
 place_in_data t offset None = elsewhere
 place_in_data t offset (Some (Ok part)) = lying (up_to (offset + part.offset)) part.bytes
-place_in_data t offset (Some (Err fault)) = missing (record { fault = Member fault; base = t.table_base })
+place_in_data t offset (Some (Err fault)) = missing (record { fault = Member fault; base = t.table_base; member = None })
 
 abbrev pub data_place : MemberTableIs → MemberIs → Option Lying → PlaceIs
 data_place t m None = elsewhere
@@ -116,7 +120,7 @@ resource_bytes t (Ok part) = lying (up_to (t.fork_base + part.offset)) part.byte
 resource_bytes t (Err fault) = elsewhere
 
 abbrev pub resource_place : MemberTableIs → MemberIs → Option ResourceIs → PlaceIs
-resource_place t m None = missing (record { fault = NoContainer; base = up_to (t.table_base + m.offset) })
+resource_place t m None = missing (no_container t m)
 resource_place t m (Some r) = resource_bytes t r.contents
 
 abbrev pub place_by : MemberTableIs → MemberIs → Locator → PlaceIs

@@ -83,6 +83,7 @@ fn find_in_header<A: Allocator>(
         found.push(FileFinding::Error(FileError {
             fault: MemberLookupFault::Fork(fault),
             base: 0,
+            member: None,
         }))?;
     }
     Ok(())
@@ -132,6 +133,7 @@ fn add_resource_fault<A: Allocator>(
         found.push(FileFinding::Error(FileError {
             fault: MemberLookupFault::Resource(fault),
             base,
+            member: None,
         }))?;
     }
     Ok(())
@@ -250,6 +252,7 @@ fn add_member_fault<A: Allocator>(
         found.push(FileFinding::Error(FileError {
             fault: MemberLookupFault::Member(fault),
             base,
+            member: None,
         }))?;
     }
     Ok(())
@@ -265,18 +268,20 @@ fn find_in_member<A: Allocator>(
 {
     add_member_fault(member.name.err(), table.table_base, found)?;
     add_member_fault(member.fault, table.table_base, found)?;
-    find_at_place(table.place_of(member), found)?;
+    find_at_place(table, member, table.place_of(member), found)?;
     Ok(())
 }
 
-/// Adds the error of a place where a container should be, and where none begins.
+/// Adds the error of a member at whose place no container begins.
 fn find_at_place<A: Allocator>(
+    table: MemberTable<'_>,
+    member: Member<'_>,
     place: ContainerPlace<'_>,
     found: &mut Vec<FileFinding, A>,
 ) -> Result<(), AllocError>
-    ensures { OnOk result (found.new.items ≡ found.old.items ++ place_faults (place_seen place.entry)) }
+    ensures { OnOk result (found.new.items ≡ found.old.items ++ place_faults (member_table_seen table.entry) (member_seen member.entry) (place_seen place.entry)) }
 {
-    match place_fault(place) {
+    match place_fault(table, member, place) {
         Some(finding) => {
             found.push(finding)?;
             Ok(())
@@ -285,21 +290,22 @@ fn find_at_place<A: Allocator>(
     }
 }
 
-/// Returns the error of a place where a container should be, and where none begins.
-fn place_fault(place: ContainerPlace<'_>) -> Option<FileFinding>
-    ensures { option_to_list result ≡ place_faults (place_seen place.entry) }
+/// Returns the error of a member at whose place no container begins.
+fn place_fault(
+    table: MemberTable<'_>,
+    member: Member<'_>,
+    place: ContainerPlace<'_>,
+) -> Option<FileFinding>
+    ensures { option_to_list result ≡ place_faults (member_table_seen table.entry) (member_seen member.entry) (place_seen place.entry) }
 {
     match place {
         ContainerPlace::Elsewhere => None,
         ContainerPlace::Missing(found) => Some(FileFinding::Error(found)),
-        ContainerPlace::Lying { at, bytes } => {
+        ContainerPlace::Lying { bytes, .. } => {
             if matches!(FileKind::of(bytes), FileKind::Container) {
                 return None;
             }
-            Some(FileFinding::Error(FileError {
-                fault: MemberLookupFault::NoContainer,
-                base: at,
-            }))
+            Some(FileFinding::Error(table.no_container(member)))
         }
     }
 }

@@ -20,12 +20,13 @@ impl FileError {
 
     /// Returns the number of the entry or the member that the error is about.
     pub(crate) fn row(self) -> Option<u64>
-        ensures { result ≡ error_row self.fault }
+        ensures { result ≡ error_row self }
     {
         match self.fault {
             MemberLookupFault::Fork(fault) => entry_of(fault),
             MemberLookupFault::Member(fault) => member_of(fault),
-            MemberLookupFault::Resource(_) | MemberLookupFault::NoContainer => None,
+            MemberLookupFault::Resource(_) => None,
+            MemberLookupFault::NoContainer => self.member,
         }
     }
 

@@ -23,6 +23,10 @@ pub enum FileFinding {
     DataForkElsewhere { at: u64, member: u64 },
     /// The data fork is in another format, and isn't unpacked.
     NotUnpacked { at: u64, format: OtherFormat },
+    /// The architecture of a member isn't that of its container, or is none that there is.
+    FragmentArchitecture { at: u64, member: u64 },
+    /// The usage of a member is a code that the format doesn't name.
+    FragmentUsage { at: u64, member: u64 },
 }
 
 /// A format that is recognised and not read.
@@ -69,6 +73,8 @@ impl FileFinding {
             FileFinding::FragmentShort { .. } => 118,
             FileFinding::DataForkElsewhere { .. } => 119,
             FileFinding::NotUnpacked { .. } => 120,
+            FileFinding::FragmentArchitecture { .. } => 122,
+            FileFinding::FragmentUsage { .. } => 123,
         }
     }
 
@@ -82,6 +88,8 @@ impl FileFinding {
             FileFinding::FragmentShort { .. } => "FragmentShort",
             FileFinding::DataForkElsewhere { .. } => "DataForkElsewhere",
             FileFinding::NotUnpacked { .. } => "NotUnpacked",
+            FileFinding::FragmentArchitecture { .. } => "FragmentArchitecture",
+            FileFinding::FragmentUsage { .. } => "FragmentUsage",
         }
     }
 
@@ -92,8 +100,10 @@ impl FileFinding {
         match self {
             FileFinding::Error(found) => found.part(),
             FileFinding::BytesAfterForks { .. } | FileFinding::NotUnpacked { .. } => b"fork",
-            FileFinding::FragmentShort { .. } | FileFinding::DataForkElsewhere { .. } =>
-                b"fragment",
+            FileFinding::FragmentShort { .. }
+            | FileFinding::DataForkElsewhere { .. }
+            | FileFinding::FragmentArchitecture { .. }
+            | FileFinding::FragmentUsage { .. } => b"fragment",
         }
     }
 
@@ -105,7 +115,9 @@ impl FileFinding {
             FileFinding::Error(found) => found.row(),
             FileFinding::BytesAfterForks { .. } | FileFinding::NotUnpacked { .. } => None,
             FileFinding::FragmentShort { member, .. }
-            | FileFinding::DataForkElsewhere { member, .. } => { Some(member) }
+            | FileFinding::DataForkElsewhere { member, .. }
+            | FileFinding::FragmentArchitecture { member, .. }
+            | FileFinding::FragmentUsage { member, .. } => Some(member),
         }
     }
 
@@ -118,7 +130,9 @@ impl FileFinding {
             FileFinding::BytesAfterForks { at, .. }
             | FileFinding::FragmentShort { at, .. }
             | FileFinding::DataForkElsewhere { at, .. }
-            | FileFinding::NotUnpacked { at, .. } => Some(at),
+            | FileFinding::NotUnpacked { at, .. }
+            | FileFinding::FragmentArchitecture { at, .. }
+            | FileFinding::FragmentUsage { at, .. } => Some(at),
         }
     }
 
@@ -131,7 +145,9 @@ impl FileFinding {
             FileFinding::BytesAfterForks { .. }
             | FileFinding::FragmentShort { .. }
             | FileFinding::DataForkElsewhere { .. }
-            | FileFinding::NotUnpacked { .. } => b"note ",
+            | FileFinding::NotUnpacked { .. }
+            | FileFinding::FragmentArchitecture { .. }
+            | FileFinding::FragmentUsage { .. } => b"note ",
         }
     }
 
@@ -211,9 +227,10 @@ impl FileFinding {
                     &[Token::Text(b" length "), Token::Number(length)],
                 )
             }
-            FileFinding::Error(_) | FileFinding::DataForkElsewhere { .. } => {
-                print_tokens(out, page, &[])
-            }
+            FileFinding::Error(_)
+            | FileFinding::DataForkElsewhere { .. }
+            | FileFinding::FragmentArchitecture { .. }
+            | FileFinding::FragmentUsage { .. } => print_tokens(out, page, &[]),
             FileFinding::NotUnpacked { format, .. } => print_tokens(
                 out,
                 page,
@@ -272,9 +289,10 @@ impl FileFinding {
                     &[Token::Text(b",\"length\":"), Token::Number(length)],
                 )
             }
-            FileFinding::Error(_) | FileFinding::DataForkElsewhere { .. } => {
-                print_tokens(out, page, &[])
-            }
+            FileFinding::Error(_)
+            | FileFinding::DataForkElsewhere { .. }
+            | FileFinding::FragmentArchitecture { .. }
+            | FileFinding::FragmentUsage { .. } => print_tokens(out, page, &[]),
             FileFinding::NotUnpacked { format, .. } => format.print_members(out, page),
         }
     }

@@ -5,19 +5,28 @@ ghost use Rattle.pef_words.specs.Bytes.{number_at};
 ghost use Rattle.mac_forks.specs.Views.{part_seen};
 ghost use Rattle.cfm_members.specs.Members.{all_members, locator_of};
 ghost use Rattle.cfm_members.specs.Views.{member_seen, row_seen as member_row};
-ghost use Rattle.mac_rows.specs.FileNotes.{absent_notes, after_notes, format_notes, format_of, has_text, image_of, is_bin_hex, is_compact_pro, is_disk_copy, is_hfs, is_hfs_plus, is_iso_9660, is_partition_map, is_stuffit, is_zip, member_offset, members_notes, notes_of, number_of, placed_notes, row_notes, short_notes, table_notes, unpacked_in, volume_of};
+ghost use Rattle.mac_rows.specs.FileNotes.{absent_notes, after_notes, agrees, all_notes, architecture_at, architecture_notes, format_notes, format_of, has_text, image_of, is_bin_hex, is_compact_pro, is_disk_copy, is_hfs, is_hfs_plus, is_iso_9660, is_partition_map, is_stuffit, is_zip, member_offset, members_notes, notes_of, number_of, placed_notes, row_notes, short_notes, table_notes, unpacked_in, usage_notes, volume_of};
 ghost use Rattle.mac_rows.specs.Views.{data_file_seen, member_table_seen, place_seen};
 
 use crate::data_file::{DataFile, member_table_in};
 use crate::file_finding::{FileFinding, OtherFormat};
 use crate::member_table::{ContainerPlace, MemberTable};
 use crate::wrapping::Wrapping;
-use cfm_members::{Locator, Member, MemberFault, readable};
+use cfm_members::{FileKind, Locator, Member, MemberFault, readable};
 use mac_forks::ForkBytes;
-use pef_format::layout::CONTAINER_HEADER_SIZE;
+use pef_format::layout::{ARCHITECTURE_AT, CONTAINER_HEADER_SIZE, POWERPC};
 use pef_report::needed;
 use pef_words::Cut;
 use std::alloc::{AllocError, Allocator};
+
+/// The architecture of CFM-68K, `m68k`.
+const CFM_68K: u32 = 0x6D36_386B;
+
+/// `????` in a table of fragments: any architecture.
+const ANY: u32 = 0x3F3F_3F3F;
+
+/// The greatest code of a usage (kWeakStubLibraryCFrag).
+const GREATEST_USAGE: u8 = 4;
 
 /// How many members are measured. A table can have 65,535, all at one container with as many sections.
 const MOST_MEASURED: u16 = 256;
@@ -119,19 +128,97 @@ fn add_in_members<A: Allocator>(
     ensures { OnOk result (notes.new.items ≡ notes.old.items ++ members_notes (member_table_seen table.entry) (all_members (member_table_seen table.entry).fragments)) }
 {
     for row in table.fragments.members() {
-        add_some(row_note(table, row), notes)?;
+        add_in_row(table, row, notes)?;
     }
     Ok(())
 }
 
-/// Returns the note on a row of a table of fragments.
-fn row_note(table: MemberTable<'_>, row: Result<Member<'_>, MemberFault>) -> Option<FileFinding>
-    ensures { option_to_list result ≡ row_notes (member_table_seen table.entry) (member_row row.entry) }
+/// Adds the notes on a row of a table of fragments.
+fn add_in_row<A: Allocator>(
+    table: MemberTable<'_>,
+    row: Result<Member<'_>, MemberFault>,
+    notes: &mut Vec<FileFinding, A>,
+) -> Result<(), AllocError>
+    ensures { OnOk result (notes.new.items ≡ notes.old.items ++ row_notes (member_table_seen table.entry) (member_row row.entry)) }
 {
     match row {
-        Ok(member) => placed_note(table, member, table.place_of(member)),
-        Err(_) => None,
+        Ok(member) => add_placed(table, member, table.place_of(member), notes),
+        Err(_) => Ok(()),
     }
+}
+
+/// Adds the notes on a member whose container is at a place.
+fn add_placed<A: Allocator>(
+    table: MemberTable<'_>,
+    member: Member<'_>,
+    place: ContainerPlace<'_>,
+    notes: &mut Vec<FileFinding, A>,
+) -> Result<(), AllocError>
+    ensures { OnOk result (notes.new.items ≡ notes.old.items ++ all_notes (member_table_seen table.entry) (member_seen member.entry) (place_seen place.entry)) }
+{
+    add_some(placed_note(table, member, place), notes)?;
+    add_some(
+        architecture_note(table, member, architecture_at(place)),
+        notes,
+    )?;
+    add_some(usage_note(table, member), notes)?;
+    Ok(())
+}
+
+/// Returns the architecture of the container at a place, if one is there.
+fn architecture_at(place: ContainerPlace<'_>) -> Option<u32>
+    ensures { result ≡ architecture_at (place_seen place.entry) }
+{
+    match place {
+        ContainerPlace::Lying { bytes, .. } => {
+            if matches!(FileKind::of(bytes), FileKind::Container) {
+                Cut::new(bytes).u32_at(ARCHITECTURE_AT)
+            } else {
+                None
+            }
+        }
+        ContainerPlace::Elsewhere | ContainerPlace::Missing(_) => None,
+    }
+}
+
+/// Returns the note on a member whose architecture isn't that of its container, or is none that there is.
+fn architecture_note(
+    table: MemberTable<'_>,
+    member: Member<'_>,
+    own: Option<u32>,
+) -> Option<FileFinding>
+    ensures { option_to_list result ≡ architecture_notes (member_table_seen table.entry) (member_seen member.entry) own }
+{
+    if agrees(member.header.architecture, own) {
+        return None;
+    }
+    Some(FileFinding::FragmentArchitecture {
+        at: member_offset(table, member),
+        member: u64::from(member.member),
+    })
+}
+
+/// Returns whether an architecture of a table is that of the container, or one that there is.
+fn agrees(architecture: u32, own: Option<u32>) -> bool
+    ensures { result ≡ agrees architecture own }
+{
+    match own {
+        Some(own) => architecture == own || architecture == ANY,
+        None => architecture == POWERPC || architecture == CFM_68K || architecture == ANY,
+    }
+}
+
+/// Returns the note on a member with a usage that the format doesn't name.
+fn usage_note(table: MemberTable<'_>, member: Member<'_>) -> Option<FileFinding>
+    ensures { option_to_list result ≡ usage_notes (member_table_seen table.entry) (member_seen member.entry) }
+{
+    if member.header.usage_code <= GREATEST_USAGE {
+        return None;
+    }
+    Some(FileFinding::FragmentUsage {
+        at: member_offset(table, member),
+        member: u64::from(member.member),
+    })
 }
 
 /// Returns the note on a member whose container is at a place.

@@ -4,7 +4,7 @@ ghost use Rattle.pef_words.specs.Refusals.{result_map};
 ghost use Rattle.mac_forks.specs.Views.{part_seen};
 ghost use Rattle.mac_resources.specs.Views.{fork_seen, resource_seen};
 ghost use Rattle.cfm_members.specs.Views.{member_seen};
-ghost use Rattle.mac_rows.specs.MacParts.{data_place, member_table_of, place_of, resource_place, table_part};
+ghost use Rattle.mac_rows.specs.MacParts.{data_place, member_table_of, no_container, place_of, resource_place, table_part};
 ghost use Rattle.mac_rows.specs.Sums.{up_to};
 ghost use Rattle.mac_rows.specs.Views.{member_table_seen, place_seen};
 
@@ -23,6 +23,8 @@ pub struct FileError {
     pub fault: MemberLookupFault,
     /// The offset in the file from which the error's offset counts.
     pub base: u64,
+    /// The number of the member whose container isn't there.
+    pub member: Option<u64>,
 }
 
 /// The table of fragments of a file, with the forks that its members are looked up in.
@@ -72,6 +74,7 @@ impl<'a> MemberTable<'a> {
             Err(fault) => Some(Err(FileError {
                 fault: MemberLookupFault::Member(fault),
                 base: table_base,
+                member: None,
             })),
         }
     }
@@ -90,6 +93,17 @@ impl<'a> MemberTable<'a> {
         }
     }
 
+    /// Returns the error of a member whose container isn't there. It is at the member.
+    pub(crate) fn no_container(self, member: Member<'_>) -> FileError
+        ensures { result ≡ no_container (member_table_seen self.entry) (member_seen member.entry) }
+    {
+        FileError {
+            fault: MemberLookupFault::NoContainer,
+            base: self.table_base.saturating_add(member.offset as u64),
+            member: Some(u64::from(member.member)),
+        }
+    }
+
     /// Returns where the container of a member is, which is in the data fork.
     fn data_place(self, member: Member<'_>) -> ContainerPlace<'a>
         ensures { place_seen result ≡ data_place (member_table_seen self.entry) (member_seen member.entry) (member_table_seen self.entry).data_fork }
@@ -105,6 +119,7 @@ impl<'a> MemberTable<'a> {
             Some(Err(fault)) => ContainerPlace::Missing(FileError {
                 fault: MemberLookupFault::Member(fault),
                 base: self.table_base,
+                member: None,
             }),
             None => ContainerPlace::Elsewhere,
         }
@@ -119,10 +134,7 @@ impl<'a> MemberTable<'a> {
         ensures { place_seen result ≡ resource_place (member_table_seen self.entry) (member_seen member.entry) (option_map resource_seen resource.entry) }
     {
         let Some(resource) = resource else {
-            return ContainerPlace::Missing(FileError {
-                fault: MemberLookupFault::NoContainer,
-                base: self.table_base.saturating_add(member.offset as u64),
-            });
+            return ContainerPlace::Missing(self.no_container(member));
         };
         match resource.contents {
             Ok(part) => ContainerPlace::Lying {

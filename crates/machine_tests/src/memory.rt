@@ -1,5 +1,4 @@
-use cfm_memory::{Granule, Memory, MemoryFault, Place};
-use std::alloc::Global;
+use cfm_memory::{Memory, MemoryFault, Place};
 use std::process::Abort;
 
 /// Size, alignment and address of an instance. An address of 0 means the refusal `NoRoom`.
@@ -55,130 +54,12 @@ fn place_below_a_limit(rt: HostRuntime) {
     place_all(&rt, &mut memory, &[(17, 4, 0x1_0000), (0, 4, 0)]);
 }
 
-/// A number, and whether it is a granule. No other call and no program can ask for 0.
-const GRANULES: &[(u32, bool)] = &[(0, false), (16, true), (4_096, true)];
-
+/// A range of 16 bytes keeps an instance out.
 #[test]
-fn granules(rt: HostRuntime) {
-    for (bytes, good) in GRANULES {
-        match Granule::new(*bytes) {
-            Ok(granule) => assert!(rt; *good && granule.bytes() == *bytes, "{bytes}"),
-            Err(fault) => assert!(rt; !*good && fault.number() == 205, "{bytes}"),
-        }
-    }
-    assert!(rt; Granule::least().bytes() == 16);
-}
-
-fn with_pages(rt: &impl Abort, alloc: Global, bytes: u32, limit: u32) -> Memory {
-    match Granule::new(bytes) {
-        Ok(granule) => Memory::with_granule(alloc, limit, granule),
-        Err(fault) => panic!(rt; "{bytes}: {fault}"),
-    }
-}
-
-/// A range of 16 bytes in a page keeps instances out of that page.
-#[test]
-fn reserve_beside_pages(rt: HostRuntime) {
-    let mut memory = with_pages(&rt, rt.alloc(), 4_096, 0x2_0000);
-    test_place(&rt, &mut memory, (1, 0, 0x1_0000));
-    memory.reserve(0x1_1000, 16).expect(&rt, "room");
-    test_place(&rt, &mut memory, (1, 0, 0x1_2000));
-}
-
-fn placed(rt: &impl Abort, memory: &mut Memory, size: u32, alignment: u8) -> Place {
-    assert!(rt; alignment <= 31);
-    match memory.place(size, alignment) {
-        Ok(place) => place,
-        Err(fault) => panic!(rt; "size {size}, alignment {alignment}: {fault}"),
-    }
-}
-
-/// Places instances of 16, 20 and 0 bytes, and writes to the second.
-fn write_second(rt: &impl Abort, memory: &mut Memory) {
-    placed(rt, memory, 16, 4);
-    let middle = placed(rt, memory, 20, 4);
-    placed(rt, memory, 0, 4);
-    assert!(rt; memory.holds(middle));
-    let part = memory.part_mut(middle);
-    assert!(rt; part.len() == 20);
-    part.fill(7);
-}
-
-/// Returns a memory with instances of 16, 20 and 0 bytes, of which the second is written to.
-fn written(rt: &impl Abort, alloc: Global) -> Memory {
-    let mut memory = Memory::new(alloc, 0x2_0000);
-    write_second(rt, &mut memory);
-    memory
-}
-
-/// Address and size of each instance, and its bytes.
-const HELD: &[(u32, u32, u8)] = &[(0x1_0000, 16, 0), (0x1_0010, 20, 7), (0x1_0030, 0, 0)];
-
-/// Address and size of ranges that aren't instances.
-const NOT_HELD: &[(u32, u32)] = &[(0x1_0000, 20), (0x1_0010, 16), (0x1_0020, 4), (0x1_0040, 0)];
-
-/// Tests that an instance is there, with one byte throughout.
-fn test_part(rt: &impl Abort, memory: &Memory, address: u32, size: u32, byte: u8) {
-    let place = Place { address, size };
-    assert!(rt; memory.holds(place));
-    let part = memory.part(place);
-    assert!(rt; part.len() == size as usize);
-    assert!(rt; part.iter().all(|b| *b == byte), "at {address}");
-}
-
-fn test_held(rt: &impl Abort, memory: &Memory) {
-    for (address, size, byte) in HELD {
-        test_part(rt, memory, *address, *size, *byte);
-    }
-    for row in NOT_HELD {
-        let (address, size) = *row;
-        assert!(rt; !memory.holds(Place { address, size }));
-    }
-}
-
-#[test]
-fn holds_and_part(rt: HostRuntime) {
-    test_held(&rt, &written(&rt, rt.alloc()));
-}
-
-/// Address, length, and the sum of the bytes there, if they lie inside one instance.
-const SUMS: &[(u32, u32, Option<u64>)] = &[
-    (0x1_0000, 16, Some(0)),
-    (0x1_0008, 9, None),
-    (0x1_0010, 20, Some(140)),
-    (0x1_0010, 0, Some(0)),
-    (0x1_0023, 1, Some(7)),
-    (0x1_0024, 0, Some(0)),
-    (0x1_0024, 1, None),
-    (0x1_0025, 0, None),
-    (0x1_0030, 0, Some(0)),
-    (0x1_0030, 1, None),
-    (0x0_FFFF, 1, None),
-    (0xFFFF_FFFF, 0xFFFF_FFFF, None),
-];
-
-/// Returns the sum of some bytes, if they lie inside one instance.
-fn sum_at(memory: &Memory, address: u32, len: u32) -> Option<u64> {
-    let range = memory.at(address, len)?;
-    Some(
-        range
-            .iter()
-            .fold(0u64, |s, b| s.saturating_add(u64::from(*b))),
-    )
-}
-
-fn test_sums(rt: &impl Abort, memory: &Memory) {
-    for (address, len, sum) in SUMS {
-        assert!(rt;
-            sum_at(memory, *address, *len) == *sum,
-            "{len} bytes at {address}"
-        );
-    }
-}
-
-#[test]
-fn at(rt: HostRuntime) {
-    test_sums(&rt, &written(&rt, rt.alloc()));
+fn place_after_a_range(rt: HostRuntime) {
+    let mut memory = Memory::new(rt.alloc(), 0x1_0020);
+    memory.reserve(0x1_0000, 16).expect(&rt, "room");
+    test_place(&rt, &mut memory, (1, 0, 0x1_0010));
 }
 
 /// Returns how many bytes an instance takes.

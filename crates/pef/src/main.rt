@@ -2,13 +2,14 @@
 //! ended is explained on the standard error.
 #![tactic(auto)]
 
+use pef_folders::expanded;
 use pef_ports::system::{DiskFiles, Input, Output};
 use pef_tool::{explain, out_of_memory, perform};
 use std::alloc::AllocError;
 use std::env;
 use std::io::ErrorKind;
 use std::process::ExitCode;
-use std::rt::Env;
+use std::rt::{self, Env};
 
 fn main(rt: HostRuntime) -> ExitCode {
     let alloc = rt.alloc();
@@ -30,9 +31,17 @@ fn main(rt: HostRuntime) -> ExitCode {
     ExitCode::from(outcome.status())
 }
 
-/// Returns the arguments of the command line. If the system can't give them, there are none, and such a
+/// Returns the arguments of the command line, with the files of its folders in their places.
+fn words<R>(rt: &R) -> Result<Vec<String>, AllocError>
+where
+    R: Env + rt::Files + AllocGlobal + Clone + Drop,
+{
+    expanded(rt.alloc(), given_words(rt)?, rt)
+}
+
+/// Returns the arguments of the command line as they were given. If the system can't give them, there are none, and such a
 /// command line is invalid.
-fn words(rt: &(impl Env + AllocGlobal)) -> Result<Vec<String>, AllocError> {
+fn given_words(rt: &(impl Env + AllocGlobal)) -> Result<Vec<String>, AllocError> {
     match env::args(rt) {
         Ok(words) => words.collect(rt.alloc()),
         Err(error) if error.kind() == ErrorKind::OutOfMemory => Err(AllocError),

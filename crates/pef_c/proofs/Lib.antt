@@ -1,4 +1,5 @@
 mod ContainerProofs
 mod ContextProofs
+mod FoundLemmas
 mod Pointers
 mod WalkSteps

@@ -1,7 +1,9 @@
 pub mod Context
 pub mod Exports
+pub mod Lacking
 pub mod Missing
 pub mod NewSections
 pub mod Options
 pub mod PrepareAt
 pub mod Reading
+pub mod Stub

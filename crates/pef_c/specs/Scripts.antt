@@ -1,2 +1,3 @@
+pub mod Distances
 pub mod Link
 pub mod Place

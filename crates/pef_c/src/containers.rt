@@ -14,7 +14,7 @@ mod told;
 pub use container::{pef_header, pef_section, pef_section_name};
 pub use expand::pef_expand;
 pub use findings::{pef_findings, pef_more_notes};
-pub use fixups::pef_fixups;
+pub use fixups::{pef_fixups, pef_partial_fixups};
 pub use loader::pef_loader;
 pub use partial::{
     pef_partial_header, pef_partial_loader, pef_partial_section, pef_partial_section_name,

@@ -5,12 +5,14 @@ mod context;
 mod exports;
 mod fragments;
 mod handle;
+mod lacking;
 mod location;
 mod missing;
 mod new_sections;
 mod options;
 mod prepare_at;
 mod refusal_names;
+mod stub;
 
 pub use connections::{pef_export_address, pef_import_target, pef_new_fragments, pef_released_by};
 pub use context::{
@@ -25,8 +27,10 @@ pub use fragments::{
     pef_fragment_sections, pef_fragment_symbol, pef_fragments, pef_init_order, pef_is_present,
 };
 pub use handle::PefContext;
+pub use lacking::pef_lacking;
 pub use location::pef_at;
 pub use missing::pef_missing;
 pub use new_sections::pef_new_sections;
 pub use options::{PefOptions, pef_open_with, pef_version};
 pub use prepare_at::pef_prepare_at;
+pub use stub::{PefStubOptions, pef_stub};

@@ -1,4 +1,5 @@
-//! Laws: the number of each refusal and of each note has its name. The functions do nothing.
+//! Laws: the number of each refusal and of each note has its name, and the calls that find containers find all. The functions do
+//! nothing.
 ghost use Rattle.std.specs.Prelude.{◌≡◌, Some};
 ghost use Rattle.cfm_memory.specs.Faults.{granule_fault_name, granule_fault_number};
 ghost use Rattle.cfm_prepare.specs.Faults.{add_fault_name, add_fault_number, close_fault_name, close_fault_number, remove_fault_name, remove_fault_number};
@@ -6,9 +7,10 @@ ghost use Rattle.pef_inspect.specs.Findings.{finding_name, finding_number};
 ghost use Rattle.pef_listing.specs.Faults as listing;
 ghost use Rattle.pef_loader.specs.Faults as loader;
 ghost use Rattle.pef_pidata.specs.Faults as pidata;
+ghost use Rattle.pef_refusals.specs.Names.{name_of};
 ghost use Rattle.pef_script.specs.Text.Faults as script;
 ghost use Rattle.pef_views.specs.Faults as views;
-ghost use Rattle.pef_c.specs.Names.{name_of};
+ghost use Rattle.pef_c.specs.Reports.Found.{FoundFollow};
 
 use cfm_memory::GranuleFault;
 use cfm_prepare::{AddFault, CloseFault, RemoveFault};
@@ -56,13 +58,13 @@ pub fn finding_names(finding: Finding)
 {}
 
 /// The number of a fragment's refusal by a context has its name.
-#[tactic(auto, unfolding(pef_refusals::specs::Names::port_name, crate::specs::Names::library_name))]
+#[tactic(auto, unfolding(pef_refusals::specs::Names::port_name, pef_refusals::specs::Names::library_name))]
 pub fn add_names(fault: AddFault)
     ensures { name_of (add_fault_number fault) ≡ Some (add_fault_name fault) }
 {}
 
 /// The number of the refusal of a fragment that isn't removed has its name.
-#[tactic(auto, unfolding(pef_refusals::specs::Names::closure_name, pef_refusals::specs::Names::port_name, crate::specs::Names::library_name))]
+#[tactic(auto, unfolding(pef_refusals::specs::Names::closure_name, pef_refusals::specs::Names::port_name, pef_refusals::specs::Names::library_name))]
 pub fn remove_names(fault: RemoveFault)
     ensures { name_of (remove_fault_number fault) ≡ Some (remove_fault_name fault) }
 {}
@@ -74,7 +76,13 @@ pub fn close_names(fault: CloseFault)
 {}
 
 /// The number of what is no granule has its name.
-#[tactic(auto, unfolding(crate::specs::Names::library_name))]
+#[tactic(auto, unfolding(pef_refusals::specs::Names::library_name))]
 pub fn granule_names(fault: GranuleFault)
     ensures { name_of (granule_fault_number fault) ≡ Some (granule_fault_name fault) }
+{}
+
+/// The containers that are found one after the other are all that a search finds, in its order.
+#[tactic(auto, using(crate::proofs::FoundLemmas::found_follow))]
+pub fn found_containers_follow()
+    ensures { FoundFollow }
 {}

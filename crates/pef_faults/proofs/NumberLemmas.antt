@@ -1,6 +1,6 @@
 -- The number of each error has its name.
 use Rattle.std.proofs.Common.{◌≡◌, ◌∙◌, Some, refl, sym, ap}
-use Rattle.pef_refusals.specs.Names.{closure_name, container_name, loader_name, mac_name, name_of, packed_name, port_name, relocation_name, script_name}
+use Rattle.pef_refusals.specs.Names.{closure_name, container_name, loader_name, mac_name, name_of, packed_name, port_name, relocation_name, script_name, library_name}
 use Rattle.cfm_closure.specs.Faults as bind
 use Rattle.cfm_closure.specs.declared.fault.BindFault.{BindFault}
 use Rattle.cfm_closure.specs.declared.fault.BindFault.TheVariants as bind_fault
@@ -18,10 +18,13 @@ use Rattle.pef_listing.specs.declared.fault.ListFault.{ListFault}
 use Rattle.pef_listing.specs.declared.fault.ListFault.TheVariants as list_fault
 use Rattle.pef_script.specs.declared.text.fault.ScriptFault.{ScriptFault}
 use Rattle.pef_script.specs.declared.text.fault.ScriptFault.TheVariants as script_kind
-use Rattle.pef_faults.specs.Faults.{fault_name, fault_number}
+use Rattle.cfm_stubs.specs.Faults as stubs
+use Rattle.cfm_stubs.specs.declared.fault.StubFault.{StubFault}
+use Rattle.cfm_stubs.specs.declared.fault.StubFault.TheVariants as stub
+use Rattle.pef_faults.specs.Faults.{fault_name, fault_number, stub_number}
 use Rattle.pef_faults.specs.Numbers.{AreNumbered}
 use Rattle.pef_faults.specs.declared.fault.Fault.{Fault}
-use Rattle.pef_faults.specs.declared.fault.Fault.TheVariants.{Script, Listing, Certificate, SectionsDiffer, Input, Prepare, Fragment, Unreadable, Unwritable, OutOfMemory}
+use Rattle.pef_faults.specs.declared.fault.Fault.TheVariants.{Script, Listing, Certificate, SectionsDiffer, Input, Prepare, Fragment, Untold, StoreFull, Stub, Unreadable, Unwritable, OutOfMemory}
 use Rattle.pef_views.specs.Faults as views
 use Rattle.pef_views.specs.declared.fault.ViewFault.{ViewFault}
 use Rattle.pef_views.specs.declared.fault.ViewFault.TheVariants as views_fault
@@ -200,8 +203,18 @@ prepare-named (prepare_fault.TooManyStepsInAll f) = refl
 prepare-named (prepare_fault.Fragment f) = fragment-named f
 prepare-named prepare_fault.OutOfMemory = refl
 
+stub-named : (f : StubFault) → name_of (stub_number f) ≡ Some (stubs.fault_name f)
+unfolding library_name port_name
+stub-named stub.TooManySymbols = refl
+stub-named stub.LongName = refl
+stub-named stub.TooManyNameBytes = refl
+stub-named stub.PastLastNumber = refl
+stub-named stub.UnspellableName = refl
+stub-named stub.TooManyBytes = refl
+stub-named stub.OutOfMemory = refl
+
 named : (f : Fault) → name_of (fault_number f) ≡ Some (fault_name f)
-unfolding fault_name fault_number closure_name port_name
+unfolding fault_name fault_number closure_name port_name library_name
 named (Script fault text) = script-named fault
 named (Listing fault) = listing-named fault
 named (Certificate fault) = certificate-named fault
@@ -209,6 +222,9 @@ named SectionsDiffer = refl
 named (Input fault) = input-named fault
 named (Prepare fault) = prepare-named fault
 named (Fragment fault) = file-named fault
+named (Untold path fault) = file-named fault
+named StoreFull = refl
+named (Stub fault) = stub-named fault
 named (Unreadable path reason) = refl
 named (Unwritable path reason) = refl
 named OutOfMemory = refl

@@ -1,8 +1,9 @@
 ghost use Rattle.std.specs.Prelude.{◌≡◌, option_map};
-ghost use Rattle.pef_faults.specs.Faults.{fault_line, fault_name, fault_number, fault_path, fault_reason};
+ghost use Rattle.pef_faults.specs.Faults.{fault_line, fault_name, fault_number, fault_path, fault_reason, stub_number};
 
 use cfm_members::MemberLookupFault;
 use cfm_prepare::PrepareFault;
+use cfm_stubs::StubFault;
 use pef_cert::CertFault;
 use pef_listing::ListFault;
 use pef_ports::{FileReason, InputFault};
@@ -13,7 +14,10 @@ use std::alloc::{AllocError, AllocFailed};
 #[derive(Clone, Copy, Debug, PartialEq, Eq)]
 pub enum Fault<'a> {
     /// A line of a script with this text is refused.
-    Script { fault: ScriptFault, text: &'a [u8] },
+    Script {
+        fault: ScriptFault,
+        text: &'a [u8],
+    },
     /// A container can't be listed.
     Listing(ListFault),
     /// A line of certificates is refused.
@@ -26,10 +30,25 @@ pub enum Fault<'a> {
     Prepare(PrepareFault<'a>),
     /// The container of a fragment isn't found in a file.
     Fragment(MemberLookupFault),
+    /// The fragments of the file at this path can't be told.
+    Untold {
+        path: &'a [u8],
+        fault: MemberLookupFault,
+    },
+    /// The fragments and their stubs are more than a store can have.
+    StoreFull,
+    /// There is no stub of a library that is missing.
+    Stub(StubFault),
     /// The file at this path couldn't be read, for this reason.
-    Unreadable { path: &'a [u8], reason: FileReason },
+    Unreadable {
+        path: &'a [u8],
+        reason: FileReason,
+    },
     /// The file at this path couldn't be written, for this reason.
-    Unwritable { path: &'a [u8], reason: FileReason },
+    Unwritable {
+        path: &'a [u8],
+        reason: FileReason,
+    },
     /// An allocation failed.
     OutOfMemory,
 }
@@ -47,7 +66,9 @@ impl<'a> Fault<'a> {
             Fault::SectionsDiffer => 52,
             Fault::Input(fault) => fault.number(),
             Fault::Prepare(fault) => fault.number(),
-            Fault::Fragment(fault) => fault.number(),
+            Fault::Fragment(fault) | Fault::Untold { fault, .. } => fault.number(),
+            Fault::StoreFull => 204,
+            Fault::Stub(fault) => stub_number(*fault),
             Fault::Unreadable { .. } => 71,
             Fault::Unwritable { .. } => 72,
             Fault::OutOfMemory => 99,
@@ -66,7 +87,9 @@ impl<'a> Fault<'a> {
             Fault::SectionsDiffer => "SectionsDiffer",
             Fault::Input(fault) => fault.name(),
             Fault::Prepare(fault) => fault.name(),
-            Fault::Fragment(fault) => fault.name(),
+            Fault::Fragment(fault) | Fault::Untold { fault, .. } => fault.name(),
+            Fault::StoreFull => "StoreFull",
+            Fault::Stub(fault) => fault.name(),
             Fault::Unreadable { .. } => "FileUnreadable",
             Fault::Unwritable { .. } => "FileUnwritable",
             Fault::OutOfMemory => "OutOfMemory",
@@ -86,19 +109,24 @@ impl<'a> Fault<'a> {
             | Fault::Input(_)
             | Fault::Prepare(_)
             | Fault::Fragment(_)
+            | Fault::Untold { .. }
+            | Fault::StoreFull
+            | Fault::Stub(_)
             | Fault::Unreadable { .. }
             | Fault::Unwritable { .. }
             | Fault::OutOfMemory => None,
         }
     }
 
-    /// Returns the path of the file that couldn't be read or written.
+    /// Returns the path of the file that couldn't be read or written, or whose fragments can't be told.
     #[tactic(auto, unfolding(crate::specs::Faults::fault_path))]
     pub fn path(&self) -> Option<&'a [u8]>
         ensures { option_map (λ path. path.now) result ≡ fault_path self.now }
     {
         match self {
-            Fault::Unreadable { path, .. } | Fault::Unwritable { path, .. } => Some(path),
+            Fault::Untold { path, .. }
+            | Fault::Unreadable { path, .. }
+            | Fault::Unwritable { path, .. } => Some(path),
             Fault::Script { .. }
             | Fault::Listing(_)
             | Fault::Certificate(_)
@@ -106,6 +134,8 @@ impl<'a> Fault<'a> {
             | Fault::Input(_)
             | Fault::Prepare(_)
             | Fault::Fragment(_)
+            | Fault::StoreFull
+            | Fault::Stub(_)
             | Fault::OutOfMemory => None,
         }
     }
@@ -124,8 +154,26 @@ impl<'a> Fault<'a> {
             | Fault::Input(_)
             | Fault::Prepare(_)
             | Fault::Fragment(_)
+            | Fault::Untold { .. }
+            | Fault::StoreFull
+            | Fault::Stub(_)
             | Fault::OutOfMemory => FileReason::Other,
         }
+    }
+}
+
+/// Returns the number of the error of a stub.
+fn stub_number(fault: StubFault) -> u32
+    ensures { result ≡ stub_number fault }
+{
+    match fault {
+        StubFault::TooManySymbols => 211,
+        StubFault::LongName => 212,
+        StubFault::TooManyNameBytes => 213,
+        StubFault::PastLastNumber => 214,
+        StubFault::UnspellableName => 215,
+        StubFault::TooManyBytes => 216,
+        StubFault::OutOfMemory => 99,
     }
 }
 

@@ -66,6 +66,9 @@ pub fn note_of(fault: &Fault<'_>) -> Explanation
         | Fault::SectionsDiffer
         | Fault::Input(_)
         | Fault::Fragment(_)
+        | Fault::Untold { .. }
+        | Fault::StoreFull
+        | Fault::Stub(_)
         | Fault::OutOfMemory => Explanation::Nothing,
     }
 }

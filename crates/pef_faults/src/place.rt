@@ -20,6 +20,9 @@ impl<'a> Fault<'a> {
             Fault::SectionsDiffer
             | Fault::Input(_)
             | Fault::Fragment(_)
+            | Fault::Untold { .. }
+            | Fault::StoreFull
+            | Fault::Stub(_)
             | Fault::Unreadable { .. }
             | Fault::Unwritable { .. }
             | Fault::OutOfMemory => None,

@@ -34,7 +34,7 @@ use Rattle.pef_format.specs.declared.place.Place.{Place}
 use Rattle.pef_loader.specs.Library.{Library, library_in}
 use Rattle.pef_loader.specs.Loader.{Loaded, export_of, library_of, named_of}
 use Rattle.pef_words.specs.Results.{◌>>=◌}
-use Rattle.pef_headline.specs.Served.{HasAddressOf, IsOpen, IsServed, MeansSymbol, no_target}
+use Rattle.pef_headline.specs.Served.{HasAddressOf, IsOpen, IsServed, LeadsWhere, MeansSymbol, exported_target, named_target, no_target}
 use Rattle.pef_headline.proofs.ImportLemmas.{import-leads}
 
 -- what is there if a test is met
@@ -140,10 +140,10 @@ module _ (pairs : List Pair) (order : List ℕ) (complete : IsComplete pairs ord
   -- an import with a target
   module _ (all : List Present) (p j : ℕ) (import : Import) (t : Option Target) (at : import_at pairs p j ≡ Some import) (is : target_of pairs p j ≡ Ok t) where
     -- by the value of the export
-    by-value : (q e : ℕ) (v : ExportValue) → hop pairs p j ≡ Ok (hop_by q e v) → target_address all t ≡ export_address pairs all q v
-    by-value q e (InSection section offset) hops = ap (target_address all) (target-ends pairs p j t (Some (At q section offset)) is hops)
-    by-value q e (value.Absolute n) hops = ap (target_address all) (target-ends pairs p j t (Some (Absolute n)) is hops)
-    by-value q e (Reexport k) hops = sym (ap (λ r. target_address all (result_unwrap_or r None)) (target-through pairs p j q e k t is hops))
+    by-value : (q e : ℕ) (v : ExportValue) → hop pairs p j ≡ Ok (hop_by q e v) → t ≡ exported_target pairs q v
+    by-value q e (InSection section offset) hops = target-ends pairs p j t (Some (At q section offset)) is hops
+    by-value q e (value.Absolute n) hops = target-ends pairs p j t (Some (Absolute n)) is hops
+    by-value q e (Reexport k) hops = sym (ap (λ r. result_unwrap_or r None) (target-through pairs p j q e k t is hops))
 
     untargeted : hop pairs p j ≡ Ok (ends None) → meaning all t ≡ no_target
     untargeted hops = ap (meaning all) (target-ends pairs p j t None is hops)
@@ -152,20 +152,20 @@ module _ (pairs : List Pair) (order : List ℕ) (complete : IsComplete pairs ord
     lacking r true hops = (refl, untargeted hops)
     lacking r false hops = absurd (target-unrefused pairs p j t r is hops)
 
-    abbrev address_in : ℕ → Export → ℕ
-    address_in q x = export_address pairs all q (value_of x.fields.section x.fields.value)
+    abbrev leads_in : ℕ → Export → Option Target
+    leads_in q x = exported_target pairs q (value_of x.fields.section x.fields.value)
 
     -- by the export with its name, if there is one
     by-name : (q : ℕ) (l : Loaded) (here library : List ℕ) (place : Place) (n : Option ℕ) → hop pairs p j ≡ hop_to here library place import q (option_and_then (λ e. option_map (λ x. (e, x)) (export_of l e)) n)
-        → HasAddressOf import (option_map (address_in q) (option_and_then (export_of l) n)) (meaning all t)
+        → LeadsWhere all import (option_map (leads_in q) (option_and_then (export_of l) n)) (meaning all t)
     by-name q l here library place None hops = lacking (symbol_missing here library import.name place) import.fields.weak hops
     by-name q l here library place (Some e) hops = by (export_of l e) hops
       where
-        by : (o : Option Export) → hop pairs p j ≡ hop_to here library place import q (option_map (λ x. (e, x)) o) → HasAddressOf import (option_map (address_in q) o) (meaning all t)
+        by : (o : Option Export) → hop pairs p j ≡ hop_to here library place import q (option_map (λ x. (e, x)) o) → LeadsWhere all import (option_map (leads_in q) o) (meaning all t)
         by None hops = lacking (symbol_missing here library import.name place) import.fields.weak hops
-        by (Some x) hops = by-value q e (value_of x.fields.section x.fields.value) hops
+        by (Some x) hops = ap (meaning all) (by-value q e (value_of x.fields.section x.fields.value) hops)
 
-    by-library : (q : ℕ) → Contains order q → library_at pairs p import.library ≡ Some q → HasAddressOf import (symbol_at pairs all q import.name) (meaning all t)
+    by-library : (q : ℕ) → Contains order q → library_at pairs p import.library ≡ Some q → LeadsWhere all import (named_target pairs q import.name) (meaning all t)
     by-library q there led =
         let m = complete.members q there in
         let loads : loader_at pairs q ≡ Some m.fragment.loader = ap (λ r. option_map (λ (f : Fragment). f.loader) (result_ok r)) m.read in
@@ -173,9 +173,27 @@ module _ (pairs : List Pair) (order : List ℕ) (complete : IsComplete pairs ord
         let library = (pair_of pairs q).name in
         let place = import_place pairs p j in
         let hops = import-leads pairs p j import (Some q) at led ∙ ap (λ o. hop_to here library place import q (option_and_then (exported import.name) o)) loads in
-        let symbol = ap (λ o. option_map (address_in q) (option_and_then (λ (l : Loaded). option_and_then (export_of l) (named_of l import.name)) o)) loads in
-        subst (λ (a : Option ℕ). HasAddressOf import a (meaning all t)) (sym symbol)
+        let symbol = ap (λ o. option_map (leads_in q) (option_and_then (λ (l : Loaded). option_and_then (export_of l) (named_of l import.name)) o)) loads in
+        subst (λ (a : Option (Option Target)). LeadsWhere all import a (meaning all t)) (sym symbol)
         (by-name q m.fragment.loader here library place (named_of m.fragment.loader import.name) hops)
+
+-- the address of an export is that of where it leads
+exported-address : (pairs : List Pair) (all : List Present) (q : ℕ) (v : ExportValue) → target_address all (exported_target pairs q v) ≡ export_address pairs all q v
+exported-address pairs all q (InSection section offset) = refl
+exported-address pairs all q (value.Absolute n) = refl
+exported-address pairs all q (Reexport k) = refl
+
+named-address : (pairs : List Pair) (all : List Present) (q : ℕ) (name : List ℕ) → option_map (target_address all) (named_target pairs q name) ≡ symbol_at pairs all q name
+named-address pairs all q name = by (option_and_then (λ (l : Loaded). option_and_then (export_of l) (named_of l name)) (loader_at pairs q))
+  where
+    by : (e : Option Export) → option_map (target_address all) (option_map (λ (x : Export). exported_target pairs q (value_of x.fields.section x.fields.value)) e) ≡ option_map (λ (x : Export). export_address pairs all q (value_of x.fields.section x.fields.value)) e
+    by None = refl
+    by (Some x) = ap Some (exported-address pairs all q (value_of x.fields.section x.fields.value))
+
+-- so an import that means where an export leads has its address
+leads-address : (all : List Present) (import : Import) (o : Option (Option Target)) (meant : ImportTarget) → LeadsWhere all import o meant → HasAddressOf import (option_map (target_address all) o) meant
+leads-address all import None meant leads = leads
+leads-address all import (Some t) meant leads = ap (λ (m : ImportTarget). m.address) leads
 
 -- the closure of an open connection is still one of the store
 open-still : (pairs : List Pair) (os : List Open) (number : ℕ) (o : Open) → AreClosed pairs os → open_of os number ≡ Some o → IsStill pairs o
@@ -247,15 +265,18 @@ symbols-mean closed s o p j import meant is at given =
     })
   where
     by : IsStill s.pairs o → IsComplete s.pairs o.closed.order → (t : Option Target) → target_of s.pairs p j ≡ Ok t → (library : Option ℕ) → library_at s.pairs p import.library ≡ library → ((q : ℕ) → library ≡ Some q → Contains o.closed.order q)
-        → IsServed s.present o import (meaning s.present t) library
+        → IsServed s o import (meaning s.present t) library
     by still complete t targets None led inside =
         untargeted s.pairs o.closed.order complete s.present p j import t at targets (import-leads s.pairs p j import None at led)
     by still complete t targets (Some q) led inside =
-        let here = inside q refl in (
-          here,
-          subst (λ (a : Option ℕ). HasAddressOf import a (meaning s.present t)) (sym (symbol-still s.pairs s.present o still q import.name here))
-              (by-library s.pairs o.closed.order complete s.present p j import t at targets q here led),
-        )
+        let here = inside q refl in
+        let leads = by-library s.pairs o.closed.order complete s.present p j import t at targets q here led in
+        let same = named-address s.pairs s.present q import.name ∙ sym (symbol-still s.pairs s.present o still q import.name here) in
+        record {
+          inside = here;
+          target = leads;
+          address = subst (λ (a : Option ℕ). HasAddressOf import a (meaning s.present t)) same (leads-address s.present import (named_target s.pairs q import.name) (meaning s.present t) leads);
+        }
 
 pub symbols-agree : AreReached → (s : ContextState) (o x : Open) (q : ℕ) (name : List ℕ) → IsOpen s o → IsOpen s x → Contains o.closed.order q → Contains x.closed.order q → symbol_of s.present x q name ≡ symbol_of s.present o q name
 symbols-agree closed s o x q name is other there here =

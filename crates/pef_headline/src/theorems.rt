@@ -135,8 +135,10 @@ pub fn imports_are_known()
 /// library exports under its name.
 ///
 /// `means`: `import_target` gives no target if the library is absent. Otherwise a fragment of the same closure serves the
-/// import. The import's address is what `fragment_symbol` of the connection gives for that fragment and the import's name,
-/// also if that export passes on an import. If it gives none, the import is weak and has no target.
+/// import. The import's target is where the first export of that fragment with the import's name leads: its section and offset,
+/// its number, or the target of the import that it passes on. The import's address is that of this target, and it is what
+/// `fragment_symbol` of the connection gives for that fragment and name. If there is no such export, the import is weak and has
+/// no target.
 ///
 /// `agree`: of two open connections whose closures have a fragment, `fragment_symbol` gives the same for it.
 ///

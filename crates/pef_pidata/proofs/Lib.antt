@@ -3,6 +3,7 @@ mod Arguments
 mod Lengths
 mod Packings
 mod Parts
+mod Refusals
 mod Repeats
 mod Steps
 mod Verifying

@@ -3,3 +3,4 @@ pub mod Instructions
 pub mod Kept
 pub mod Packing
 pub mod Pattern
+pub mod Refused

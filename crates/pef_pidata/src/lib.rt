@@ -15,4 +15,4 @@ mod write;
 pub use fault::PackFault;
 pub use packed::{expand, verify};
 pub use packing::pack;
-pub use theorems::packed_images_expand;
+pub use theorems::{packed_images_expand, refusals_have_places};

@@ -22,7 +22,8 @@ pub use files::{
 pub use fill::{Rows, Table, fill_rows, fill_table};
 pub use place::place_or_nowhere;
 pub use structs::{
-    PefEntries, PefExport, PefFinding, PefFixup, PefFragmentExport, PefFragmentSection, PefHeader,
-    PefImport, PefLibrary, PefLoader, PefLocation, PefMissing, PefNames, PefNewSection, PefPlace,
-    PefRelocation, PefSection, PefTarget,
+    PefEntries, PefExport, PefFinding, PefFixup, PefFoundContainer, PefFragmentExport,
+    PefFragmentSection, PefHeader, PefImport, PefLacking, PefLibrary, PefLoader, PefLocation,
+    PefMissing, PefNames, PefNewSection, PefPlace, PefRelocation, PefRowRange, PefSection,
+    PefTarget,
 };

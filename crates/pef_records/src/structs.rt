@@ -14,6 +14,7 @@ pub struct PefHeader {
     pub current_version: u32,
     pub section_count: u16,
     pub instantiated_section_count: u16,
+    pub architecture: u32,
 }
 
 /// Where an error is.
@@ -36,6 +37,39 @@ pub struct PefFinding {
     pub detail: u64,
     pub number: u32,
     pub is_error: bool,
+    /// The code of what the detail is, 0 for nothing.
+    pub detail_kind: u8,
+}
+
+/// A container in a file, and what the containers before it leave of what the report on the file may cost.
+#[repr(C)]
+#[derive(Clone, Copy, Debug, PartialEq, Eq)]
+pub struct PefFoundContainer {
+    /// Where the container begins in the file. After the last one it is the length of the file.
+    pub offset: usize,
+    /// How many bytes the container can have.
+    pub length: usize,
+    /// How many containers are before it, and how many of these weren't inspected.
+    pub number: u64,
+    pub skipped: u64,
+    pub budget: u64,
+    pub program_bytes: u64,
+    pub steps: u64,
+    pub packed_bytes: u64,
+    pub words: u64,
+}
+
+/// Rows of a container.
+#[repr(C)]
+#[derive(Clone, Copy, Debug, PartialEq, Eq)]
+pub struct PefRowRange {
+    /// Where the container begins in the file.
+    pub offset: usize,
+    /// The kind of part that a row is.
+    pub part: u32,
+    /// The first row, and how many. There may be fewer.
+    pub from: u32,
+    pub count: u32,
 }
 
 /// A section's header, without its name.
@@ -197,6 +231,15 @@ pub struct PefMissing {
     pub is_weak: bool,
     /// Whether there is a fragment with the library's name, whose versions don't fit.
     pub is_found: bool,
+}
+
+/// A library that a context lacks, whichever fragment is prepared.
+#[repr(C)]
+#[derive(Clone, Copy, Debug)]
+pub struct PefLacking {
+    pub name: &'static [u8],
+    /// Whether each fragment that names it can be prepared without it.
+    pub is_weak: bool,
 }
 
 /// A section that a preparation would place.

@@ -1,7 +1,7 @@
--- Names of refusals, by their numbers (docs/ERRORS.md).
-use Rattle.std.specs.Prelude.{◌==◌, ◌&&◌, ℕ, List, Option, None, Some, codes, if◌then◌else◌, nat_le}
+-- Names of errors and notes, by their numbers (docs/ERRORS.md). tools/declarations writes this file from docs/errors.table.
+use Rattle.std.specs.Prelude.{◌==◌, ℕ, List, Option, None, Some, codes, if◌then◌else◌, nat_le}
 
--- of a container
+-- an error of a container
 unfoldable pub container_name : ℕ → Option (List ℕ)
 container_name number =
     if number == 1 then Some (codes "TooShort")
@@ -16,7 +16,7 @@ container_name number =
     else if number == 10 then Some (codes "NoLoader")
     else None
 
--- of a loader section
+-- an error of a loader section
 unfoldable pub loader_name : ℕ → Option (List ℕ)
 loader_name number =
     if number == 11 then Some (codes "LoaderShort")
@@ -31,7 +31,7 @@ loader_name number =
     else if number == 20 then Some (codes "BadExportSection")
     else None
 
--- of packed data
+-- an error of packed data
 unfoldable pub packed_name : ℕ → Option (List ℕ)
 packed_name number =
     if number == 21 then Some (codes "Truncated")
@@ -41,7 +41,7 @@ packed_name number =
     else if number == 25 then Some (codes "TooShort")
     else None
 
--- of relocation programs
+-- an error of a relocation program
 unfoldable pub relocation_name : ℕ → Option (List ℕ)
 relocation_name number =
     if number == 31 then Some (codes "BadOpcode")
@@ -55,7 +55,7 @@ relocation_name number =
     else if number == 39 then Some (codes "SectionOutside")
     else None
 
--- of scripts
+-- an error of a script
 unfoldable pub script_name : ℕ → Option (List ℕ)
 script_name number =
     if number == 41 then Some (codes "BadLine")
@@ -69,7 +69,7 @@ script_name number =
     else if number == 49 then Some (codes "BadKind")
     else None
 
--- of certificates, closures, placement and connections
+-- an error of certificates, closures, placement or connections
 unfoldable pub closure_name : ℕ → Option (List ℕ)
 closure_name number =
     if number == 51 then Some (codes "BadCertificate")
@@ -87,7 +87,18 @@ closure_name number =
     else if number == 70 then Some (codes "TooManyStepsInAll")
     else None
 
--- of files of the classic Mac OS
+-- an error of files, inputs or memory
+unfoldable pub port_name : ℕ → Option (List ℕ)
+port_name number =
+    if number == 71 then Some (codes "FileUnreadable")
+    else if number == 72 then Some (codes "FileUnwritable")
+    else if number == 73 then Some (codes "InputUnreadable")
+    else if number == 74 then Some (codes "InputTooLong")
+    else if number == 75 then Some (codes "TooManyBytes")
+    else if number == 99 then Some (codes "OutOfMemory")
+    else None
+
+-- an error of a file of the classic Mac OS
 unfoldable pub mac_name : ℕ → Option (List ℕ)
 mac_name number =
     if number == 76 then Some (codes "DataForkCut")
@@ -114,18 +125,7 @@ mac_name number =
     else if number == 98 then Some (codes "FragmentOutside")
     else None
 
--- of files, inputs and memory
-unfoldable pub port_name : ℕ → Option (List ℕ)
-port_name number =
-    if number == 71 then Some (codes "FileUnreadable")
-    else if number == 72 then Some (codes "FileUnwritable")
-    else if number == 73 then Some (codes "InputUnreadable")
-    else if number == 74 then Some (codes "InputTooLong")
-    else if number == 75 then Some (codes "TooManyBytes")
-    else if number == 99 then Some (codes "OutOfMemory")
-    else None
-
--- of notes on a container
+-- a note
 unfoldable pub note_name : ℕ → Option (List ℕ)
 note_name number =
     if number == 101 then Some (codes "ReservedNotZero")
@@ -142,8 +142,37 @@ note_name number =
     else if number == 112 then Some (codes "Overlap")
     else if number == 113 then Some (codes "UnownedBytes")
     else if number == 114 then Some (codes "WordRelocatedTwice")
+    else if number == 115 then Some (codes "ContainersUnverified")
     else if number == 116 then Some (codes "SectionsOutOfOrder")
+    else if number == 117 then Some (codes "BytesAfterForks")
+    else if number == 118 then Some (codes "FragmentShort")
+    else if number == 119 then Some (codes "DataForkElsewhere")
+    else if number == 120 then Some (codes "NotUnpacked")
     else if number == 121 then Some (codes "NameOutside")
+    else if number == 122 then Some (codes "FragmentArchitecture")
+    else if number == 123 then Some (codes "FragmentUsage")
+    else None
+
+-- an answer that only this library gives
+unfoldable pub library_name : ℕ → Option (List ℕ)
+library_name number =
+    if number == 200 then Some (codes "RoomTooSmall")
+    else if number == 201 then Some (codes "NotThere")
+    else if number == 202 then Some (codes "NotOpen")
+    else if number == 203 then Some (codes "AddedTooLate")
+    else if number == 204 then Some (codes "StoreFull")
+    else if number == 205 then Some (codes "BadGranule")
+    else if number == 206 then Some (codes "BadOptions")
+    else if number == 207 then Some (codes "StillPresent")
+    else if number == 208 then Some (codes "StillNamed")
+    else if number == 209 then Some (codes "NameTaken")
+    else if number == 210 then Some (codes "WrongAddressCount")
+    else if number == 211 then Some (codes "TooManySymbols")
+    else if number == 212 then Some (codes "LongName")
+    else if number == 213 then Some (codes "TooManyNameBytes")
+    else if number == 214 then Some (codes "PastLastNumber")
+    else if number == 215 then Some (codes "UnspellableName")
+    else if number == 216 then Some (codes "TooManyBytes")
     else None
 
 -- all of them
@@ -155,6 +184,8 @@ name_of number =
     else if nat_le number 40 then relocation_name number
     else if nat_le number 50 then script_name number
     else if nat_le number 70 then closure_name number
-    else if nat_le 76 number && nat_le number 98 then mac_name number
+    else if nat_le number 75 then port_name number
+    else if nat_le number 98 then mac_name number
     else if nat_le number 100 then port_name number
-    else note_name number
+    else if nat_le number 199 then note_name number
+    else library_name number

@@ -1,8 +1,8 @@
-//! What refusals mean, and what to do.
+//! What errors and notes mean, and what to do. tools/declarations writes this file from docs/errors.table.
 ghost use Rattle.std.specs.Prelude.{◌≡◌, option_map};
-ghost use Rattle.pef_refusals.specs.Help.{closure_help, container_help, help_of, loader_help, mac_help, note_help, packed_help, port_help, relocation_help, script_help};
+ghost use Rattle.pef_refusals.specs.Help.{closure_help, container_help, help_of, library_help, loader_help, mac_help, note_help, packed_help, port_help, relocation_help, script_help};
 
-/// Returns one or two sentences on the refusal with this number, if there is one: what it means, and what to do.
+/// Returns one or two sentences on the error or the note with this number, if there is one: what it means, and what to do.
 pub fn help(number: u32) -> Option<&'static str>
     ensures { option_map (λ text. text.now) result ≡ help_of number }
 {
@@ -13,13 +13,14 @@ pub fn help(number: u32) -> Option<&'static str>
         31..=40 => relocation_help(number),
         41..=50 => script_help(number),
         51..=70 => closure_help(number),
+        71..=75 | 99..=100 => port_help(number),
         76..=98 => mac_help(number),
-        71..=100 => port_help(number),
-        _ => note_help(number),
+        101..=199 => note_help(number),
+        _ => library_help(number),
     }
 }
 
-/// Returns the help of a container.
+/// Returns the help on an error of a container.
 #[tactic(auto, unfolding(crate::specs::Help::container_help))]
 fn container_help(number: u32) -> Option<&'static str>
     ensures { option_map (λ text. text.now) result ≡ container_help number }
@@ -29,7 +30,7 @@ fn container_help(number: u32) -> Option<&'static str>
             "The file ends inside the headers of a container. It is truncated, or it isn't a PEF container.",
         ),
         2 => Some(
-            "The file doesn't begin with Joy!peff, so it isn't a PEF container. If one is inside, `pef extract FILE '#0' OUT` takes it out.",
+            "The file doesn't begin with Joy!peff, so it isn't a PEF container. `pef prepare FILE` takes a file of the Mac. If a container is inside, `pef extract FILE '#0' OUT` takes it out.",
         ),
         3 => Some("The container isn't for PowerPC. CFM-68K containers aren't read."),
         4 => Some(
@@ -55,7 +56,7 @@ fn container_help(number: u32) -> Option<&'static str>
     }
 }
 
-/// Returns the help of a loader section.
+/// Returns the help on an error of a loader section.
 #[tactic(auto, unfolding(crate::specs::Help::loader_help))]
 fn loader_help(number: u32) -> Option<&'static str>
     ensures { option_map (λ text. text.now) result ≡ loader_help number }
@@ -89,7 +90,7 @@ fn loader_help(number: u32) -> Option<&'static str>
     }
 }
 
-/// Returns the help of packed data.
+/// Returns the help on an error of packed data.
 #[tactic(auto, unfolding(crate::specs::Help::packed_help))]
 fn packed_help(number: u32) -> Option<&'static str>
     ensures { option_map (λ text. text.now) result ≡ packed_help number }
@@ -112,7 +113,7 @@ fn packed_help(number: u32) -> Option<&'static str>
     }
 }
 
-/// Returns the help of relocation programs.
+/// Returns the help on an error of a relocation program.
 #[tactic(auto, unfolding(crate::specs::Help::relocation_help))]
 fn relocation_help(number: u32) -> Option<&'static str>
     ensures { option_map (λ text. text.now) result ≡ relocation_help number }
@@ -145,7 +146,7 @@ fn relocation_help(number: u32) -> Option<&'static str>
     }
 }
 
-/// Returns the help of scripts.
+/// Returns the help on an error of a script.
 #[tactic(auto, unfolding(crate::specs::Help::script_help))]
 fn script_help(number: u32) -> Option<&'static str>
     ensures { option_map (λ text. text.now) result ≡ script_help number }
@@ -182,7 +183,7 @@ fn script_help(number: u32) -> Option<&'static str>
     }
 }
 
-/// Returns the help of certificates, closures, placement and connections.
+/// Returns the help on an error of certificates, closures, placement or connections.
 #[tactic(auto, unfolding(crate::specs::Help::closure_help))]
 fn closure_help(number: u32) -> Option<&'static str>
     ensures { option_map (λ text. text.now) result ≡ closure_help number }
@@ -198,7 +199,7 @@ fn closure_help(number: u32) -> Option<&'static str>
             "No fragment of this name was given. Pass it under exactly this name; upper and lower case differ.",
         ),
         61 => Some(
-            "The fragment needs a library that wasn't given. Pass its container, or a stub that exports what is used, under exactly this name; upper and lower case differ.",
+            "The fragment needs a library that wasn't given. Pass its container under exactly this name; upper and lower case differ. If nobody has it, `pef prepare` makes a stub of it, and `pef stubs` writes one.",
         ),
         62 => Some(
             "The library doesn't export a symbol that the fragment needs. Pass a library that exports it, or link the fragment with the import weak.",
@@ -231,7 +232,33 @@ fn closure_help(number: u32) -> Option<&'static str>
     }
 }
 
-/// Returns the help of files of the classic Mac OS.
+/// Returns the help on an error of files, inputs or memory.
+#[tactic(auto, unfolding(crate::specs::Help::port_help))]
+fn port_help(number: u32) -> Option<&'static str>
+    ensures { option_map (λ text. text.now) result ≡ port_help number }
+{
+    match number {
+        71 => Some(
+            "The file couldn't be read, and nothing was written. Check that it exists and that you may read it.",
+        ),
+        72 => Some(
+            "The file couldn't be written, and may be missing or hold any bytes now. Check its folder, your permissions and the space on the disk, and run the command again.",
+        ),
+        73 => Some(
+            "Reading the standard input failed. Check the program at the other end of the pipe, and run the command again.",
+        ),
+        74 => Some(
+            "The standard input has more than 536,870,912 bytes. Check what was piped in: a script isn't that long.",
+        ),
+        75 => Some(
+            "The sections of the new fragments take more bytes together than the context allows. Allow more, or leave this fragment out.",
+        ),
+        99 => Some("An allocation failed. Give the program more memory."),
+        _ => None,
+    }
+}
+
+/// Returns the help on an error of a file of the classic Mac OS.
 #[tactic(auto, unfolding(crate::specs::Help::mac_help))]
 fn mac_help(number: u32) -> Option<&'static str>
     ensures { option_map (λ text. text.now) result ≡ mac_help number }
@@ -247,7 +274,7 @@ fn mac_help(number: u32) -> Option<&'static str>
             "The comment of a file in MacBinary passes the end of the file. The file was cut, or its header is damaged; the forks are read.",
         ),
         80 => Some(
-            "The file has no container with this name or number. Numbers begin at #0; upper and lower case of a name differ.",
+            "The file has no container with this name or number. Numbers begin at #0; upper and lower case of a name differ, and a fragment for CFM-68K is found by a number alone.",
         ),
         81 => Some(
             "The header says that it is of MacBinary II or III, and its CRC is wrong. The forks are read all the same.",
@@ -301,33 +328,7 @@ fn mac_help(number: u32) -> Option<&'static str>
     }
 }
 
-/// Returns the help of files, inputs and memory.
-#[tactic(auto, unfolding(crate::specs::Help::port_help))]
-fn port_help(number: u32) -> Option<&'static str>
-    ensures { option_map (λ text. text.now) result ≡ port_help number }
-{
-    match number {
-        71 => Some(
-            "The file couldn't be read, and nothing was written. Check that it exists and that you may read it.",
-        ),
-        72 => Some(
-            "The file couldn't be written, and may be missing or hold any bytes now. Check its folder, your permissions and the space on the disk, and run the command again.",
-        ),
-        73 => Some(
-            "Reading the standard input failed. Check the program at the other end of the pipe, and run the command again.",
-        ),
-        74 => Some(
-            "The standard input has more than 536,870,912 bytes. Check what was piped in: a script isn't that long.",
-        ),
-        75 => Some(
-            "The sections of the new fragments take more bytes together than the context allows. Allow more, or leave this fragment out.",
-        ),
-        99 => Some("An allocation failed. Give the program more memory."),
-        _ => None,
-    }
-}
-
-/// Returns the help of notes on a container.
+/// Returns the help on a note.
 #[tactic(auto, unfolding(crate::specs::Help::note_help))]
 fn note_help(number: u32) -> Option<&'static str>
     ensures { option_map (λ text. text.now) result ≡ note_help number }
@@ -371,11 +372,87 @@ fn note_help(number: u32) -> Option<&'static str>
         ),
         113 => Some("Bytes between two parts belong to none. An offset or a size may be damaged."),
         114 => Some("An address is added to a word to which one was added already."),
+        115 => Some(
+            "Some containers of the file weren't inspected: together they ask for too much. Take each out by `pef extract FILE '#NUMBER' OUT`, and inspect it alone.",
+        ),
         116 => Some(
             "The loader section counts as instantiated, so the instantiated sections aren't the first ones. Rows of the loader section may name each section that is there.",
         ),
+        117 => Some(
+            "Bytes follow the forks of a file in MacBinary. A length in its header may be damaged, or something was added to the file.",
+        ),
+        118 => Some(
+            "The container of a member needs more bytes than the member has. The fork was cut, or a length is damaged; the container is read up to the end of its member.",
+        ),
+        119 => Some(
+            "The container of a member is in the data fork, which isn't in this file. Inspect the data fork with this file beside it.",
+        ),
+        120 => Some(
+            "The data fork seems to be in another format, which isn't unpacked. Open it with the program that the note names, and inspect what comes out.",
+        ),
         121 => Some(
             "nameOffset is neither -1, which says that there is no name, nor the offset of a byte of the container. The section header may be damaged.",
+        ),
+        122 => Some(
+            "The architecture of a member of the table of fragments isn't that of its container, or is none that there is. The member may be damaged.",
+        ),
+        123 => Some(
+            "A member of the table of fragments has a usage that the format doesn't name. It may be damaged.",
+        ),
+        _ => None,
+    }
+}
+
+/// Returns the help on an answer that only this library gives.
+#[tactic(auto, unfolding(crate::specs::Help::library_help))]
+fn library_help(number: u32) -> Option<&'static str>
+    ensures { option_map (λ text. text.now) result ≡ library_help number }
+{
+    match number {
+        200 => Some(
+            "The buffer for the result is too small. Call again with a buffer of the length that was stored.",
+        ),
+        201 => Some("There is nothing under this number."),
+        202 => Some("The context isn't open. Open it by pef_open first."),
+        203 => Some(
+            "A fragment of an open connection has a weak library of this name, and was prepared without it. Add the library after that connection is closed.",
+        ),
+        204 => Some(
+            "There are 256 fragments already, stubs of missing libraries among them, and no more fit. Leave out files or libraries that aren't needed, or remove fragments.",
+        ),
+        205 => Some("The granule isn't a power of two, or is below 16."),
+        206 => Some(
+            "The size of the options isn't that of this library's struct, or the values of stub options are none. Set it to sizeof, and build with the header of this library.",
+        ),
+        207 => Some(
+            "The closure of an open connection has this fragment. Close its connections first.",
+        ),
+        208 => Some(
+            "A fragment of an open connection has a weak library of this name, whose version didn't fit. Remove this fragment after that connection is closed.",
+        ),
+        209 => Some(
+            "The context has a fragment with this name, which stays the first. Remove it first, or add this one by pef_add.",
+        ),
+        210 => Some(
+            "There are more or fewer addresses than sections that the preparation would place. pef_new_sections says how many they are.",
+        ),
+        211 => Some(
+            "More than 16,383 symbols are imported from a missing library, and no container can export as many. Pass the library itself.",
+        ),
+        212 => Some(
+            "A symbol with a name of more than 65,535 bytes is imported from a missing library, and no container can export it. The importing file is damaged.",
+        ),
+        213 => Some(
+            "The symbols that are imported from a missing library have too long names together for one container. Pass the library itself.",
+        ),
+        214 => Some(
+            "The symbols of missing libraries have no numbers left: the last one passes FFFFFFFF. Begin at a lower number, or take a smaller step.",
+        ),
+        215 => Some(
+            "The name of a symbol that is imported from a missing library can't be written in a script, from which a stub with memory is made. Make a stub with numbers.",
+        ),
+        216 => Some(
+            "The symbols that are imported from a missing library take more than 16,777,216 bytes. Give each fewer bytes, or make a stub with numbers.",
         ),
         _ => None,
     }

@@ -1,8 +1,8 @@
-//! Names of refusals.
+//! Names of errors and notes. tools/declarations writes this file from docs/errors.table.
 ghost use Rattle.std.specs.Prelude.{◌≡◌, option_map};
-ghost use Rattle.pef_refusals.specs.Names.{closure_name, container_name, loader_name, mac_name, name_of, note_name, packed_name, port_name, relocation_name, script_name};
+ghost use Rattle.pef_refusals.specs.Names.{closure_name, container_name, library_name, loader_name, mac_name, name_of, note_name, packed_name, port_name, relocation_name, script_name};
 
-/// Returns the name of the refusal with this number, if there is one.
+/// Returns the name of the error or the note with this number, if there is one.
 pub fn name(number: u32) -> Option<&'static str>
     ensures { option_map (λ text. text.now) result ≡ name_of number }
 {
@@ -13,13 +13,14 @@ pub fn name(number: u32) -> Option<&'static str>
         31..=40 => relocation_name(number),
         41..=50 => script_name(number),
         51..=70 => closure_name(number),
+        71..=75 | 99..=100 => port_name(number),
         76..=98 => mac_name(number),
-        71..=100 => port_name(number),
-        _ => note_name(number),
+        101..=199 => note_name(number),
+        _ => library_name(number),
     }
 }
 
-/// Returns the names of a container.
+/// Returns the name of an error of a container.
 #[tactic(auto, unfolding(crate::specs::Names::container_name))]
 fn container_name(number: u32) -> Option<&'static str>
     ensures { option_map (λ text. text.now) result ≡ container_name number }
@@ -39,7 +40,7 @@ fn container_name(number: u32) -> Option<&'static str>
     }
 }
 
-/// Returns the names of a loader section.
+/// Returns the name of an error of a loader section.
 #[tactic(auto, unfolding(crate::specs::Names::loader_name))]
 fn loader_name(number: u32) -> Option<&'static str>
     ensures { option_map (λ text. text.now) result ≡ loader_name number }
@@ -59,7 +60,7 @@ fn loader_name(number: u32) -> Option<&'static str>
     }
 }
 
-/// Returns the names of packed data.
+/// Returns the name of an error of packed data.
 #[tactic(auto, unfolding(crate::specs::Names::packed_name))]
 fn packed_name(number: u32) -> Option<&'static str>
     ensures { option_map (λ text. text.now) result ≡ packed_name number }
@@ -74,7 +75,7 @@ fn packed_name(number: u32) -> Option<&'static str>
     }
 }
 
-/// Returns the names of relocation programs.
+/// Returns the name of an error of a relocation program.
 #[tactic(auto, unfolding(crate::specs::Names::relocation_name))]
 fn relocation_name(number: u32) -> Option<&'static str>
     ensures { option_map (λ text. text.now) result ≡ relocation_name number }
@@ -93,7 +94,7 @@ fn relocation_name(number: u32) -> Option<&'static str>
     }
 }
 
-/// Returns the names of scripts.
+/// Returns the name of an error of a script.
 #[tactic(auto, unfolding(crate::specs::Names::script_name))]
 fn script_name(number: u32) -> Option<&'static str>
     ensures { option_map (λ text. text.now) result ≡ script_name number }
@@ -112,7 +113,7 @@ fn script_name(number: u32) -> Option<&'static str>
     }
 }
 
-/// Returns the names of certificates, closures, placement and connections.
+/// Returns the name of an error of certificates, closures, placement or connections.
 #[tactic(auto, unfolding(crate::specs::Names::closure_name))]
 fn closure_name(number: u32) -> Option<&'static str>
     ensures { option_map (λ text. text.now) result ≡ closure_name number }
@@ -135,7 +136,23 @@ fn closure_name(number: u32) -> Option<&'static str>
     }
 }
 
-/// Returns the names of files of the classic Mac OS.
+/// Returns the name of an error of files, inputs or memory.
+#[tactic(auto, unfolding(crate::specs::Names::port_name))]
+fn port_name(number: u32) -> Option<&'static str>
+    ensures { option_map (λ text. text.now) result ≡ port_name number }
+{
+    match number {
+        71 => Some("FileUnreadable"),
+        72 => Some("FileUnwritable"),
+        73 => Some("InputUnreadable"),
+        74 => Some("InputTooLong"),
+        75 => Some("TooManyBytes"),
+        99 => Some("OutOfMemory"),
+        _ => None,
+    }
+}
+
+/// Returns the name of an error of a file of the classic Mac OS.
 #[tactic(auto, unfolding(crate::specs::Names::mac_name))]
 fn mac_name(number: u32) -> Option<&'static str>
     ensures { option_map (λ text. text.now) result ≡ mac_name number }
@@ -167,23 +184,7 @@ fn mac_name(number: u32) -> Option<&'static str>
     }
 }
 
-/// Returns the names of files, inputs and memory.
-#[tactic(auto, unfolding(crate::specs::Names::port_name))]
-fn port_name(number: u32) -> Option<&'static str>
-    ensures { option_map (λ text. text.now) result ≡ port_name number }
-{
-    match number {
-        71 => Some("FileUnreadable"),
-        72 => Some("FileUnwritable"),
-        73 => Some("InputUnreadable"),
-        74 => Some("InputTooLong"),
-        75 => Some("TooManyBytes"),
-        99 => Some("OutOfMemory"),
-        _ => None,
-    }
-}
-
-/// Returns the names of notes on a container.
+/// Returns the name of a note.
 #[tactic(auto, unfolding(crate::specs::Names::note_name))]
 fn note_name(number: u32) -> Option<&'static str>
     ensures { option_map (λ text. text.now) result ≡ note_name number }
@@ -203,8 +204,42 @@ fn note_name(number: u32) -> Option<&'static str>
         112 => Some("Overlap"),
         113 => Some("UnownedBytes"),
         114 => Some("WordRelocatedTwice"),
+        115 => Some("ContainersUnverified"),
         116 => Some("SectionsOutOfOrder"),
+        117 => Some("BytesAfterForks"),
+        118 => Some("FragmentShort"),
+        119 => Some("DataForkElsewhere"),
+        120 => Some("NotUnpacked"),
         121 => Some("NameOutside"),
+        122 => Some("FragmentArchitecture"),
+        123 => Some("FragmentUsage"),
+        _ => None,
+    }
+}
+
+/// Returns the name of an answer that only this library gives.
+#[tactic(auto, unfolding(crate::specs::Names::library_name))]
+fn library_name(number: u32) -> Option<&'static str>
+    ensures { option_map (λ text. text.now) result ≡ library_name number }
+{
+    match number {
+        200 => Some("RoomTooSmall"),
+        201 => Some("NotThere"),
+        202 => Some("NotOpen"),
+        203 => Some("AddedTooLate"),
+        204 => Some("StoreFull"),
+        205 => Some("BadGranule"),
+        206 => Some("BadOptions"),
+        207 => Some("StillPresent"),
+        208 => Some("StillNamed"),
+        209 => Some("NameTaken"),
+        210 => Some("WrongAddressCount"),
+        211 => Some("TooManySymbols"),
+        212 => Some("LongName"),
+        213 => Some("TooManyNameBytes"),
+        214 => Some("PastLastNumber"),
+        215 => Some("UnspellableName"),
+        216 => Some("TooManyBytes"),
         _ => None,
     }
 }

@@ -13,5 +13,7 @@ mod walk;
 
 pub use inspection::Inspection;
 pub use object::{RowRange, print_row_range};
-pub use theorems::{each_finding_is_printed_once, rows_join};
+pub use theorems::{
+    each_finding_is_in_its_place, each_finding_is_printed_once, inspections_are_right, rows_join,
+};
 pub use verdict::needed;

@@ -1,19 +1,20 @@
 -- How `inspect` parses words that don't begin with `-`: each adds one file, and 1 to 65,536 are accepted.
-use Rattle.std.proofs.Common.{◌≡◌, ◌<◌, ◌≤◌, ℕ, true, false, List, [], ◌∷◌, ◌++◌, Option, None, Some, codes, length, nat_le, arith, refl, sym, ap, ap₂, ◌∙◌, inl, inr, append_assoc}
+use Rattle.std.proofs.Common.{◌≡◌, true, false, List, [], ◌∷◌, Option, None, Some, codes, length, nat_le, arith, refl, ap, ap₂, ◌∙◌, inl, inr}
 use Rattle.std.specs.Prelude.{fold}
-use Rattle.std.proofs.lemmas.Bool.{le-ltb, leb-false, leb-true, lt-ltb, ne_eqb}
-use Rattle.std.proofs.lemmas.List.{append-nil}
+use Rattle.std.proofs.lemmas.Bool.{leb-false, leb-true}
 use Rattle.clap.proofs.OnLiterals.{clap_on_literals}
 use Rattle.clap.specs.Faults.{check_fault, defaults_fault, settle_fault, turn_fault, walk_fault}
 use Rattle.clap.specs.Kinds.{Kinds, or_else, range_kinds, values_kinds}
 use Rattle.clap.specs.Simple.{Shape, filled, with_index}
-use Rattle.clap.specs.Walk.{Rule, Text, Walk, finished, nothing_held, positional, settled, walk, walk_from, walked}
+use Rattle.clap.specs.Walk.{Rule, Text, Walk, finished, nothing_held, settled, walk, walk_from, walked}
 use Rattle.clap.specs.declared.builder.value_parser.ValueParser.TheVariants.{String}
 use Rattle.clap.specs.declared.error.kind.ErrorKind.{ErrorKind}
 use Rattle.clap.specs.declared.error.kind.ErrorKind.TheVariants as kind
-use Rattle.pef_request.specs.CommandLine.{asked_at, flag, inspect_command, inspected_operand, pef, valued}
+use Rattle.pef_request.specs.Arguments.{flag, valued}
+use Rattle.pef_request.specs.CommandLine.{asked_at, inspect_command, inspected_operand, pef}
 use Rattle.pef_request.specs.Plain.{ArePlain, IsPlain, plain_inspect}
 use Rattle.pef_request.proofs.NameLemmas.{at_end, is_or_not, named, no_flag}
+use Rattle.pef_request.proofs.OperandLemmas.{Takes, TakesSoundly, all_sound, all_taken, all_values, in_range, past_range, taken}
 use Rattle.pef_request.specs.Requests.{Asked, inspect}
 
 -- the built command `inspect`, its options and its operand
@@ -32,17 +33,7 @@ files_rule = with_index 1 (filled inspected_operand)
 inspect_shape : Shape
 inspect_shape = record inspect_command.top { rules = json_rule ∷ listed_rule ∷ resources_rule ∷ files_rule ∷ []; is_built = true; disable_help_flag = true; disable_help_subcommand = true }
 
--- some words of `inspect` are read
-taken : List Text → Walk
-taken words = record {
-  held = record { rows = []; pending = Some (codes "FILE", words); skip = 0 };
-  waiting = positional;
-  position = 1;
-  is_trailing = false;
-  stopped = None;
-}
-
-first_taken : (word : Text) → IsPlain word → walked inspect_shape.rules [] (walk_from nothing_held) word ≡ taken (word ∷ [])
+first_taken : (word : Text) → IsPlain word → walked inspect_shape.rules [] (walk_from nothing_held) word ≡ taken (codes "FILE") (word ∷ [])
 unfolding clap_on_literals json_rule listed_rule resources_rule files_rule inspect_shape taken
 first_taken word plain =
     let a = no_flag word plain in
@@ -54,28 +45,17 @@ first_sound word plain =
     let a = no_flag word plain in
     rw (a.dashes, a.long, a.short) refl
 
-next_taken : (before : List Text) (word : Text) → IsPlain word → walked inspect_shape.rules [] (taken before) word ≡ taken (before ++ word ∷ [])
+next_taken : Takes inspect_shape.rules (codes "FILE")
 unfolding clap_on_literals json_rule listed_rule resources_rule files_rule inspect_shape taken
 next_taken before word plain =
     let a = no_flag word plain in
     rw (a.dashes, a.long, a.short) refl
 
-next_sound : (before : List Text) (word : Text) → IsPlain word → turn_fault inspect_shape [] (taken before) word ≡ []
+next_sound : TakesSoundly inspect_shape (codes "FILE")
 unfolding clap_on_literals json_rule listed_rule resources_rule files_rule inspect_shape taken
 next_sound before word plain =
     let a = no_flag word plain in
     rw (a.dashes, a.long, a.short) refl
-
-all_taken : (before words : List Text) → ArePlain words → fold (walked inspect_shape.rules []) (taken before) words ≡ taken (before ++ words)
-all_taken before [] plain = ap taken (sym (append-nil before))
-all_taken before (word ∷ words) plain =
-    ap (λ (w : Walk). fold (walked inspect_shape.rules []) w words) (next_taken before word plain.0) ∙ all_taken (before ++ word ∷ []) words plain.1 ∙ ap taken (append_assoc before (word ∷ []) words)
-
-all_sound : (before words : List Text) → ArePlain words → walk_fault inspect_shape [] (taken before) words ≡ []
-unfolding walk_fault
-all_sound before [] plain = refl
-all_sound before (word ∷ words) plain =
-    ap₂ or_else (next_sound before word plain.0) (ap (λ (w : Walk). walk_fault inspect_shape [] w words) (next_taken before word plain.0) ∙ all_sound (before ++ word ∷ []) words plain.1)
 
 -- the request of `inspect` at the end of the walk over its words, with the faults of the walk
 inspect_end : Walk → Kinds → Option Asked
@@ -91,24 +71,11 @@ inspect_ends words = refl
 
 -- the request of `inspect`, by the faults of the number of its words and of the words
 inspect_at : Kinds → Kinds → List Text → Option Asked
-inspect_at range values words = asked_at (or_else (or_else (or_else range values) []) []) (Some (codes "inspect", finished inspect_shape.rules (taken words).held))
+inspect_at range values words = asked_at (or_else (or_else (or_else range values) []) []) (Some (codes "inspect", finished inspect_shape.rules (taken (codes "FILE") words).held))
 
-inspect_settles : (word : Text) (words : List Text) → inspect_end (taken (word ∷ words)) [] ≡ inspect_at (range_kinds 1 65536 (length (word ∷ words))) (values_kinds false String (word ∷ words)) (word ∷ words)
+inspect_settles : (word : Text) (words : List Text) → inspect_end (taken (codes "FILE") (word ∷ words)) [] ≡ inspect_at (range_kinds 1 65536 (length (word ∷ words))) (values_kinds false String (word ∷ words)) (word ∷ words)
 unfolding inspect_end inspect_at clap_on_literals inspect_shape json_rule listed_rule resources_rule files_rule taken
 inspect_settles word words = refl
-
--- each word may be a value
-all_values : (words : List Text) → values_kinds false String words ≡ []
-all_values [] = refl
-all_values (word ∷ words) = all_values words
-
--- 1 to 65536 words are in the range
-in_range : (n : ℕ) → 0 < n → n ≤ 65536 → range_kinds 1 65536 n ≡ []
-in_range n some few = rw (ne_eqb n 0 (λ e. omega arith), le-ltb n 1 some, le-ltb 65536 n few) refl
-
--- more words aren't
-past_range : (n : ℕ) → 65536 < n → range_kinds 1 65536 n ≡ kind.TooManyValues ∷ []
-past_range n many = rw (ne_eqb n 0 (λ e. omega arith), le-ltb n 1 (omega arith), lt-ltb 65536 n many) refl
 
 inspect_within : (word : Text) (words : List Text) → inspect_at [] [] (word ∷ words) ≡ Some (inspect false (word ∷ words))
 unfolding inspect_at taken inspect_shape json_rule listed_rule resources_rule files_rule
@@ -122,8 +89,8 @@ inspect_counted : (word : Text) (words : List Text) → inspect_at (range_kinds 
 inspect_counted word words =
     let n = length (word ∷ words) in
     elim (is_or_not (nat_le n 65536)) [
-      | inl few ↦ rw few (ap (λ (range : Kinds). inspect_at range [] (word ∷ words)) (in_range n (omega arith) (leb-true n 65536 few)) ∙ inspect_within word words)
-      | inr many ↦ rw many (ap (λ (range : Kinds). inspect_at range [] (word ∷ words)) (past_range n (leb-false n 65536 many)) ∙ inspect_past kind.TooManyValues (word ∷ words))
+      | inl few ↦ rw few (ap (λ (range : Kinds). inspect_at range [] (word ∷ words)) (in_range 65536 n (omega arith) (omega arith) (leb-true n 65536 few)) ∙ inspect_within word words)
+      | inr many ↦ rw many (ap (λ (range : Kinds). inspect_at range [] (word ∷ words)) (past_range 65536 n (omega arith) (leb-false n 65536 many)) ∙ inspect_past kind.TooManyValues (word ∷ words))
     ]
 
 no_files : at_end (named (codes "inspect") []) [] ≡ None
@@ -137,8 +104,8 @@ inspect_operands [] plain = no_files
 inspect_operands (word ∷ words) plain =
     let rules = inspect_shape.rules in
     let first = first_taken word plain.0 in
-    let ended : walk rules [] nothing_held (word ∷ words) ≡ taken (word ∷ words) = ap (λ (w : Walk). fold (walked rules []) w words) first ∙ all_taken (word ∷ []) words plain.1 in
+    let ended : walk rules [] nothing_held (word ∷ words) ≡ taken (codes "FILE") (word ∷ words) = ap (λ (w : Walk). fold (walked rules []) w words) first ∙ all_taken rules (codes "FILE") next_taken (word ∷ []) words plain.1 in
     let sound : walk_fault inspect_shape [] (walk_from nothing_held) (word ∷ words) ≡ [] =
-    ap₂ or_else (first_sound word plain.0) (ap (λ (w : Walk). walk_fault inspect_shape [] w words) first ∙ all_sound (word ∷ []) words plain.1) in
+    ap₂ or_else (first_sound word plain.0) (ap (λ (w : Walk). walk_fault inspect_shape [] w words) first ∙ all_sound inspect_shape (codes "FILE") next_taken next_sound (word ∷ []) words plain.1) in
     inspect_ends (word ∷ words) ∙ ap₂ inspect_end ended sound ∙ inspect_settles word words
     ∙ ap (λ (values : Kinds). inspect_at (range_kinds 1 65536 (length (word ∷ words))) values (word ∷ words)) (all_values (word ∷ words)) ∙ inspect_counted word words

@@ -1,40 +1,31 @@
 -- How `load` parses words that don't begin with `-`: each adds one file, and 1 to 256 are accepted.
-use Rattle.std.proofs.Common.{◌≡◌, ◌<◌, ◌≤◌, ℕ, true, false, List, [], ◌∷◌, ◌++◌, Option, None, Some, codes, length, nat_le, option_map, arith, refl, sym, ap, ap₂, ◌∙◌, inl, inr, append_assoc}
+use Rattle.std.proofs.Common.{◌≡◌, true, false, List, [], ◌∷◌, Option, None, Some, codes, length, nat_le, option_map, arith, refl, ap, ap₂, ◌∙◌, inl, inr}
 use Rattle.std.specs.Prelude.{fold}
-use Rattle.std.proofs.lemmas.Bool.{le-ltb, leb-false, leb-true, lt-ltb, ne_eqb}
-use Rattle.std.proofs.lemmas.List.{append-nil}
+use Rattle.std.proofs.lemmas.Bool.{leb-false, leb-true}
 use Rattle.clap.proofs.OnLiterals.{clap_on_literals}
 use Rattle.clap.specs.Faults.{check_fault, defaults_fault, settle_fault, turn_fault, walk_fault}
 use Rattle.clap.specs.Kinds.{Kinds, or_else, range_kinds, values_kinds}
 use Rattle.clap.specs.Simple.{Shape, filled, with_index}
-use Rattle.clap.specs.Walk.{Rule, Text, Walk, finished, nothing_held, positional, settled, walk, walk_from, walked}
+use Rattle.clap.specs.Walk.{Rule, Text, Walk, finished, nothing_held, settled, walk, walk_from, walked}
 use Rattle.clap.specs.declared.builder.value_parser.ValueParser.TheVariants.{String}
 use Rattle.clap.specs.declared.error.kind.ErrorKind.{ErrorKind}
 use Rattle.clap.specs.declared.error.kind.ErrorKind.TheVariants as kind
-use Rattle.pef_request.specs.CommandLine.{asked_at, files_operand, load_command, pef}
+use Rattle.pef_request.specs.Arguments.{files_operand}
+use Rattle.pef_request.specs.CommandLine.{asked_at, load_command, pef}
 use Rattle.pef_request.specs.Plain.{ArePlain, IsPlain, plain_load}
 use Rattle.pef_request.specs.Files.{named_files}
 use Rattle.pef_request.proofs.NameLemmas.{at_end, is_or_not, named, no_flag}
+use Rattle.pef_request.proofs.OperandLemmas.{Takes, TakesSoundly, all_sound, all_taken, all_values, in_range, past_range, taken}
 use Rattle.pef_request.specs.Requests.{Asked, load}
 
 -- the built command `load` and its operand
 files_rule : Rule
-files_rule = with_index 1 (filled files_operand)
+files_rule = with_index 1 (filled (files_operand (codes "NAME=FILE")))
 
 load_shape : Shape
 load_shape = record load_command.top { rules = files_rule ∷ []; is_built = true; disable_help_flag = true; disable_help_subcommand = true }
 
--- some words of `load` are read
-taken : List Text → Walk
-taken words = record {
-  held = record { rows = []; pending = Some (codes "NAME=FILE", words); skip = 0 };
-  waiting = positional;
-  position = 1;
-  is_trailing = false;
-  stopped = None;
-}
-
-first_taken : (word : Text) → IsPlain word → walked load_shape.rules [] (walk_from nothing_held) word ≡ taken (word ∷ [])
+first_taken : (word : Text) → IsPlain word → walked load_shape.rules [] (walk_from nothing_held) word ≡ taken (codes "NAME=FILE") (word ∷ [])
 unfolding clap_on_literals files_rule load_shape taken
 first_taken word plain =
     let a = no_flag word plain in
@@ -46,28 +37,17 @@ first_sound word plain =
     let a = no_flag word plain in
     rw (a.dashes, a.long, a.short) refl
 
-next_taken : (before : List Text) (word : Text) → IsPlain word → walked load_shape.rules [] (taken before) word ≡ taken (before ++ word ∷ [])
+next_taken : Takes load_shape.rules (codes "NAME=FILE")
 unfolding clap_on_literals files_rule load_shape taken
 next_taken before word plain =
     let a = no_flag word plain in
     rw (a.dashes, a.long, a.short) refl
 
-next_sound : (before : List Text) (word : Text) → IsPlain word → turn_fault load_shape [] (taken before) word ≡ []
+next_sound : TakesSoundly load_shape (codes "NAME=FILE")
 unfolding clap_on_literals files_rule load_shape taken
 next_sound before word plain =
     let a = no_flag word plain in
     rw (a.dashes, a.long, a.short) refl
-
-all_taken : (before words : List Text) → ArePlain words → fold (walked load_shape.rules []) (taken before) words ≡ taken (before ++ words)
-all_taken before [] plain = ap taken (sym (append-nil before))
-all_taken before (word ∷ words) plain =
-    ap (λ (w : Walk). fold (walked load_shape.rules []) w words) (next_taken before word plain.0) ∙ all_taken (before ++ word ∷ []) words plain.1 ∙ ap taken (append_assoc before (word ∷ []) words)
-
-all_sound : (before words : List Text) → ArePlain words → walk_fault load_shape [] (taken before) words ≡ []
-unfolding walk_fault
-all_sound before [] plain = refl
-all_sound before (word ∷ words) plain =
-    ap₂ or_else (next_sound before word plain.0) (ap (λ (w : Walk). walk_fault load_shape [] w words) (next_taken before word plain.0) ∙ all_sound (before ++ word ∷ []) words plain.1)
 
 -- the request of `load` at the end of the walk over its words, with the faults of the walk
 load_end : Walk → Kinds → Option Asked
@@ -83,24 +63,11 @@ load_ends words = refl
 
 -- the request of `load`, by the faults of the number of its words and of the words
 load_at : Kinds → Kinds → List Text → Option Asked
-load_at range values words = asked_at (or_else (or_else (or_else range values) []) []) (Some (codes "load", finished load_shape.rules (taken words).held))
+load_at range values words = asked_at (or_else (or_else (or_else range values) []) []) (Some (codes "load", finished load_shape.rules (taken (codes "NAME=FILE") words).held))
 
-load_settles : (word : Text) (words : List Text) → load_end (taken (word ∷ words)) [] ≡ load_at (range_kinds 1 256 (length (word ∷ words))) (values_kinds false String (word ∷ words)) (word ∷ words)
+load_settles : (word : Text) (words : List Text) → load_end (taken (codes "NAME=FILE") (word ∷ words)) [] ≡ load_at (range_kinds 1 256 (length (word ∷ words))) (values_kinds false String (word ∷ words)) (word ∷ words)
 unfolding load_end load_at clap_on_literals load_shape files_rule taken
 load_settles word words = refl
-
--- each word may be a value
-all_values : (words : List Text) → values_kinds false String words ≡ []
-all_values [] = refl
-all_values (word ∷ words) = all_values words
-
--- 1 to 256 words are in the range
-in_range : (n : ℕ) → 0 < n → n ≤ 256 → range_kinds 1 256 n ≡ []
-in_range n some few = rw (ne_eqb n 0 (λ e. omega arith), le-ltb n 1 some, le-ltb 256 n few) refl
-
--- more words aren't
-past_range : (n : ℕ) → 256 < n → range_kinds 1 256 n ≡ kind.TooManyValues ∷ []
-past_range n many = rw (ne_eqb n 0 (λ e. omega arith), le-ltb n 1 (omega arith), lt-ltb 256 n many) refl
 
 load_within : (word : Text) (words : List Text) → load_at [] [] (word ∷ words) ≡ option_map load (named_files (word ∷ words))
 unfolding load_at taken load_shape files_rule
@@ -114,8 +81,8 @@ load_counted : (word : Text) (words : List Text) → load_at (range_kinds 1 256 
 load_counted word words =
     let n = length (word ∷ words) in
     elim (is_or_not (nat_le n 256)) [
-      | inl few ↦ rw few (ap (λ (range : Kinds). load_at range [] (word ∷ words)) (in_range n (omega arith) (leb-true n 256 few)) ∙ load_within word words)
-      | inr many ↦ rw many (ap (λ (range : Kinds). load_at range [] (word ∷ words)) (past_range n (leb-false n 256 many)) ∙ load_past kind.TooManyValues (word ∷ words))
+      | inl few ↦ rw few (ap (λ (range : Kinds). load_at range [] (word ∷ words)) (in_range 256 n (omega arith) (omega arith) (leb-true n 256 few)) ∙ load_within word words)
+      | inr many ↦ rw many (ap (λ (range : Kinds). load_at range [] (word ∷ words)) (past_range 256 n (omega arith) (leb-false n 256 many)) ∙ load_past kind.TooManyValues (word ∷ words))
     ]
 
 no_files : at_end (named (codes "load") []) [] ≡ None
@@ -129,8 +96,8 @@ load_operands [] plain = no_files
 load_operands (word ∷ words) plain =
     let rules = load_shape.rules in
     let first = first_taken word plain.0 in
-    let ended : walk rules [] nothing_held (word ∷ words) ≡ taken (word ∷ words) = ap (λ (w : Walk). fold (walked rules []) w words) first ∙ all_taken (word ∷ []) words plain.1 in
+    let ended : walk rules [] nothing_held (word ∷ words) ≡ taken (codes "NAME=FILE") (word ∷ words) = ap (λ (w : Walk). fold (walked rules []) w words) first ∙ all_taken rules (codes "NAME=FILE") next_taken (word ∷ []) words plain.1 in
     let sound : walk_fault load_shape [] (walk_from nothing_held) (word ∷ words) ≡ [] =
-    ap₂ or_else (first_sound word plain.0) (ap (λ (w : Walk). walk_fault load_shape [] w words) first ∙ all_sound (word ∷ []) words plain.1) in
+    ap₂ or_else (first_sound word plain.0) (ap (λ (w : Walk). walk_fault load_shape [] w words) first ∙ all_sound load_shape (codes "NAME=FILE") next_taken next_sound (word ∷ []) words plain.1) in
     load_ends (word ∷ words) ∙ ap₂ load_end ended sound ∙ load_settles word words
     ∙ ap (λ (values : Kinds). load_at (range_kinds 1 256 (length (word ∷ words))) values (word ∷ words)) (all_values (word ∷ words)) ∙ load_counted word words

@@ -8,6 +8,8 @@ use Rattle.pef_request.specs.CommandLine.{asked_by, asks_version, pef, request_b
 use Rattle.pef_request.specs.Plain.{ArePlain, plain_check, plain_distances, plain_extract, plain_link, plain_list, plain_show, plain_words}
 use Rattle.pef_request.proofs.InspectLemmas.{inspect_operands}
 use Rattle.pef_request.proofs.LoadLemmas.{load_operands}
+use Rattle.pef_request.proofs.PrepareLemmas.{prepare_operands}
+use Rattle.pef_request.proofs.StubsLemmas.{stubs_operands}
 use Rattle.pef_request.proofs.NameLemmas.{IsNoFlag, at_end, command_named, is_or_not, named, no_flag}
 
 -- the operands of `show`
@@ -107,9 +109,9 @@ program_asked : (program : Text) → asked_by (program ∷ []) ≡ None
 unfolding asked_by pef clap_on_literals
 program_asked program = refl
 
-unknown_asked : (program name : Text) (words : List Text) → bytes_eq (codes "show") name ≡ false → bytes_eq (codes "link") name ≡ false → bytes_eq (codes "list") name ≡ false → bytes_eq (codes "check") name ≡ false → bytes_eq (codes "load") name ≡ false → bytes_eq (codes "distances") name ≡ false → bytes_eq (codes "extract") name ≡ false → bytes_eq (codes "inspect") name ≡ false → IsNoFlag name → asked_by (program ∷ name ∷ words) ≡ None
+unknown_asked : (program name : Text) (words : List Text) → bytes_eq (codes "show") name ≡ false → bytes_eq (codes "link") name ≡ false → bytes_eq (codes "list") name ≡ false → bytes_eq (codes "check") name ≡ false → bytes_eq (codes "load") name ≡ false → bytes_eq (codes "distances") name ≡ false → bytes_eq (codes "extract") name ≡ false → bytes_eq (codes "inspect") name ≡ false → bytes_eq (codes "prepare") name ≡ false → bytes_eq (codes "stubs") name ≡ false → IsNoFlag name → asked_by (program ∷ name ∷ words) ≡ None
 unfolding asked_by pef clap_on_literals
-unknown_asked program name words a b c d e f g h free = rw (a, b, c, d, e, f, g, h, free.dashes, free.long, free.short) refl
+unknown_asked program name words a b c d e f g h i j free = rw (a, b, c, d, e, f, g, h, i, j, free.dashes, free.long, free.short) refl
 
 -- words of a command that don't begin with `-` make the request that they spell
 asked_plain : (words : List Text) → ArePlain (drop 1 words) → asked_by words ≡ plain_words words
@@ -132,7 +134,13 @@ asked_plain (program ∷ name ∷ words) plain = elim (is_or_not (bytes_eq (code
               | inl g ↦ rw (a, b, c, d, e, f, g) (command_named program name (codes "extract") words (rw (a, b, c, d, e, f, g) refl) refl ∙ extract_operands words plain.1)
               | inr g ↦ elim (is_or_not (bytes_eq (codes "inspect") name)) [
                 | inl h ↦ rw (a, b, c, d, e, f, g, h) (command_named program name (codes "inspect") words (rw (a, b, c, d, e, f, g, h) refl) refl ∙ inspect_operands words plain.1)
-                | inr h ↦ rw (a, b, c, d, e, f, g, h) (unknown_asked program name words a b c d e f g h (no_flag name plain.0))
+                | inr h ↦ elim (is_or_not (bytes_eq (codes "prepare") name)) [
+                  | inl i ↦ rw (a, b, c, d, e, f, g, h, i) (command_named program name (codes "prepare") words (rw (a, b, c, d, e, f, g, h, i) refl) refl ∙ prepare_operands words plain.1)
+                  | inr i ↦ elim (is_or_not (bytes_eq (codes "stubs") name)) [
+                    | inl j ↦ rw (a, b, c, d, e, f, g, h, i, j) (command_named program name (codes "stubs") words (rw (a, b, c, d, e, f, g, h, i, j) refl) refl ∙ stubs_operands words plain.1)
+                    | inr j ↦ rw (a, b, c, d, e, f, g, h, i, j) (unknown_asked program name words a b c d e f g h i j (no_flag name plain.0))
+                  ]
+                ]
               ]
             ]
           ]

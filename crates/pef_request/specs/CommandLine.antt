@@ -2,14 +2,12 @@
 use Rattle.std.specs.Prelude.{ℕ, Bool, true, false, List, [], ◌∷◌, Option, None, Some, codes, if◌then◌else◌, option_and_then, option_map}
 use Rattle.std.specs.Str.{bytes_eq}
 use Rattle.clap.specs.Walk.{Row, Rule, Text, all_of, first_of}
-use Rattle.clap.specs.declared.builder.action.ArgAction.TheVariants.{SetTrue}
 use Rattle.clap.specs.Words.{App, Kinds, new_app, new_rule, with_rule, with_subcommand, fault_of, subcommand_of}
+use Rattle.pef_request.specs.Arguments.{files_operand, flag, is_set, operand, valued}
 use Rattle.pef_request.specs.Files.{named_files}
+use Rattle.pef_request.specs.Prepare.{prepare_asked, prepare_command}
+use Rattle.pef_request.specs.Stubs.{stubs_asked, stubs_command}
 use Rattle.pef_request.specs.Requests.{Asked, check, distances, extract, inspect, inspect_listed, inspect_pair, link, list, load, show, version}
-
--- a required operand
-abbrev pub operand : Text → Rule
-operand name = record (new_rule name) { required = true }
 
 -- `show`, which has no operands
 abbrev pub show_command : App
@@ -27,17 +25,9 @@ list_command = with_rule (new_app (codes "list")) (operand (codes "FILE"))
 abbrev pub check_command : App
 check_command = with_rule (with_rule (new_app (codes "check")) (operand (codes "SCRIPT"))) (operand (codes "CERT"))
 
--- the maximum number of files of `load`
-abbrev pub most_files : ℕ
-most_files = 256
-
--- the operand of `load`, which takes one word or more
-abbrev pub files_operand : Rule
-files_operand = record (operand (codes "NAME=FILE")) { range = Some (record { start_inclusive = 1; end_inclusive = most_files }) }
-
 -- `load NAME=FILE ..`
 abbrev pub load_command : App
-load_command = with_rule (new_app (codes "load")) files_operand
+load_command = with_rule (new_app (codes "load")) (files_operand (codes "NAME=FILE"))
 
 -- `distances SCRIPT`
 abbrev pub distances_command : App
@@ -47,10 +37,6 @@ distances_command = with_rule (new_app (codes "distances")) (operand (codes "SCR
 abbrev pub extract_command : App
 extract_command = with_rule (with_rule (with_rule (new_app (codes "extract")) (operand (codes "FILE"))) (operand (codes "NAME"))) (operand (codes "OUT"))
 
--- a flag
-abbrev pub flag : Text → Rule
-flag name = record (new_rule name) { long = Some name; action = Some SetTrue }
-
 -- the maximum number of files of `inspect`
 abbrev pub most_inspected : ℕ
 most_inspected = 65536
@@ -58,10 +44,6 @@ most_inspected = 65536
 -- the operand of `inspect`, which takes any number of words
 abbrev pub inspected_operand : Rule
 inspected_operand = record (new_rule (codes "FILE")) { range = Some (record { start_inclusive = 1; end_inclusive = most_inspected }) }
-
--- an option with a value
-abbrev pub valued : Text → Rule
-valued name = record (new_rule name) { long = Some name; value_names = 1 }
 
 -- `inspect [--json] FILE ..`, `inspect [--json] --resources RESOURCES FILE`, and `inspect [--json] --files0`
 abbrev pub inspect_command : App
@@ -77,7 +59,7 @@ top_command =
 
 -- the program's commands
 unfoldable pub pef : App
-pef = with_subcommand (with_subcommand (with_subcommand (with_subcommand (with_subcommand (with_subcommand (with_subcommand (with_subcommand top_command show_command.top) link_command.top) list_command.top) check_command.top) load_command.top) distances_command.top) extract_command.top) inspect_command.top
+pef = with_subcommand (with_subcommand (with_subcommand (with_subcommand (with_subcommand (with_subcommand (with_subcommand (with_subcommand (with_subcommand (with_subcommand top_command show_command.top) link_command.top) list_command.top) check_command.top) load_command.top) distances_command.top) extract_command.top) inspect_command.top) prepare_command.top) stubs_command.top
 
 -- the request that the operands of `link` make
 abbrev pub link_asked : List Row → Option Asked
@@ -104,11 +86,6 @@ abbrev pub extract_asked : List Row → Option Asked
 extract_asked rows =
     option_and_then (λ file. option_and_then (λ name. option_map (extract file name) (first_of (codes "OUT") rows)) (first_of (codes "NAME") rows))
     (first_of (codes "FILE") rows)
-
--- a flag was given, by the text of its value
-abbrev pub is_set : Option Text → Bool
-is_set None = false
-is_set (Some value) = bytes_eq value (codes "true")
 
 -- the request of `inspect` of some files
 abbrev pub inspected_files : Bool → Option Text → List Text → Option Asked
@@ -146,7 +123,9 @@ command_asked name rows =
     else if bytes_eq name (codes "load") then load_asked rows
     else if bytes_eq name (codes "distances") then distances_asked rows
     else if bytes_eq name (codes "extract") then extract_asked rows
-    else if bytes_eq name (codes "inspect") then inspect_asked rows else None
+    else if bytes_eq name (codes "inspect") then inspect_asked rows
+    else if bytes_eq name (codes "prepare") then prepare_asked rows
+    else if bytes_eq name (codes "stubs") then stubs_asked rows else None
 
 -- the request of a line without a fault is the request of its command
 abbrev pub asked_at : Kinds → Option (Text × List Row) → Option Asked

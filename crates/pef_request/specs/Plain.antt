@@ -1,8 +1,11 @@
 -- Which words are which command, if none begins with `-` (README, "The commands").
-use Rattle.std.specs.Prelude.{◌≢◌, ℕ, ⊤, false, List, [], ◌∷◌, length, nat_le, Option, None, Some, codes, if◌then◌else◌, option_map}
+use Rattle.std.specs.Prelude.{◌≢◌, ℕ, ⊤, true, false, List, [], ◌∷◌, length, map, nat_le, Option, None, Some, codes, if◌then◌else◌, option_map}
 use Rattle.std.specs.Str.{bytes_eq}
-use Rattle.pef_request.specs.Files.{named_files}
-use Rattle.pef_request.specs.Requests.{Asked, check, distances, extract, inspect, link, list, load, show}
+use Rattle.pef_request.specs.Files.{file_operand, named_files}
+use Rattle.pef_request.specs.Requests.{Asked, Preparation, StubsOf, check, distances, extract, inspect, link, list, load, prepare, show, stubs}
+use Rattle.pef_request.specs.declared.prepare.PreparedForm.TheVariants.{Lines}
+use Rattle.pef_request.specs.declared.prepare.Stubbing.TheVariants.{All}
+use Rattle.pef_request.specs.declared.stubs.StubSymbols.TheVariants.{Numbers}
 
 -- a word that doesn't begin with `-`
 abbrev pub IsPlain : List ℕ → Type 0
@@ -62,6 +65,24 @@ abbrev pub plain_inspect : List (List ℕ) → Option Asked
 plain_inspect [] = None
 plain_inspect (file ∷ files) = if nat_le (length (file ∷ files)) 65536 then Some (inspect false (file ∷ files)) else None
 
+-- what `prepare` is asked for without options: lines, with stubs of all that is missing
+abbrev pub plain_preparation : List (List ℕ) → Preparation
+plain_preparation words = record { files = map file_operand words; libraries = []; folders = []; root = None; stubs = All; form = Lines }
+
+-- `prepare [NAME=]FILE ..`, of 1 to 256 words; options are words that begin with `-`
+abbrev pub plain_prepare : List (List ℕ) → Option Asked
+plain_prepare [] = None
+plain_prepare (word ∷ words) = if nat_le (length (word ∷ words)) 256 then Some (prepare (plain_preparation (word ∷ words))) else None
+
+-- what `stubs` is asked for without options: numbers from F0000000 on, 16 apart, for all that is missing
+abbrev pub plain_stubs_of : List (List ℕ) → StubsOf
+plain_stubs_of words = record { files = map file_operand words; symbols = Numbers 0xF0000000 16; weak = true; out = None }
+
+-- `stubs [NAME=]FILE ..`, of 1 to 256 words
+abbrev pub plain_stubs : List (List ℕ) → Option Asked
+plain_stubs [] = None
+plain_stubs (word ∷ words) = if nat_le (length (word ∷ words)) 256 then Some (stubs (plain_stubs_of (word ∷ words))) else None
+
 -- a command by its name, with its operands
 abbrev pub plain_command : List ℕ → List (List ℕ) → Option Asked
 plain_command name operands =
@@ -73,6 +94,8 @@ plain_command name operands =
     else if bytes_eq (codes "distances") name then plain_distances operands
     else if bytes_eq (codes "extract") name then plain_extract operands
     else if bytes_eq (codes "inspect") name then plain_inspect operands
+    else if bytes_eq (codes "prepare") name then plain_prepare operands
+    else if bytes_eq (codes "stubs") name then plain_stubs operands
     else None
 
 -- the request that words make, whose first one is the program's name

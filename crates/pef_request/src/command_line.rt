@@ -1,22 +1,21 @@
 ghost use Rattle.std.specs.Prelude.{◌≡◌, IfOk, false, map, option_map, string_bytes};
-ghost use Rattle.clap.specs.Walk.{rule_of};
-ghost use Rattle.clap.specs.Words.{app_of, found_of, new_app, new_rule, rows_of};
+ghost use Rattle.clap.specs.Words.{app_of, found_of, rows_of};
 ghost use Rattle.clap.specs.declared.builder.command.Command.TheViews.{out-Command};
-ghost use Rattle.pef_request.specs.CommandLine.{asked_by, asks_version, check_asked, check_command, command_asked, distances_asked, distances_command, extract_asked, extract_command, flag, inspect_asked, inspect_command, inspected, inspected_files, inspected_listed, is_set, link_asked, link_command, list_asked, list_command, load_asked, load_command, operand, pef, request_by, valued};
+ghost use Rattle.pef_request.specs.CommandLine.{asked_by, asks_version, check_asked, check_command, command_asked, distances_asked, distances_command, extract_asked, extract_command, inspect_asked, inspect_command, inspected, inspected_files, inspected_listed, link_asked, link_command, list_asked, list_command, load_asked, load_command, pef, request_by};
 ghost use Rattle.pef_request.specs.Kept.Commands.{HasOneMore};
 ghost use Rattle.pef_request.specs.Kept.Kinds.{fault_of_kind};
 ghost use Rattle.pef_request.specs.Requests.{AnswersWords};
 
+use crate::arguments::{described, files_operand, flag, is_set, operand, optional_operand, valued};
 use crate::files::{NamedFile, named_files, paths_of};
+use crate::prepare::{PrepareRequest, prepare_command, prepare_request};
+use crate::stubs::{StubsRequest, stubs_command, stubs_request};
 use clap::error::ErrorKind;
-use clap::{Arg, ArgAction, ArgMatches, Command};
+use clap::{ArgMatches, Command};
 use std::alloc::{AllocError, AllocFailed, Global};
 
 /// The help for SCRIPT.
 const SCRIPT_HELP: &str = "A script (docs/SCRIPTS.md)";
-
-/// The maximum number of files of `load`.
-const MOST_FILES: usize = 256;
 
 /// The maximum number of files of `inspect`.
 const MOST_INSPECTED: usize = 65_536;
@@ -74,6 +73,10 @@ pub enum Request<'a> {
         resources: &'a str,
         file: &'a str,
     },
+    /// Prepare a fragment of some files with its libraries, and print the memory.
+    Prepare(PrepareRequest<'a>),
+    /// Make stubs of the libraries that the fragments of some files lack.
+    Stubs(StubsRequest<'a>),
 }
 
 /// The reason why a command line has no request.
@@ -162,7 +165,9 @@ pub(crate) fn command<'a>(alloc: Global) -> Result<Command<'a>, AllocError>
     let with_load = with_command(with_check, load_command(alloc))?;
     let with_distances = with_command(with_load, distances_command(alloc))?;
     let with_extract = with_command(with_distances, extract_command(alloc))?;
-    with_command(with_extract, inspect_command(alloc))
+    let with_inspect = with_command(with_extract, inspect_command(alloc))?;
+    let with_prepare = with_command(with_inspect, prepare_command(alloc))?;
+    with_command(with_prepare, stubs_command(alloc))
 }
 
 /// Returns a command with one more subcommand, if allocating that one succeeded.
@@ -173,22 +178,6 @@ fn with_command<'a>(
     ensures { IfOk result (HasOneMore (app_of top.entry) more.entry) }
 {
     top.subcommand(more?)
-}
-
-/// Returns a command without operands, with its help.
-fn described<'a>(alloc: Global, name: &'a str, about: &'a str) -> Command<'a>
-    ensures app { app_of result ≡ new_app name.entry.now }
-    ensures local { (out-Command result).has_globals ≡ false }
-{
-    Command::new(alloc, name).about(about)
-}
-
-/// Returns a required operand, with its help.
-fn operand<'a>(alloc: Global, name: &'a str, help: &'a str) -> Arg<'a>
-    ensures rule { rule_of result ≡ operand name.entry.now }
-    ensures local { result.global ≡ false }
-{
-    Arg::new(alloc, name).required(true).help(help)
 }
 
 /// Returns the command `link SCRIPT OUT`.
@@ -237,12 +226,11 @@ pub(crate) fn load_command<'a>(alloc: Global) -> Result<Command<'a>, AllocError>
     ensures app { IfOk result (λ c. app_of c ≡ load_command) }
     ensures local { IfOk result (λ c. (out-Command c).has_globals ≡ false) }
 {
-    let files = operand(
+    let files = files_operand(
         alloc,
         "NAME=FILE",
         "Containers, each with the name of its fragment: the first is loaded, the others are its libraries",
-    )
-    .num_args(1..=MOST_FILES);
+    );
     described(alloc, "load", "Prints the memory that containers become").arg(files)
 }
 
@@ -284,36 +272,6 @@ fn extract_command<'a>(alloc: Global) -> Result<Command<'a>, AllocError>
     .arg(file)?
     .arg(name)?
     .arg(out)
-}
-
-/// Returns a flag, with its help.
-fn flag<'a>(alloc: Global, name: &'a str, help: &'a str) -> Arg<'a>
-    ensures rule { rule_of result ≡ flag name.entry.now }
-    ensures local { result.global ≡ false }
-{
-    Arg::new(alloc, name)
-        .long(name)
-        .action(ArgAction::SetTrue)
-        .help(help)
-}
-
-/// Returns an option with a value, with its help.
-fn valued<'a>(alloc: Global, name: &'a str, value: &'a str, help: &'a str) -> Arg<'a>
-    ensures rule { rule_of result ≡ valued name.entry.now }
-    ensures local { result.global ≡ false }
-{
-    Arg::new(alloc, name)
-        .long(name)
-        .value_name(value)
-        .help(help)
-}
-
-/// Returns an operand that may be missing, with its help.
-fn optional_operand<'a>(alloc: Global, name: &'a str, help: &'a str) -> Arg<'a>
-    ensures rule { rule_of result ≡ new_rule name.entry.now }
-    ensures local { result.global ≡ false }
-{
-    Arg::new(alloc, name).help(help)
 }
 
 /// Returns the command `inspect [--json] FILE ..`, which is also `inspect [--json] --files0` and
@@ -372,6 +330,8 @@ fn command_request<'a>(
         "distances" => distances_request(operands),
         "extract" => extract_request(operands),
         "inspect" => inspect_request(alloc, operands),
+        "prepare" => prepare_request(alloc, operands),
+        "stubs" => stubs_request(alloc, operands),
         _ => Err(WordsFault::Usage),
     }
 }
@@ -513,16 +473,6 @@ fn inspected_listed<'a>(json: bool, resources: Option<&str>) -> Result<Request<'
     match resources {
         None => Ok(Request::InspectListed { json }),
         Some(_) => Err(WordsFault::Usage),
-    }
-}
-
-/// Returns whether a flag was given, by its value.
-fn is_set(value: Option<&str>) -> bool
-    ensures { result ≡ is_set (option_map (λ v. v.now) value.entry) }
-{
-    match value {
-        Some(value) => value == "true",
-        None => false,
     }
 }
 

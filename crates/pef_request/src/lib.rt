@@ -3,12 +3,17 @@
 //! [`read_request`] gives the request, and [`words_help`] the help or the error that is shown. `clap` reads the words.
 #![tactic(auto)]
 
+mod arguments;
 mod command_line;
 mod files;
+mod prepare;
+mod stubs;
 mod theorems;
 mod usage;
 
 pub use command_line::{Request, WordsFault, read_request};
-pub use files::NamedFile;
+pub use files::{FileOperand, NamedFile};
+pub use prepare::{PrepareRequest, PreparedForm, Stubbing};
+pub use stubs::{StubSymbols, StubsRequest};
 pub use theorems::plain_words;
 pub use usage::words_help;

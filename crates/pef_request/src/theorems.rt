@@ -9,6 +9,9 @@ ghost use Rattle.pef_request.specs.Plain.{ArePlain, plain_words as asked_plainly
 /// Exactly `load` with 1 to 256 words
 /// `NAME=FILE` asks for `load` of these files. Each of these words is split at its first `=`, and no name is empty.
 /// Exactly `inspect` with 1 to 65,536 words asks for `inspect` of the files with these paths, as text.
+/// Exactly `prepare` with 1 to 256 words asks for `prepare` of the files that they name, as lines and with stubs of all that is
+/// missing, and exactly `stubs` with 1 to 256 words for `stubs`, as numbers from F0000000 on, 16 apart. A word with `=` gives the
+/// file a name before its first `=`, if that isn't empty.
 /// All other words are no command.
 #[tactic(auto, using(crate::proofs::PlainLemmas::request_plain))]
 pub fn plain_words()

@@ -1,4 +1,6 @@
 use crate::command_line::{command, inspect_command, load_command};
+use crate::prepare::prepare_command;
+use crate::stubs::stubs_command;
 use clap::error::ErrorKind;
 use clap::{Arg, ArgAction, ArgMatches, Command, Error};
 use std::alloc::{AllocError, Global};
@@ -61,6 +63,8 @@ fn example_of(command: &str) -> &'static str {
         "check" => "pef check app.pefscript app.cert",
         "extract" => "pef extract Calculator.bin '#0' calculator.pef",
         "inspect" => "pef inspect Calculator.bin",
+        "prepare" => "pef prepare Calculator.bin",
+        "stubs" => "pef stubs -o stubs Calculator.bin",
         _ => "",
     }
 }
@@ -108,6 +112,8 @@ fn version_error(alloc: Global) -> Result<Error, AllocError> {
 fn accepted_error(alloc: Global, matches: &ArgMatches<'_>) -> Result<Error, AllocError> {
     match matches.subcommand() {
         Some(("inspect", _)) => inspected_error(alloc),
+        Some(("prepare", _)) => prepared_error(alloc),
+        Some(("stubs", _)) => stubs_error(alloc),
         Some(_) | None => files_error(alloc),
     }
 }
@@ -118,6 +124,24 @@ fn inspected_error(alloc: Global) -> Result<Error, AllocError> {
     command.error(
         ErrorKind::ArgumentConflict,
         "give either FILEs or `--files0`, and `--resources` only with one FILE",
+    )
+}
+
+/// Returns the error of a `prepare` with options that don't go together.
+fn prepared_error(alloc: Global) -> Result<Error, AllocError> {
+    let mut command = prepare_command(alloc)?.bin_name("pef prepare")?;
+    command.error(
+        ErrorKind::ArgumentConflict,
+        "give `--bytes` only with `--json`",
+    )
+}
+
+/// Returns the error of a `stubs` whose numbers aren't numbers, or with options that don't go together.
+fn stubs_error(alloc: Global) -> Result<Error, AllocError> {
+    let mut command = stubs_command(alloc)?.bin_name("pef stubs")?;
+    command.error(
+        ErrorKind::InvalidValue,
+        "ADDRESS is one to eight hexadecimal digits, BYTES a decimal number that isn't 0, and `--memory` has neither",
     )
 }
 

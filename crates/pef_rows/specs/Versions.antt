@@ -1,5 +1,5 @@
 -- Versions as people write them, by the custom of NumVersion (MacTypes.h): 01206003 (hexadecimal) is 1.2b3.
-use Rattle.std.specs.Prelude.{ℕ, ◌==◌, Bool, false, List, [], ◌++◌, Option, None, Some, codes, decimal, if◌then◌else◌}
+use Rattle.std.specs.Prelude.{ℕ, ◌/◌, ◌%◌, ◌==◌, ◌&&◌, Bool, false, List, [], ◌++◌, Option, None, Some, codes, decimal, nat_le, if◌then◌else◌}
 use Rattle.cfm_members.specs.Versions.{version_of}
 use Rattle.cfm_members.specs.declared.num_version.NumVersion.{NumVersion}
 use Rattle.cfm_members.specs.declared.num_version.Stage.{Stage}
@@ -33,6 +33,14 @@ lettered v (Some letter) =
     ++ left_out (v.bug == 0) (codes ".") ++ left_out (v.bug == 0) (decimal v.bug)
     ++ left_out (is_plain v.stage v.release) letter ++ left_out (is_plain v.stage v.release) (decimal v.release)
 
+-- its first four places, of four bits each, are decimal digits
+abbrev pub has_digits : ℕ → Bool
+has_digits n = nat_le (n / 0x1000_0000) 9 && (nat_le (n / 0x0100_0000 % 16) 9 && (nat_le (n / 0x0010_0000 % 16) 9 && nat_le (n / 0x0001_0000 % 16) 9))
+
+-- the letter of a version's stage, none if its digits are none
+abbrev pub letter_if : Bool → Stage → Option (List ℕ)
+letter_if digits stage = if digits then letter_of stage else None
+
 -- the version that a number is
 unfoldable pub version_text : ℕ → List ℕ
-version_text n = lettered (version_of n) (letter_of (version_of n).stage)
+version_text n = lettered (version_of n) (letter_if (has_digits n) (version_of n).stage)

@@ -6,7 +6,7 @@ ghost use Rattle.pef_rows.specs.Codes.{class_member, kind_text, share_text};
 use pef_format::{SectionKind, Share, SymbolClass};
 
 /// Returns the word for a kind of section.
-pub(crate) fn kind_text(kind: SectionKind) -> &'static [u8]
+pub fn kind_text(kind: SectionKind) -> &'static [u8]
     ensures { result.now ≡ kind_text kind }
 {
     match kind {
@@ -24,7 +24,7 @@ pub(crate) fn kind_text(kind: SectionKind) -> &'static [u8]
 }
 
 /// Returns the word for how a section is shared.
-pub(crate) fn share_text(share: Share) -> &'static [u8]
+pub fn share_text(share: Share) -> &'static [u8]
     ensures { result.now ≡ share_text share }
 {
     match share {
@@ -37,7 +37,7 @@ pub(crate) fn share_text(share: Share) -> &'static [u8]
 
 /// Returns the member of a symbol's object for the word of its class.
 #[tactic(auto, unfolding(crate::specs::Codes::class_member))]
-pub(crate) fn class_member(class: SymbolClass) -> &'static [u8]
+pub fn class_member(class: SymbolClass) -> &'static [u8]
     ensures { result.now ≡ class_member class }
 {
     match class {

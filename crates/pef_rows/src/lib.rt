@@ -19,6 +19,7 @@ mod unicode;
 mod versions;
 
 pub use any_row::{Row, print_row, print_row_object};
+pub use codes::{class_member, kind_text, share_text};
 pub use finding::{file_offset, print_finding, print_finding_object};
 pub use frames::{
     Counts, print_counts, print_error_end, print_file_error, print_file_line, print_file_object,

@@ -1,18 +1,19 @@
 ghost use Rattle.std.specs.Prelude.{◌≡◌, decimal, option_map};
 ghost use Rattle.pef_ports.specs.Pieces.{piece_text};
 ghost use Rattle.pef_ports.specs.Sent.{Sends};
-ghost use Rattle.pef_rows.specs.Versions.{is_plain, left_out, lettered, letter_of, version_text};
+ghost use Rattle.pef_rows.specs.Versions.{has_digits, is_plain, left_out, lettered, letter_if, letter_of, version_text};
 
 use cfm_members::{NumVersion, Stage};
 use pef_ports::{Page, Piece, Sink, StreamFault, print_pieces};
 
-/// Prints a version as people write it, such as 1.2b3, or `-` if its stage is unknown.
+/// Prints a version as people write it, such as 1.2b3, or `-` if its stage is unknown or one of its digits is above 9.
 #[tactic(auto, unfolding(crate::specs::Versions::version_text))]
 pub fn print_version<W: Sink>(out: &mut W, page: &mut Page, number: u32) -> Result<(), StreamFault>
     ensures { Sends result (W.stream out.old) (W.stream out.new) page.old.items page.new.items (version_text number) }
 {
     let version = NumVersion::from_number(number);
-    print_lettered(out, page, version, letter_of(version.stage))
+    let letter = letter_if(has_digits(number), version.stage);
+    print_lettered(out, page, version, letter)
 }
 
 /// Prints a version with the letter of its stage.
@@ -42,6 +43,23 @@ fn print_lettered<W: Sink>(
             number_piece(plain, version.release),
         ],
     )
+}
+
+/// Returns whether the first four places of a version number, of four bits each, are decimal digits.
+fn has_digits(number: u32) -> bool
+    ensures { result ≡ has_digits number }
+{
+    number / 0x1000_0000 <= 9
+        && number / 0x0100_0000 % 16 <= 9
+        && number / 0x0010_0000 % 16 <= 9
+        && number / 0x0001_0000 % 16 <= 9
+}
+
+/// Returns the letter of a stage, or `None` for an unknown code and without digits.
+fn letter_if(digits: bool, stage: Stage) -> Option<&'static [u8]>
+    ensures { option_map (λ letter. letter.now) result ≡ letter_if digits stage }
+{
+    if digits { letter_of(stage) } else { None }
 }
 
 /// Returns the letter of a stage, or `None` for an unknown code.

@@ -1,16 +1,16 @@
--- Certificates of the sections of a script can be printed, and `check` answers yes for each.
-use Rattle.std.proofs.Common.{◌≡◌, ℕ, ◌+◌, ◌^◌, ◌≤◌, ◌==◌, suc, true, false, List, [], ◌∷◌, Result, Ok, Err, length, map, refl, sym, ap, ap₂, subst, ◌∙◌, eq-eqb, arith}
-use Rattle.std.specs.List.{AllByRecursion}
+-- `check` answers yes for each certificate of a script.
+use Rattle.std.proofs.Common.{◌≡◌, ℕ, ◌+◌, ◌==◌, suc, true, false, List, [], ◌∷◌, Result, Ok, Err, length, map, refl, sym, ap, ap₂, subst, ◌∙◌, eq-eqb}
 use Rattle.pef_cert.specs.Certified.{Certified}
 use Rattle.pef_cert.specs.Text.Grammar.{certificates_of}
-use Rattle.pef_cert.specs.Text.Printed.{Printable, certificates_text}
-use Rattle.pef_cert.proofs.Laws.{reads_back, valid_prints}
+use Rattle.pef_cert.specs.Text.Printed.{certificates_text}
+use Rattle.pef_cert.proofs.Laws.{reads_back}
+use Rattle.pef_certify.proofs.Laws.{script_print}
 use Rattle.pef_ports.specs.Ports.{FilesPort, Reads}
 use Rattle.pef_reloc.specs.Instrs.{program_length}
 use Rattle.pef_script.specs.Text.Grammar as grammar
 use Rattle.pef_script.specs.Text.Grammar.{script_of}
 use Rattle.pef_script.specs.Script.{DescribedScript, DescribedSection}
-use Rattle.pef_script.specs.WellFormed.{ScriptHolds, SectionHolds}
+use Rattle.pef_script.specs.WellFormed.{ScriptHolds}
 use Rattle.pef_write.specs.Linked.{AreCertified, CertifiedContainer, IsCertifiedLink, IsLinkedContainer, LinkedContainer}
 use Rattle.pef_tool.specs.Check.{AreVerdicts, Judges, Texts, are_numbered, match_sections}
 use Rattle.std.proofs.lemmas.Bool.{and_from}
@@ -21,26 +21,8 @@ use Rattle.pef_tool.specs.declared.check.Verdict.TheVariants.{Yes, No}
 use Rattle.pef_cert.specs.declared.text.fault.CertFault.TheVariants as cert_fault
 use Rattle.pef_faults.specs.Faults.{fault_number}
 use Rattle.pef_faults.specs.declared.fault.Fault.{Fault}
-use Rattle.pef_faults.specs.declared.fault.Fault.TheVariants.{Script, Listing, Certificate, SectionsDiffer, Input, Prepare, Fragment, Unreadable, Unwritable, OutOfMemory}
+use Rattle.pef_faults.specs.declared.fault.Fault.TheVariants.{Script, Listing, Certificate, SectionsDiffer, Input, Prepare, Fragment, Untold, StoreFull, Stub, Unreadable, Unwritable, OutOfMemory}
 use Rattle.pef_script.specs.declared.text.fault.ScriptFault.TheVariants as script_fault
-
--- certificates for the sections of a script can be printed
-certified_print : (sections imports k : ℕ) (each : List DescribedSection) (certificates : List Certified) → AllByRecursion (SectionHolds sections imports) each → AreCertified k each certificates → k + length each ≤ 2 ^ 32 → AllByRecursion Printable certificates
-certified_print sections imports k [] [] hold are few = tt
-certified_print sections imports k [] (c ∷ certificates) hold are few = absurd are
-certified_print sections imports k (s ∷ each) [] hold are few = absurd are
-certified_print sections imports k (s ∷ each) (c ∷ certificates) hold are few =
-    let own = are.0.section in
-    (valid_prints s.fixups c hold.0.fixups are.0.valid (omega (arith, own, few)), certified_print sections imports (k + 1) each certificates hold.1 are.1 (omega (arith, few)))
-
-script_print : (script : DescribedScript) (certificates : List Certified) → ScriptHolds script → AreCertified 0 script.sections certificates → AllByRecursion Printable certificates
-script_print script certificates holds are =
-    let few = holds.sections.count in
-    certified_print (length script.sections) (length script.imports) 0 script.sections certificates holds.sections.each are (omega (arith, few))
-
--- .. also those of a link
-pub certificates_print : (script : DescribedScript) (l : CertifiedContainer) → IsCertifiedLink script l → AllByRecursion Printable l.certificates
-certificates_print script l is = subst (AllByRecursion Printable) (sym is.certificates) (script_print script is.linked.certificates is.linked.holds is.linked.certified)
 
 -- a file whose script was linked
 pub files_linked : {F : Type 0} {port : FilesPort F} {before after : F} {path text : List ℕ} {l : LinkedContainer} (given : List ℕ) (script : DescribedScript)
@@ -130,6 +112,9 @@ all_accepted texts script certificates judged is holds are printed judges = by j
     by (Err (Input fault)) never = absurd never
     by (Err (Prepare fault)) never = absurd never
     by (Err (Fragment fault)) never = absurd never
+    by (Err (Untold path why)) never = absurd never
+    by (Err StoreFull) never = absurd never
+    by (Err (Stub f)) never = absurd never
     by (Err (Unreadable path reason)) never = absurd never
     by (Err (Unwritable path reason)) never = absurd never
 

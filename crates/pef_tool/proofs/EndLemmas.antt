@@ -42,6 +42,9 @@ module _ (before after : Stream) (read : Vec ℕ Global) (text : List ℕ) (read
   refused_with script fault.SectionsDiffer is ends = absurd ends
   refused_with script (fault.Input f) is ends = absurd ends
   refused_with script (fault.Fragment f) is ends = absurd ends
+  refused_with script (fault.Untold path why) is ends = absurd ends
+  refused_with script fault.StoreFull is ends = absurd ends
+  refused_with script (fault.Stub f) is ends = absurd ends
   refused_with script (fault.Unreadable path reason) is ends = absurd ends
   refused_with script (fault.Unwritable path reason) is ends = absurd ends
 
@@ -69,6 +72,9 @@ module _ (before after : Stream) (read : Vec ℕ Global) (text : List ℕ) (read
   no_script_shown (fault.Input f) fails = absurd fails
   no_script_shown (fault.Prepare f) fails = absurd fails
   no_script_shown (fault.Fragment f) fails = absurd fails
+  no_script_shown (fault.Untold path why) fails = absurd fails
+  no_script_shown fault.StoreFull fails = absurd fails
+  no_script_shown (fault.Stub f) fails = absurd fails
   no_script_shown (fault.Unreadable path reason) fails = absurd fails
   no_script_shown (fault.Unwritable path reason) fails = absurd fails
 

@@ -15,7 +15,7 @@ use Rattle.pef_ports.proofs.Laws.Sending.{Prints-then, StopsShort-longer, StopsS
 use Rattle.pef_tool.specs.Companions.{CompanionIs}
 use Rattle.pef_tool.specs.Inspect.{Inspects, IsPrinted, IsPrintedBeside, ReadsPath, Reported}
 use Rattle.pef_tool.specs.Kept.Inspecting.{read_seen}
-use Rattle.pef_tool.specs.Kept.Reading.{StopsFile}
+use Rattle.pef_tool.specs.Reading.{StopsFile}
 
 module _ {F : Type 0} (port : FilesPort F) (before after : F) (path : List ℕ) where
   -- a file that wasn't read
@@ -30,6 +30,9 @@ module _ {F : Type 0} (port : FilesPort F) (before after : F) (path : List ℕ) 
   path_failed (fault.Input f) stops = absurd stops
   path_failed (fault.Prepare f) stops = absurd stops
   path_failed (fault.Fragment f) stops = absurd stops
+  path_failed (fault.Untold path why) stops = absurd stops
+  path_failed fault.StoreFull stops = absurd stops
+  path_failed (fault.Stub f) stops = absurd stops
 
   -- the result of reading a file
   pub path_read : (r : Result (Vec ℕ Global) Fault) → IfOk r (λ bytes. Reads port before after path (Ok bytes.items)) → IfErr r (λ why. StopsFile port before after path why)

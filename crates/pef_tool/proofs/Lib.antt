@@ -15,3 +15,6 @@ mod PathLemmas
 mod RoomLemmas
 mod ShowLemmas
 mod SpellingLemmas
+mod GatheringLemmas
+mod SupplyLemmas
+mod AsLoadLemmas

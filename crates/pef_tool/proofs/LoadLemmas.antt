@@ -13,13 +13,13 @@ use Rattle.pef_ports.specs.declared.ports.FileFault.TheVariants as file_fault
 use Rattle.pef_request.specs.Requests.{named_path}
 use Rattle.pef_request.specs.declared.files.NamedFile.{NamedFile}
 use Rattle.pef_tool.specs.Kept.Loading.{StopsReading}
-use Rattle.pef_tool.specs.Kept.Reading.{StopsFile}
+use Rattle.pef_tool.specs.Reading.{StopsFile}
 use Rattle.pef_tool.specs.Kept.Rooted.{RootEnds, RootOutcome, root_answer}
 use Rattle.pef_tool.specs.Kept.Rooted as rooted
 use Rattle.pef_tool.specs.Limits.{memory_limit}
 use Rattle.pef_tool.specs.Load.{LoadEnds, LoadOutcome, StopsAt, WereRead, first_name, load_answer, loads, paired, refuses}
 use Rattle.pef_faults.specs.declared.fault.Fault.{Fault}
-use Rattle.pef_faults.specs.declared.fault.Fault.TheVariants.{Script, Listing, Certificate, SectionsDiffer, Input, Prepare, Fragment, Unreadable, Unwritable, OutOfMemory}
+use Rattle.pef_faults.specs.declared.fault.Fault.TheVariants.{Script, Listing, Certificate, SectionsDiffer, Input, Prepare, Fragment, Untold, StoreFull, Stub, Unreadable, Unwritable, OutOfMemory}
 
 module _ {F : Type 0} (port : FilesPort F) where
   -- one file more
@@ -97,6 +97,9 @@ module _ {F : Type 0} (port : FilesPort F) where
   stops before between after xs i d contents (Input f) under read stop = absurd stop
   stops before between after xs i d contents (Prepare f) under read stop = absurd stop
   stops before between after xs i d contents (Fragment f) under read stop = absurd stop
+  stops before between after xs i d contents (Untold path why) under read stop = absurd stop
+  stops before between after xs i d contents StoreFull under read stop = absurd stop
+  stops before between after xs i d contents (Stub f) under read stop = absurd stop
 
   -- an allocation failed after the first files
   pub lacks-after : (before after : F) (xs : List NamedFile) (i : ℕ) (contents : List (List ℕ)) → WereRead port before after (map named_path (take i xs)) contents → StopsReading port before after (map named_path xs) OutOfMemory

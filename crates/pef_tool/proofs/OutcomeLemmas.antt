@@ -6,7 +6,7 @@ use Rattle.pef_faults.specs.declared.fault.Fault.TheVariants as fault
 use Rattle.pef_script.specs.Text.Grammar.{script_of}
 use Rattle.pef_script.specs.Text.Reads.{FailsAs}
 use Rattle.pef_script.specs.declared.text.fault.ScriptFault.{ScriptFault}
-use Rattle.pef_request.specs.Requests.{Asked, check, distances, extract, inspect, inspect_listed, inspect_pair, link, list, load, show, version}
+use Rattle.pef_request.specs.Requests.{Asked, check, distances, extract, inspect, inspect_listed, inspect_pair, link, list, load, prepare, show, stubs, version}
 use Rattle.pef_tool.specs.Answers.Faults.{fault_answer}
 use Rattle.pef_tool.specs.Load as load
 use Rattle.pef_tool.specs.Show as show
@@ -16,9 +16,10 @@ use Rattle.pef_tool.specs.Extract as extract
 use Rattle.pef_tool.specs.Link as link
 use Rattle.pef_tool.specs.Kept.Linking.{RefusesText}
 use Rattle.pef_tool.specs.Kept.Loading.{StopsReading}
-use Rattle.pef_tool.specs.Kept.Reading.{StopsFile}
+use Rattle.pef_tool.specs.Reading.{StopsFile}
 use Rattle.pef_tool.specs.List as list
 use Rattle.pef_tool.specs.Run.{RunAnswers}
+use Rattle.pef_tool.proofs.SupplyLemmas.{prepare-lacks}
 
 -- a text that isn't a script, if it is another list of the same bytes
 pub fails_same : (f : ScriptFault) (text read : List ℕ) → text ≡ read → FailsAs f (script_of text) → FailsAs f (script_of read)
@@ -37,6 +38,9 @@ module _ {F : Type 0} (port : FilesPort F) (before after : F) where
   unread_linking script (fault.Input f) stops = absurd stops
   unread_linking script (fault.Prepare f) stops = absurd stops
   unread_linking script (fault.Fragment f) stops = absurd stops
+  unread_linking script (fault.Untold path why) stops = absurd stops
+  unread_linking script fault.StoreFull stops = absurd stops
+  unread_linking script (fault.Stub f) stops = absurd stops
 
   -- .. or its text isn't linked
   pub unlinked : (script read text : List ℕ) (why : Fault) → Reads port before after script (Ok read) → text ≡ read → RefusesText text why → link.RefusesLinking port before after script why
@@ -53,6 +57,9 @@ module _ {F : Type 0} (port : FilesPort F) (before after : F) where
   unlinked script read text (fault.Input f) reads same fails = absurd fails
   unlinked script read text (fault.Prepare f) reads same fails = absurd fails
   unlinked script read text (fault.Fragment f) reads same fails = absurd fails
+  unlinked script read text (fault.Untold path why) reads same fails = absurd fails
+  unlinked script read text fault.StoreFull reads same fails = absurd fails
+  unlinked script read text (fault.Stub f) reads same fails = absurd fails
 
   -- for `link`, an allocation may also fail later
   pub refuses_link : (script out : List ℕ) (why : Fault) → link.RefusesLinking port before after script why → link.LinkRefuses port before after script out why
@@ -66,6 +73,9 @@ module _ {F : Type 0} (port : FilesPort F) (before after : F) where
   refuses_link script out (fault.Input f) refuses = absurd refuses
   refuses_link script out (fault.Prepare f) refuses = absurd refuses
   refuses_link script out (fault.Fragment f) refuses = absurd refuses
+  refuses_link script out (fault.Untold path why) refuses = absurd refuses
+  refuses_link script out fault.StoreFull refuses = absurd refuses
+  refuses_link script out (fault.Stub f) refuses = absurd refuses
 
   -- a file that isn't read ends `list`
   pub list_refuses : (path : List ℕ) (why : Fault) → StopsFile port before after path why → list.ListRefuses port before after path why
@@ -79,6 +89,9 @@ module _ {F : Type 0} (port : FilesPort F) (before after : F) where
   list_refuses path (fault.Input f) stops = absurd stops
   list_refuses path (fault.Prepare f) stops = absurd stops
   list_refuses path (fault.Fragment f) stops = absurd stops
+  list_refuses path (fault.Untold file why) stops = absurd stops
+  list_refuses path fault.StoreFull stops = absurd stops
+  list_refuses path (fault.Stub f) stops = absurd stops
 
   -- and `extract`
   pub extract_refuses : (path name out : List ℕ) (why : Fault) → StopsFile port before after path why → extract.ExtractRefuses port before after path name out why
@@ -92,6 +105,9 @@ module _ {F : Type 0} (port : FilesPort F) (before after : F) where
   extract_refuses path name out (fault.Input f) stops = absurd stops
   extract_refuses path name out (fault.Prepare f) stops = absurd stops
   extract_refuses path name out (fault.Fragment f) stops = absurd stops
+  extract_refuses path name out (fault.Untold file why) stops = absurd stops
+  extract_refuses path name out fault.StoreFull stops = absurd stops
+  extract_refuses path name out (fault.Stub f) stops = absurd stops
 
   -- and `load`
   pub load_refuses : (named : List (List ℕ × List ℕ)) (why : Fault) → StopsReading port before after named why → load.LoadRefuses port before after named why
@@ -105,6 +121,9 @@ module _ {F : Type 0} (port : FilesPort F) (before after : F) where
   load_refuses named (fault.Input f) stops = absurd stops
   load_refuses named (fault.Prepare f) stops = absurd stops
   load_refuses named (fault.Fragment f) stops = absurd stops
+  load_refuses named (fault.Untold path why) stops = absurd stops
+  load_refuses named fault.StoreFull stops = absurd stops
+  load_refuses named (fault.Stub f) stops = absurd stops
 
   -- and `check`, for each of its two files
   pub check_refuses : (script cert : List ℕ) (why : Fault) → StopsFile port before after script why → check.RefusesFiles port before after script cert why
@@ -118,6 +137,9 @@ module _ {F : Type 0} (port : FilesPort F) (before after : F) where
   check_refuses script cert (fault.Input f) stops = absurd stops
   check_refuses script cert (fault.Prepare f) stops = absurd stops
   check_refuses script cert (fault.Fragment f) stops = absurd stops
+  check_refuses script cert (fault.Untold path why) stops = absurd stops
+  check_refuses script cert fault.StoreFull stops = absurd stops
+  check_refuses script cert (fault.Stub f) stops = absurd stops
 
   pub check_refuses_later : (between : F) (script cert text : List ℕ) (why : Fault) → Reads port before between script (Ok text) → StopsFile port between after cert why → check.RefusesFiles port before after script cert why
   check_refuses_later between script cert text (fault.Unreadable told reason) first stops = (inr (stops.0, (text, record { between = between; first = first; second = stops.1 })), stops.2)
@@ -130,6 +152,9 @@ module _ {F : Type 0} (port : FilesPort F) (before after : F) where
   check_refuses_later between script cert text (fault.Input f) first stops = absurd stops
   check_refuses_later between script cert text (fault.Prepare f) first stops = absurd stops
   check_refuses_later between script cert text (fault.Fragment f) first stops = absurd stops
+  check_refuses_later between script cert text (fault.Untold path why) first stops = absurd stops
+  check_refuses_later between script cert text fault.StoreFull first stops = absurd stops
+  check_refuses_later between script cert text (fault.Stub f) first stops = absurd stops
 
 -- nothing of an input was read
 nothing_read : (told : Option (List ℕ)) → Begins told told []
@@ -151,3 +176,5 @@ lacks_memory port stream (Some (extract path name out)) files input = ((extract.
 lacks_memory port stream (Some (inspect json paths)) files input = inr (refl, refl, refl)
 lacks_memory port stream (Some (inspect_listed json)) files input = inr (inr (refl, refl, refl))
 lacks_memory port stream (Some (inspect_pair json resources path)) files input = inr (refl, refl, refl)
+lacks_memory port stream (Some (prepare asked)) files input = (prepare-lacks port files asked, refl)
+lacks_memory port stream (Some (stubs asked)) files input = (inr (fault.OutOfMemory, inr (refl, (0, [], refl)), refl), refl)

@@ -24,7 +24,7 @@ use Rattle.cfm_prepare.specs.declared.fault.PrepareFault.TheVariants as prepare_
 use Rattle.pef_faults.specs.declared.fault.Fault.TheVariants.{Prepare}
 use Rattle.pef_loader.specs.Loader.{init_of, main_of, term_of}
 use Rattle.pef_script.specs.Script.{DescribedScript}
-use Rattle.pef_write.specs.Linked.{IsLinked, LinkedContainer}
+use Rattle.pef_write.specs.Linked.{IsLinked, IsLinkedContainer, LinkedContainer}
 use Rattle.pef_tool.specs.Kept.Rooted.{RootEnds, RootOutcome, root_answer}
 use Rattle.pef_tool.specs.Kept.Rooted as rooted
 use Rattle.pef_tool.specs.Kept.Showing.{ScriptEnds}
@@ -58,7 +58,10 @@ pub record EndsRooted (script : DescribedScript) (root : RootOutcome) : Type 0 w
   pub ends : ScriptEnds script outcome
   pub said : show_answer outcome ≡ root_answer root
 
-module _ (script : DescribedScript) (k : LinkedContainer) (linked : IsLinked script k) where
+module _ (script : DescribedScript) (k : LinkedContainer) (link : IsLinkedContainer script k) where
+  abbrev linked : IsLinked script k
+  linked = link.certified.linked
+
   abbrev alone : List Pair
   alone = single_store k.bytes
 
@@ -77,7 +80,7 @@ module _ (script : DescribedScript) (k : LinkedContainer) (linked : IsLinked scr
       let main : option_and_then main_of (loader_at alone 0) ≡ script.main = ap (option_and_then main_of) loader ∙ tables.main in
       record {
         container = k;
-        linked = linked;
+        linked = link;
         prepared = done;
         alone = record {
           name = ap (λ pairs. unwrap_or (name_at pairs 0) []) done.pairs;
@@ -130,7 +133,7 @@ module _ (script : DescribedScript) (k : LinkedContainer) (linked : IsLinked scr
   unprepared prepare_fault.RootMissing why = absurd (is-found k.bytes why.1)
   unprepared (prepare_fault.Bind f) why = record {
     outcome = refuses (Prepare (prepare_fault.Bind f));
-    ends = record { container = k; linked = linked; fails = lacks_closure why.0.root f (root-is k.bytes why.0.root why.0.is) why.1 };
+    ends = record { container = k; linked = link; fails = lacks_closure why.0.root f (root-is k.bytes why.0.root why.0.is) why.1 };
     said = refl;
   }
   unprepared (prepare_fault.TooManyBytes f) why = absurd why.passes
@@ -141,7 +144,7 @@ module _ (script : DescribedScript) (k : LinkedContainer) (linked : IsLinked scr
         outcome = refuses (Prepare (prepare_fault.Fragment (fragment_fault.NoRoom f place)));
         ends = record {
           container = k;
-          linked = linked;
+          linked = link;
           closed = why.closure.closed;
           closure = closure_there why.closure.has.root why.closure.closed (root-is k.bytes why.closure.has.root why.closure.has.is) why.closure.is;
           lacks = lacks.0;

@@ -4,8 +4,10 @@ pub mod Inspecting
 pub mod Linking
 pub mod Judged
 pub mod Loading
-pub mod Reading
 pub mod Rooted
 pub mod Routines
 pub mod Showing
 pub mod Spelling
+pub mod Gathering
+pub mod Supplying
+pub mod StubFiles

@@ -15,4 +15,10 @@ pub mod Loaded
 pub mod Show
 pub mod Spellings
 pub mod Version
+pub mod Gathering
+pub mod Prepare
+pub mod Reading
+pub mod PreparedAsLoaded
+pub mod Supplied
+pub mod WriteStubs
 pub mod Explain

@@ -1,7 +1,7 @@
 -- The answer of a run. Each command has a line here, and its answers in a file of their own.
 use Rattle.std.specs.Prelude.{◌≡◌, ◌⊎◌, Option, None, Some}
 use Rattle.pef_ports.specs.Ports.{FilesPort, Stream}
-use Rattle.pef_request.specs.Requests.{Asked, check, distances, extract, inspect, inspect_listed, inspect_pair, link, list, load, show, version}
+use Rattle.pef_request.specs.Requests.{Asked, check, distances, extract, inspect, inspect_listed, inspect_pair, link, list, load, prepare, show, stubs, version}
 use Rattle.pef_tool.specs.Answers.Answers.{Answer, answer_usage}
 use Rattle.pef_tool.specs.Load.{LoadAnswers}
 use Rattle.pef_tool.specs.Show.{ShowAnswers}
@@ -11,7 +11,9 @@ use Rattle.pef_tool.specs.Extract.{ExtractAnswers}
 use Rattle.pef_tool.specs.Inspect.{InspectAnswers, InspectListedAnswers, InspectPairAnswers}
 use Rattle.pef_tool.specs.Link.{LinkAnswers}
 use Rattle.pef_tool.specs.List.{ListAnswers}
+use Rattle.pef_tool.specs.Prepare.{PrepareAnswers}
 use Rattle.pef_tool.specs.Version.{VersionAnswers}
+use Rattle.pef_tool.specs.WriteStubs.{StubsAnswers}
 use Rattle.pef_tool.specs.Answers.Faults.{fault_answer}
 use Rattle.pef_faults.specs.declared.fault.Fault.TheVariants.{OutOfMemory}
 
@@ -34,3 +36,5 @@ RunAnswers port stream (Some (extract path name out)) files files' input input' 
 RunAnswers port stream (Some (inspect json paths)) files files' input input' answer = InspectAnswers port stream json files files' input input' paths answer
 RunAnswers port stream (Some (inspect_listed json)) files files' input input' answer = InspectListedAnswers port stream json files files' input input' answer
 RunAnswers port stream (Some (inspect_pair json resources path)) files files' input input' answer = InspectPairAnswers port stream json files files' input input' resources path answer
+RunAnswers port stream (Some (prepare asked)) files files' input input' answer = PrepareAnswers port files files' asked answer × (input' ≡ input)
+RunAnswers port stream (Some (stubs asked)) files files' input input' answer = StubsAnswers port files files' asked answer × (input' ≡ input)

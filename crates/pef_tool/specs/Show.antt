@@ -31,7 +31,7 @@ use Rattle.pef_script.specs.declared.text.fault.ScriptFault.{ScriptFault}
 use Rattle.pef_tool.specs.Limits.{input_limit, memory_limit}
 use Rattle.pef_tool.specs.Loaded.{entries_in, fragment_name, init_order_in, loaded_text, main_in, order_in}
 use Rattle.pef_headline.specs.Now.{IsDescribedNow, described_extents}
-use Rattle.pef_write.specs.Linked.{IsLinked, LinkedContainer}
+use Rattle.pef_write.specs.Linked.{IsLinkedContainer, LinkedContainer}
 
 -- the whole input was read, and this is its text
 pub record WasRead (before after : Stream) (text : List ℕ) : Type 0 where
@@ -64,7 +64,7 @@ pub record IsAlone (script : DescribedScript) (s : ContextState) (number : ℕ) 
 -- under the addresses of its sections and of its imports' targets. Nothing else is in memory.
 pub record IsShown (script : DescribedScript) (s : ContextState) (number : ℕ) : Type 0 where
   pub container : LinkedContainer
-  pub linked : IsLinked script container
+  pub linked : IsLinkedContainer script container
   pub prepared : Prepares (fresh_state (single_store container.bytes) memory_limit) (codes "it") number s
   pub alone : IsAlone script s number
   pub described : IsDescribedNow (single_store container.bytes) s script 0
@@ -82,7 +82,7 @@ FailsToBind bytes fault = FailsAs fault (closed_of (single_store bytes) 0)
 -- the container that is linked of a script has no closure alone, or an allocation for it failed
 pub record LacksClosure (script : DescribedScript) (fault : BindFault) : Type 0 where
   pub container : LinkedContainer
-  pub linked : IsLinked script container
+  pub linked : IsLinkedContainer script container
   pub fails : FailsToBind container.bytes fault
 
 -- an error says that there is no room for a fragment with this name
@@ -94,7 +94,7 @@ SaysNoRoom _ name = ⊥
 -- after those before it, in memory without instances, and this error of its preparation says so
 pub record LacksPlaces (script : DescribedScript) (fault : PrepareFault) : Type 0 where
   pub container : LinkedContainer
-  pub linked : IsLinked script container
+  pub linked : IsLinkedContainer script container
   pub closed : Closed
   pub closure : closed_of (single_store container.bytes) 0 ≡ Ok closed
   pub lacks : LackRoom (no_instances memory_limit) (described_extents script)

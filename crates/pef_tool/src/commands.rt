@@ -15,8 +15,10 @@ use crate::inspect::{Inspected, InspectedPair, inspect_files, inspect_listed, in
 use crate::link::link_files;
 use crate::list::list_file;
 use crate::load::load_files;
+use crate::prepare::prepare_files;
 use crate::show::show_input;
 use crate::version::print_version;
+use crate::write_stubs::stub_files;
 use pef_faults::Fault;
 use pef_ports::{Files, Sink, Source};
 use pef_request::{Request, WordsFault, read_request};
@@ -117,6 +119,8 @@ fn run_request<F: Files, R: Source, W: Sink>(
             },
             out,
         ),
+        Request::Prepare(asked) => prepare_files(alloc, files, &asked, out),
+        Request::Stubs(asked) => stub_files(alloc, files, &asked, out),
         Request::InspectListed { json } => inspect_listed(alloc, files, input, json, out),
         Request::InspectPair {
             json,

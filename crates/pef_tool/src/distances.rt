@@ -1,13 +1,11 @@
-ghost use Rattle.std.proofs.Props.{props};
-ghost use Rattle.std.specs.List.{AllByRecursion};
-ghost use Rattle.pef_cert.specs.Text.Printed.{Printable, certificates_text};
+ghost use Rattle.pef_cert.specs.Text.Printed.{certificates_text};
 ghost use Rattle.pef_tool.specs.Answers.Answers.{Answer, IsDelivered, answer_done};
 ghost use Rattle.pef_tool.specs.Distances.{DistancesAnswers};
 
 use crate::answers::{Outcome, Reply, deliver};
 use crate::linking::certify_text;
 use crate::reading::read_file;
-use pef_cert::PackedCertificate;
+use pef_certify::ScriptCertificates;
 use pef_ports::{Files, Page, Sink, StreamFault};
 use std::alloc::Global;
 
@@ -39,18 +37,17 @@ pub fn print_distances<F: Files, W: Sink>(
 /// The certificates of a script's sections, as they are printed.
 #[derive(Drop)]
 struct Distances {
-    certificates: Vec<PackedCertificate>,
-    ghost printable: { AllByRecursion Printable certificates.items } by { Prim.hlevel props },
+    certificates: ScriptCertificates,
 }
 
 impl Reply for Distances {
-    ghost answer = { λ distances. answer_done (certificates_text distances.certificates.items) };
+    ghost answer = { λ distances. answer_done (certificates_text distances.certificates) };
 
     fn outcome(&self) -> Outcome {
         Outcome::Done
     }
 
     fn print<W: Sink>(&self, out: &mut W, page: &mut Page) -> Result<(), StreamFault> {
-        PackedCertificate::print_to(out, page, &self.certificates)
+        self.certificates.print_to(out, page)
     }
 }

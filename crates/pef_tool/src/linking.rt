@@ -1,9 +1,9 @@
 ghost use Rattle.pef_tool.specs.Kept.Linking.{CertifiesText, LinksText, ReadsScript};
 
-use pef_cert::PackedCertificate;
+use pef_certify::ScriptCertificates;
 use pef_faults::Fault;
 use pef_script::Script;
-use pef_write::{LinkedContainer, link_certificates, link_container};
+use pef_write::{LinkedContainer, link_container};
 use std::alloc::Global;
 
 /// Parses and links the script in a text.
@@ -21,14 +21,14 @@ pub fn link_text(alloc: Global, text: &[u8]) -> Result<LinkedContainer, Fault<'_
 }
 
 /// Parses and links the script in a text. Returns its certificates.
-pub fn certify_text(alloc: Global, text: &[u8]) -> Result<Vec<PackedCertificate>, Fault<'_>>
+pub fn certify_text(alloc: Global, text: &[u8]) -> Result<ScriptCertificates, Fault<'_>>
     ensures { CertifiesText text.now result }
 {
     let script = match read_script(alloc, text) {
         Ok(script) => script,
         Err(fault) => return Err(fault),
     };
-    match link_certificates(alloc, &script) {
+    match ScriptCertificates::of(alloc, &script) {
         Ok(certificates) => Ok(certificates),
         Err(_) => Err(Fault::OutOfMemory),
     }

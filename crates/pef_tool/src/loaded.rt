@@ -29,7 +29,7 @@ pub struct Loaded<'a> {
 }
 
 /// Prepares the fragment with a name, in a context of its own.
-fn prepare_root<'a>(
+pub fn prepare_root<'a>(
     alloc: Global,
     store: Store<'a>,
     name: &[u8],
@@ -114,7 +114,7 @@ impl Routine {
 }
 
 /// Prints the fragments of a connection's closure with their sections, and then their entry points.
-fn print_loaded<W: Sink>(
+pub fn print_loaded<W: Sink>(
     out: &mut W,
     page: &mut Page,
     loaded: &Loaded<'_>,
@@ -130,7 +130,7 @@ fn print_loaded<W: Sink>(
 }
 
 /// Returns the fragments of a connection in closure order.
-fn order_of<'r>(context: &'r Context<'_>, connection: Connection) -> &'r [usize]
+pub fn order_of<'r>(context: &'r Context<'_>, connection: Connection) -> &'r [usize]
     ensures { result.now ≡ order_in context.now connection.0 }
 {
     match context.fragments(connection) {

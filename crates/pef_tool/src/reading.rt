@@ -1,6 +1,6 @@
 ghost use Rattle.std.specs.Prelude.{IfErr, IfOk, Ok};
 ghost use Rattle.pef_ports.specs.Ports.{Reads};
-ghost use Rattle.pef_tool.specs.Kept.Reading.{StopsFile};
+ghost use Rattle.pef_tool.specs.Reading.{StopsFile};
 
 use pef_faults::Fault;
 use pef_ports::{FileFault, Files};

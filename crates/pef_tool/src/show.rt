@@ -1,7 +1,7 @@
 ghost use Rattle.std.specs.Prelude.{◌≡◌, IfOk};
 ghost use Rattle.pef_tool.specs.Answers.Answers.{Answer, IsDelivered};
 ghost use Rattle.pef_script.specs.Script.{DescribedScript};
-ghost use Rattle.pef_write.specs.Linked.{IsLinked};
+ghost use Rattle.pef_write.specs.Linked.{IsLinkedContainer};
 ghost use Rattle.pef_tool.specs.Kept.Showing.{ScriptEnds};
 ghost use Rattle.pef_tool.specs.Show.{ShowAnswers, ShowOutcome, single_store, show_answer};
 
@@ -37,7 +37,7 @@ pub fn show_input<R: Source, W: Sink>(alloc: Global, input: &mut R, out: &mut W)
 /// be no room for its sections. The only other fault of preparation is a failed allocation, since packed images expand
 /// and the relocation programs are sound.
 fn show_linked<W: Sink>(alloc: Global, linked: &LinkedContainer, out: &mut W) -> Outcome
-    ensures { (script : DescribedScript) → IsLinked script linked.now → (outcome : ShowOutcome)
+    ensures { (script : DescribedScript) → IsLinkedContainer script linked.now → (outcome : ShowOutcome)
         × ScriptEnds script outcome
         × IsDelivered (W.stream out.old) (W.stream out.new) (show_answer outcome) result }
 {

@@ -21,6 +21,7 @@ ghost use Rattle.pef_tool.specs.Check.{Judges, Texts};
 ghost use Rattle.pef_tool.specs.Distances.{IsYesToAll};
 ghost use Rattle.pef_tool.specs.declared.check.Verdict.{Verdict};
 ghost use Rattle.pef_tool.specs.Extract.{ExtractsInspected};
+ghost use Rattle.pef_tool.specs.PreparedAsLoaded.{PreparesAsLoad};
 ghost use Rattle.pef_write.specs.Linked.{CertifiedContainer, IsCertifiedLink};
 
 /// `check` accepts the certificates that `distances` prints of a script. It answers yes for the certificate of each
@@ -48,4 +49,11 @@ pub fn faults_are_explained()
 #[tactic(auto, using(crate::proofs::ExtractLemmas::extracts_inspected))]
 pub fn extracts_what_is_inspected()
     ensures { ExtractsInspected }
+{}
+
+/// What `prepare` prints of memory is what `load` prints for files with the names and the bytes of the fragments and the stubs that
+/// `prepare` is made of. The lines of the stubs and of the sources follow.
+#[tactic(auto, using(crate::proofs::AsLoadLemmas::as_load))]
+pub fn prepares_as_load()
+    ensures { PreparesAsLoad }
 {}

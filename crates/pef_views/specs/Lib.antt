@@ -4,6 +4,7 @@ pub mod Faults
 pub mod Header
 pub mod Partial
 pub mod PartialViews
+pub mod Refused
 pub mod Section
 pub mod Theorems
 pub mod Views

@@ -18,4 +18,6 @@ pub use fault::ViewFault;
 pub use header::Header;
 pub use partial::PartialContainer;
 pub use section::{SectionHeader, SectionView};
-pub use theorems::{containers_are_kept, containers_open, first_fault_is_reported};
+pub use theorems::{
+    containers_are_kept, containers_open, first_fault_is_reported, refusals_have_places,
+};

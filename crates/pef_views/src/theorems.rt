@@ -1,5 +1,6 @@
 //! Laws of all faults of a container. The functions do nothing.
 ghost use Rattle.pef_views.specs.Extents.{KeepsContainers};
+ghost use Rattle.pef_views.specs.Refused.{RefusalsHavePlaces};
 ghost use Rattle.pef_views.specs.Theorems.{FirstIsReported, OpensContainers};
 
 /// The first of all faults of some bytes is the one that [`Container::read`](crate::Container::read) reports, and there is
@@ -20,4 +21,11 @@ pub fn containers_open()
 #[tactic(auto, using(crate::proofs::ExtentLemmas::kept_whole))]
 pub fn containers_are_kept()
     ensures { KeepsContainers }
+{}
+
+/// The place of an error of a container is that of what is refused: a field of the header, or of the first section that breaks a
+/// rule. The number at its offset is the value of that field.
+#[tactic(auto, using(crate::proofs::RefusedLemmas::refusals_have_places))]
+pub fn refusals_have_places()
+    ensures { RefusalsHavePlaces }
 {}

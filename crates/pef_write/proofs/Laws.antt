@@ -10,3 +10,5 @@ pub use Rattle.pef_write.proofs.LeastLemmas.{least_program}
 pub use Rattle.pef_write.proofs.LinkExists.{some_link}
 -- for a script there is one that `link` gives, and certificates that it may give have the programs of this container
 pub use Rattle.pef_write.proofs.OneLink.{one_container, own_certificates}
+-- a container of absolute exports is read back
+pub use Rattle.pef_write.proofs.NumberedLemmas.{exported}

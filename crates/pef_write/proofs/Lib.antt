@@ -19,6 +19,7 @@ mod LinkedPrograms
 mod LinkExists
 mod LinkLemmas
 mod OneLink
+mod NumberedLemmas
 mod RelocationSteps
 mod EntrySteps
 mod PieceLemmas

@@ -4,4 +4,5 @@ pub mod Loaders
 pub mod Linked
 pub mod ReadBack
 pub mod LeastPrograms
+pub mod ExportContainers
 pub mod Kept

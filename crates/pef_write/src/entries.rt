@@ -159,7 +159,7 @@ fn class_byte(weak: bool, class: u8) -> u8
 }
 
 /// Returns the fields of an export whose name is at `at` (PEFExportedSymbol).
-fn export_entry(export: ExportView<'_>, at: u32) -> [Field; 3]
+pub(crate) fn export_entry(export: ExportView<'_>, at: u32) -> [Field; 3]
     requires class { export.fields.class < 16 }
     requires section { FitsSigned w16 export.fields.section }
     requires at { at < 2 ^ 24 }

@@ -12,6 +12,7 @@
 mod container;
 mod entries;
 mod export_table;
+mod exports;
 mod fault;
 mod field;
 mod linking;
@@ -21,9 +22,10 @@ mod relocations;
 mod sections;
 mod theorems;
 
+pub use exports::link_exports;
 pub use fault::LinkFault;
 pub use linking::{Linked, LinkedContainer, link, link_certificates, link_container};
 pub use theorems::{
-    every_script_links, linked_containers, linked_programs, linked_programs_are_least,
-    scripts_have_one_link,
+    every_script_links, exports_are_read_back, linked_containers, linked_programs,
+    linked_programs_are_least, scripts_have_one_link,
 };

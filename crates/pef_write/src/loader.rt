@@ -21,7 +21,7 @@ use pef_script::Script;
 use std::alloc::{AllocError, Global};
 
 /// The export table begins at a multiple of this.
-const EXPORT_TABLE_ALIGNMENT: usize = 4;
+pub(crate) const EXPORT_TABLE_ALIGNMENT: usize = 4;
 
 /// The parts of a loader section after its header.
 #[derive(Clone, Copy)]

@@ -2,7 +2,10 @@
 ghost use Rattle.std.specs.Prelude.{◌≡◌, ℕ, List, Some, slice_get};
 ghost use Rattle.pef_cert.specs.Certified.{Certified};
 ghost use Rattle.pef_script.specs.Script.{DescribedScript, DescribedSection};
-ghost use Rattle.pef_script.specs.WellFormed.{ScriptHolds};
+ghost use Rattle.pef_format.specs.Exports.{Export};
+ghost use Rattle.pef_script.specs.WellFormed.{ScriptHolds, VersionsHold};
+ghost use Rattle.pef_script.specs.declared.parts.Versions.{Versions};
+ghost use Rattle.pef_write.specs.ExportContainers.{HasExports, NumbersFit, exports_container};
 ghost use Rattle.pef_write.specs.LeastPrograms.{HasLeastProgram};
 ghost use Rattle.pef_write.specs.Linked.{AreLinkCertificates, IsCertifiedLink, IsLinked, IsLinkedContainer, LinkedContainer, programs_from};
 ghost use Rattle.pef_write.specs.Loaders.{ProgramEntry};
@@ -37,4 +40,10 @@ pub fn scripts_have_one_link()
 /// For every script that keeps the limits there is a linked container with least programs.
 pub fn every_script_links()
     ensures { (s : DescribedScript) → ScriptHolds s → (l : LinkedContainer) × IsLinked s l }
+{}
+
+/// A container of absolute exports is read back: it has the versions and the exports, and nothing else. The first export with a name
+/// is found by it.
+pub fn exports_are_read_back()
+    ensures { (v : Versions) (exports : List Export) (bytes : List ℕ) → VersionsHold v → NumbersFit exports → bytes ≡ exports_container v exports → HasExports v exports bytes }
 {}

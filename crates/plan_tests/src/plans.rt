@@ -9,19 +9,19 @@ use std::alloc::Global;
 use std::process::Abort;
 use test_data::lists::S1;
 
-/// Returns the plan of fixups that fit.
-pub fn planned(rt: &impl Abort, alloc: Global, fixups: &[Fixup]) -> Certificate
-    ensures { fixups_fit fixups.now ≡ true }
-{
+/// Plans fixups, and compares the length of the program, and the program if one is given. The certificate is accepted, and its
+/// program is the one that is found alone.
+pub fn assert_plan(
+    rt: &impl Abort,
+    alloc: Global,
+    fixups: &[Fixup],
+    length: u64,
+    program: &[Instr],
+) {
     assert!(rt; fixups_fit(fixups));
-    plan(alloc, 3, fixups).expect(rt, "a plan")
-}
-
-/// Plans fixups and compares the length of the program. The certificate is accepted, and its program is the one that is found
-/// alone.
-pub fn assert_length(rt: &impl Abort, alloc: Global, fixups: &[Fixup], length: u64) {
-    let certificate = planned(rt, alloc, fixups);
+    let certificate = plan(alloc, 3, fixups).expect(rt, "a plan");
     assert_certified(rt, fixups, &certificate, length);
+    assert!(rt; program.is_empty() || certificate.program.as_slice() == program);
     assert_alone(rt, alloc, fixups, &certificate.program);
 }
 
@@ -41,12 +41,17 @@ fn assert_certified(rt: &impl Abort, fixups: &[Fixup], certificate: &Certificate
     assert!(rt; check(fixups, certificate), "{first:?} ..");
 }
 
-/// Returns this many fixups in a row, of two sections in turn, this many bytes apart.
-pub fn in_a_row(rt: &impl Abort, alloc: Global, count: u32, step: u32, other: Base) -> Vec<Fixup> {
+/// Fixups in a row: how many, the offset of the first, how many bytes apart, and the base of each second one. The others are by
+/// section 1.
+pub type Run = (u32, u32, u32, Base);
+
+/// Returns the fixups of a run.
+pub fn in_a_row(rt: &impl Abort, alloc: Global, run: Run) -> Vec<Fixup> {
+    let (count, first, step, other) = run;
     let mut fixups = Vec::new(alloc);
     for i in 0..count {
         let base = if i % 2 == 0 { other } else { S1 };
-        let offset = i.wrapping_mul(step);
+        let offset = i.wrapping_mul(step).wrapping_add(first);
         fixups.push(Fixup { offset, base }).expect(rt, "memory");
     }
     fixups

@@ -1,4 +1,3 @@
-//! The worked rows of packed data. `cases/` and `conformance/` have many more.
 use pef_pidata::{expand, pack};
 use std::alloc::Global;
 use std::process::Abort;
@@ -74,10 +73,6 @@ const PACKED: &[Image<'static>] = &[
     (&[0x03, 0x25, 1, 2, 0, 0, 3], &[0, 0, 0, 1, 2, 0, 0, 3]),
     (&[0x22, 0, 0], &[0, 0]),
     (&[0x00, 0x81, 0x00], &[0; 128]),
-    (
-        &[0x24, 0x11, 0x22, 0x33, 0x44, 0x03, 0x23, 0x08, 1, 2],
-        &[0x11, 0x22, 0x33, 0x44, 0, 0, 0, 0x08, 1, 2],
-    ),
 ];
 
 /// Packs an image, and expands what was packed.

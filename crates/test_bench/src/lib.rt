@@ -8,4 +8,4 @@
 pub mod ports;
 pub mod runs;
 
-pub use test_data::{changes, containers, limits, mac_files, scripts};
+pub use test_data::{changes, containers, mac_files, scripts};

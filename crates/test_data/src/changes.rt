@@ -45,7 +45,7 @@ pub fn changed(alloc: Global, container: &[u8], at: At, other: &[u8]) -> Option<
 }
 
 /// Writes words at some offsets. `None` if the container ends before the end of one.
-pub fn change_words(bytes: &mut [u8], words: &[(usize, u32)]) -> Option<()> {
+fn change_words(bytes: &mut [u8], words: &[(usize, u32)]) -> Option<()> {
     for (at, word) in words {
         change(bytes, At::Front(*at), &word.to_be_bytes())?;
     }

@@ -1,5 +1,5 @@
-//! Fixups in tables, and instructions from their bytes.
-use pef_reloc::{Base, Fixup, Instr, Program};
+//! Fixups in tables.
+use pef_reloc::{Base, Fixup};
 use std::alloc::{AllocError, Global};
 
 pub const S0: Base = Base::Section(0);
@@ -7,8 +7,6 @@ pub const S0: Base = Base::Section(0);
 pub const S1: Base = Base::Section(1);
 
 pub const S2: Base = Base::Section(2);
-
-pub const S3: Base = Base::Section(3);
 
 /// Fixups by offset and base.
 pub type Listed = &'static [(u32, Base)];
@@ -21,16 +19,4 @@ pub fn fixups(alloc: Global, listed: &[(u32, Base)]) -> Result<Vec<Fixup>, Alloc
         fixups.push(Fixup { offset, base })?;
     }
     Ok(fixups)
-}
-
-/// Returns the instructions that bytes spell. `None` if they spell none, or an allocation fails.
-pub fn spelled(alloc: Global, bytes: &[u8]) -> Option<Vec<Instr>> {
-    let mut instrs = Vec::new(alloc);
-    let mut walk = Program::read(bytes).ok()?.instrs();
-    for _ in 0..bytes.len() {
-        if let Some(instr) = walk.next_instr() {
-            instrs.push(instr).ok()?;
-        }
-    }
-    Some(instrs)
 }

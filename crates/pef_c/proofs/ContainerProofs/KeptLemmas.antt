@@ -33,6 +33,7 @@ places_are (p ∷ ps) (q ∷ qs) xs ys len is =
     let place : numbers p.place.part p.place.row p.place.field ≡ numbers q.place.part q.place.row q.place.field = cc is in
     let number : numbers p.place.offset p.detail p.number ≡ numbers q.place.offset q.detail q.number = cc is in
     let error : flag p.is_error ≡ flag q.is_error = cc is in
+    let kind : numbers p.detail_kind 0 0 ≡ numbers q.detail_kind 0 0 = cc is in
     let rest = places_are ps qs xs ys (omega (arith, len)) (cc is) in
     let part = first_is _ _ _ _ _ _ place in
     let row = second_is _ _ _ _ _ _ place in
@@ -40,7 +41,8 @@ places_are (p ∷ ps) (q ∷ qs) xs ys len is =
     let offset = first_is _ _ _ _ _ _ number in
     let detail = second_is _ _ _ _ _ _ number in
     let code = third_is _ _ _ _ _ _ number in
-    let same : p ≡ q = (λ i. record { place = record { part = part i; row = row i; field = field i; offset = offset i }; detail = detail i; number = code i; is_error = flag_is p.is_error q.is_error error i }) in
+    let detail_kind = first_is _ _ _ _ _ _ kind in
+    let same : p ≡ q = (λ i. record { place = record { part = part i; row = row i; field = field i; offset = offset i }; detail = detail i; number = code i; is_error = flag_is p.is_error q.is_error error i; detail_kind = detail_kind i }) in
     (ap₂ (λ (y : _) (zs : List _). y ∷ zs) same rest.0, rest.1)
 
 -- two sinks that took the same

@@ -5,13 +5,28 @@ use Rattle.pef_inspect.specs.Errors.{errors_of}
 use Rattle.pef_inspect.specs.Findings.{finding_number, is_error}
 use Rattle.pef_inspect.specs.More.{AreMore}
 use Rattle.pef_inspect.specs.Oddities.{HasIrregularExports, notes_of}
+use Rattle.pef_inspect.specs.declared.detail.Detail.{Detail}
+use Rattle.pef_inspect.specs.declared.detail.Detail.TheVariants as detail
 use Rattle.pef_inspect.specs.declared.finding.Finding.{Finding}
 use Rattle.pef_records.specs.Buffers.{FillsPart}
 use Rattle.pef_records.specs.Places.{place_or_nowhere}
 use Rattle.pef_records.specs.declared.structs.PefFinding.{PefFinding}
 
+-- the codes of what a detail is (PEF_DETAIL_NONE and those after it)
+abbrev pub detail_kind : Detail → ℕ
+detail_kind detail.None = 0
+detail_kind (detail.Word n) = 1
+detail_kind (detail.Length n) = 2
+detail_kind (detail.Sections n) = 3
+
 abbrev pub finding_row : Finding → PefFinding
-finding_row f = record { place = place_or_nowhere (Some f.place); detail = detail_value (detail_of f.cause); number = finding_number f; is_error = is_error f }
+finding_row f = record {
+  place = place_or_nowhere (Some f.place);
+  detail = detail_value (detail_of f.cause);
+  number = finding_number f;
+  is_error = is_error f;
+  detail_kind = detail_kind (detail_of f.cause);
+}
 
 -- all errors of some bytes as a container, and all notes that need no memory, by whether its exports are irregular
 abbrev pub rows_of : List ℕ → Bool → List PefFinding

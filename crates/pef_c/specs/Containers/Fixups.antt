@@ -1,11 +1,14 @@
--- What `pef_fixups` returns and writes.
+-- What `pef_fixups` and `pef_partial_fixups` return and write.
 use Rattle.std.specs.Prelude.{◌≡◌, ◌⊎◌, ℕ, List, Option, None, Some, map}
+use Rattle.std.specs.Option.{option_and_then}
 use Rattle.pef_loader.specs.Loader.{Loaded, reloc_of}
+use Rattle.pef_loader.specs.Partial.{relocation_row}
 use Rattle.pef_reloc.specs.Faults.{fault_number}
 use Rattle.pef_reloc.specs.Traces.{fixups_of}
 use Rattle.pef_reloc.specs.Unrolled.{program_fault}
 use Rattle.pef_reloc.specs.declared.fault.RelocFault.{RelocFault}
 use Rattle.pef_c.specs.Containers.Loaders.{HasTables, IsTablesRefusal}
+use Rattle.pef_c.specs.Containers.Partial.{HasPart, IsTablesUnreadable}
 use Rattle.pef_records.specs.Buffers.{FillsPart}
 use Rattle.pef_records.specs.Containers.Fixups.{FixupRow, fixup_row, fixup_shown}
 use Rattle.pef_records.specs.declared.structs.PefFixup.{PefFixup}
@@ -37,3 +40,19 @@ abbrev pub FixupsAnswer : List ℕ → ℕ → ℕ → List PefFixup → List Pe
 FixupsAnswer bytes header from old new before after answer =
     ((l : Loaded) × HasTables bytes l × HeaderAnswer (reloc_of l header) from old new before after answer)
     ⊎ ((new ≡ old) × (after ≡ before) × IsTablesRefusal bytes answer)
+
+-- the program of a relocation header, if it is all in the bytes
+abbrev pub program_in : Loaded → ℕ → Option (List ℕ)
+program_in l header = option_and_then (λ row. row.program) (relocation_row l header)
+
+-- what is returned and written for it: 201, if it isn't
+abbrev pub PartProgramAnswer : Option (List ℕ) → ℕ → List PefFixup → List PefFixup → ℕ → ℕ → ℕ → Type 0
+PartProgramAnswer None from old new before after answer = IsRefused old new before after 201 answer
+PartProgramAnswer (Some program) from old new before after answer = ProgramAnswer (program_fault program) program from old new before after answer
+
+-- what `pef_partial_fixups` returns and writes: that of the header, if the bytes have a loader header; otherwise the reason why
+-- nothing can be read, and nothing is written
+abbrev pub PartFixupsAnswer : List ℕ → ℕ → ℕ → List PefFixup → List PefFixup → ℕ → ℕ → ℕ → Type 0
+PartFixupsAnswer bytes header from old new before after answer =
+    ((l : Loaded) × HasPart bytes l × PartProgramAnswer (program_in l header) from old new before after answer)
+    ⊎ ((new ≡ old) × (after ≡ before) × IsTablesUnreadable bytes answer)

@@ -15,10 +15,10 @@ abbrev pub flag : Bool → Finding
 flag true = numbers 1 0 0
 flag false = numbers 0 0 0
 
--- places as findings, three for each
+-- places as findings, four for each
 abbrev pub places_kept : List PefFinding → List Finding
 places_kept [] = []
-places_kept (p ∷ ps) = numbers p.place.part p.place.row p.place.field ∷ numbers p.place.offset p.detail p.number ∷ flag p.is_error ∷ places_kept ps
+places_kept (p ∷ ps) = numbers p.place.part p.place.row p.place.field ∷ numbers p.place.offset p.detail p.number ∷ flag p.is_error ∷ numbers p.detail_kind 0 0 ∷ places_kept ps
 
 -- the places by the name of the reference to them, the number of the first row, and the places as they were
 unfoldable pub kept : ℕ → ℕ → List PefFinding → List Finding

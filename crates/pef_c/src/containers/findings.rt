@@ -3,14 +3,23 @@ ghost use Rattle.std.specs.Prelude.{◌≡◌, ◌-◌, ◌++◌, [], drop, leng
 ghost use Rattle.pef_inspect.specs.Errors.{errors_of};
 ghost use Rattle.pef_inspect.specs.Oddities.{Adds, HasIrregularExports, notes_of};
 ghost use Rattle.pef_records.specs.Buffers.{FillsPart};
-ghost use Rattle.pef_c.specs.Containers.Findings.{FindingsAnswer, MoreNotesAnswer, finding_row};
+ghost use Rattle.pef_c.specs.Containers.Findings.{FindingsAnswer, MoreNotesAnswer, detail_kind, finding_row};
 ghost use Rattle.pef_c.specs.Containers.Told.{told_items};
 
 use crate::containers::told::Told;
-use pef_inspect::{Finding, Findings, find_errors, find_more_notes, find_notes};
+use pef_inspect::{Detail, Finding, Findings, find_errors, find_more_notes, find_notes};
 use pef_records::{OUT_OF_MEMORY, PefFinding, place_or_nowhere};
 use std::alloc::Global;
 use std::convert::Infallible;
+
+/// What a detail is (`PEF_DETAIL_NONE` and the others).
+const NO_DETAIL: u8 = 0;
+
+const WORD_DETAIL: u8 = 1;
+
+const LENGTH_DETAIL: u8 = 2;
+
+const SECTIONS_DETAIL: u8 = 3;
 
 /// Reads the errors of a container and then the notes on it, from number `from` on, into the first places, and counts them.
 /// Nothing is allocated.
@@ -171,5 +180,18 @@ fn finding_given(finding: Finding) -> PefFinding
         detail: finding.detail().value(),
         number: finding.number(),
         is_error: finding.is_error(),
+        detail_kind: detail_kind(finding.detail()),
+    }
+}
+
+/// Returns the code of what a detail is.
+fn detail_kind(detail: Detail) -> u8
+    ensures { result ≡ detail_kind detail }
+{
+    match detail {
+        Detail::None => NO_DETAIL,
+        Detail::Word(_) => WORD_DETAIL,
+        Detail::Length(_) => LENGTH_DETAIL,
+        Detail::Sections(_) => SECTIONS_DETAIL,
     }
 }

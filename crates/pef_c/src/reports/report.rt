@@ -101,7 +101,7 @@ fn object_of(
 }
 
 /// Keeps a text, to be read. Returns 0; or 99, and then it isn't open.
-fn keep(alloc: Global, report: &mut PefText, text: Vec<u8, Global>) -> u32
+pub(crate) fn keep(alloc: Global, report: &mut PefText, text: Vec<u8, Global>) -> u32
     requires { unread report.old ≡ None }
     ensures { KeepAnswers text.items (unread report.new) result }
 {

@@ -1,7 +1,7 @@
 ghost use Rattle.pef_c.specs.Scripts.Link.{LinkAnswers};
 
-use pef_records::{OUT_OF_MEMORY, ROOM_TOO_SMALL, copy_out, given, line_number};
-use pef_script::{Script, ScriptFault};
+use crate::scripts::reading::read_script;
+use pef_records::{OUT_OF_MEMORY, ROOM_TOO_SMALL, copy_out};
 use pef_write::link_container;
 use std::alloc::Global;
 
@@ -19,20 +19,9 @@ pub extern "C" fn pef_link(
 ) -> u32
     ensures { LinkAnswers script.now buffer.old buffer.new written.old written.new line.new result }
 {
-    *line = 0;
-    let script = match Script::read(alloc, given(script)) {
+    let script = match read_script(alloc, script, line) {
         Ok(script) => script,
-        Err(
-            ScriptFault::Refused {
-                fault,
-                line: at,
-                ..
-            },
-        ) => {
-            *line = at;
-            return line_number(fault);
-        }
-        Err(ScriptFault::OutOfMemory) => return OUT_OF_MEMORY,
+        Err(number) => return number,
     };
     let Ok(linked) = link_container(alloc, &script) else {
         return OUT_OF_MEMORY;

@@ -1,5 +1,5 @@
 -- The results of the port over a disk, by what the disk did.
-use Rattle.std.specs.Prelude.{◌≡◌, ◌⊎◌, ⊤, ℕ, List, Result, Ok, Err}
+use Rattle.std.specs.Prelude.{◌≡◌, ◌⊎◌, ⊤, ℕ, ◌+◌, ◌-◌, ◌^◌, ◌&&◌, not, Bool, List, length, min, nat_lt, Option, None, Some, Result, Ok, Err, if◌then◌else◌}
 use Rattle.std.specs.Str.{IsUtf8}
 use Rattle.std.specs.IoError.{error_kind}
 use Rattle.std.specs.declared.io.Error.{Error}
@@ -48,3 +48,19 @@ abbrev pub IsAnswered : {A : Type 0} → (Result A ErrorKind → Type 0) → Lis
 IsAnswered {A} Did path answer reason =
     (IsUtf8 path × ((did : Result A ErrorKind) × Did did × (answer ≡ answer_of did) × IsReason did reason))
     ⊎ (¬ (IsUtf8 path) × (answer ≡ Err Failed) × (reason ≡ NotUtf8))
+
+-- the most bytes that are read of a device or a pipe
+abbrev pub most_of_device : ℕ
+most_of_device = 536870912
+
+-- the memory that is taken before a file of some size is read
+abbrev pub room_for : Bool → ℕ → ℕ
+room_for is_file size = if is_file then min (size + 1) (2 ^ 64 - 1) else 0
+
+-- how many bytes are read at most; none if all are
+abbrev pub most_read : Bool → Option ℕ
+most_read is_file = if is_file then None else Some (most_of_device + 1)
+
+-- what was read, unless it is of a device and too long
+abbrev pub accepted : Bool → List ℕ → Result (List ℕ) ErrorKind
+accepted is_file bytes = if not is_file && nat_lt most_of_device (length bytes) then Err kind.FileTooLarge else Ok bytes

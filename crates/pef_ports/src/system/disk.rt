@@ -1,7 +1,7 @@
 ghost use Rattle.std.specs.Prelude.{◌≡◌, ℕ, List, IfErr, OnOk, Result};
 ghost use Rattle.std.specs.IoError.{error_kind};
 ghost use Rattle.std.specs.declared.io.ErrorKind.{ErrorKind};
-ghost use Rattle.pef_ports.specs.System.Disk.{IsReason, answer_of, fault_of, reason_of, seen};
+ghost use Rattle.pef_ports.specs.System.Disk.{IsReason, accepted, answer_of, fault_of, most_read, reason_of, room_for, seen};
 ghost use Rattle.pef_ports.specs.Ports.{counted};
 ghost use Rattle.pef_ports.specs.declared.ports.FileFault.TheVariants.{Failed};
 ghost use Rattle.pef_ports.specs.declared.ports.FileReason.TheVariants.{NotUtf8};
@@ -33,30 +33,59 @@ pub trait Disk {
         ensures { did_write self.now path.now bytes.now (seen (λ done. done) result) };
 }
 
-/// No clause can say what a real file gives, so a call of the system may do anything.
+/// No clause can say what a real file gives, so a call of the system may do anything. What can be decided by values has functions
+/// of its own, with clauses; what is left calls the system.
 impl<R: rt::Files + AllocGlobal> Disk for R {
     fn read_file(&self, path: &str) -> io::Result<Vec<u8>> {
         let metadata = fs::metadata(self, path)?;
-        let mut file = File::open(self, path)?;
-        if metadata.is_file() {
-            // One byte more: the read that finds the end needs room, too.
-            let room = (metadata.len() as usize).saturating_add(1);
-            let mut bytes = Vec::with_capacity(self.alloc(), room)?;
-            file.read_to_end(&mut bytes)?;
-            return Ok(bytes);
-        }
-        // A device or a pipe need not have an end.
-        let mut bytes = Vec::new(self.alloc());
-        file.take(MOST_BYTES + 1).read_to_end(&mut bytes)?;
-        if bytes.len() as u64 > MOST_BYTES {
-            return Err(Error::from(ErrorKind::FileTooLarge));
-        }
-        Ok(bytes)
+        let file = File::open(self, path)?;
+        let room = room_for(metadata.is_file(), metadata.len());
+        let bytes = Vec::with_capacity(self.alloc(), room)?;
+        let bytes = match most_read(metadata.is_file()) {
+            Some(most) => read_all(file.take(most), bytes)?,
+            None => read_all(file, bytes)?,
+        };
+        accepted(metadata.is_file(), bytes)
     }
 
     fn write_file(&self, path: &str, bytes: &[u8]) -> io::Result<()> {
         fs::write(self, path, bytes)
     }
+}
+
+/// Returns some bytes with all that a reader gives after them.
+fn read_all<R: Read + Drop>(mut reader: R, mut bytes: Vec<u8>) -> io::Result<Vec<u8>> {
+    reader.read_to_end(&mut bytes)?;
+    Ok(bytes)
+}
+
+/// Returns for how many bytes memory is taken before a file of this size is read: one more than it has, since the read that
+/// finds the end needs room, too. The size of a device or a pipe says nothing.
+fn room_for(is_file: bool, size: u64) -> usize
+    ensures { result ≡ room_for is_file size }
+{
+    if is_file {
+        (size as usize).saturating_add(1)
+    } else {
+        0
+    }
+}
+
+/// Returns how many bytes are read at most, if not all are. A device or a pipe need not have an end.
+fn most_read(is_file: bool) -> Option<u64>
+    ensures { result ≡ most_read is_file }
+{
+    if is_file { None } else { Some(MOST_BYTES + 1) }
+}
+
+/// Returns what was read, unless it is of a device or a pipe with too many bytes.
+fn accepted(is_file: bool, bytes: Vec<u8>) -> io::Result<Vec<u8>>
+    ensures { seen (λ bytes. bytes.items) result ≡ accepted is_file bytes.items }
+{
+    if !is_file && bytes.len() as u64 > MOST_BYTES {
+        return Err(Error::from(ErrorKind::FileTooLarge));
+    }
+    Ok(bytes)
 }
 
 /// The files of a disk.

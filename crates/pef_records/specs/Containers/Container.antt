@@ -13,6 +13,7 @@ header_given h = record {
   current_version = h.current_version;
   section_count = h.section_count;
   instantiated_section_count = h.instantiated_section_count;
+  architecture = h.architecture;
 }
 
 -- a section's header as C sees it

@@ -16,6 +16,7 @@ pub fn header_given(header: Header) -> PefHeader
         current_version: header.current_version,
         section_count: header.section_count,
         instantiated_section_count: header.instantiated_section_count,
+        architecture: header.architecture,
     }
 }
 

@@ -1,6 +1,5 @@
 -- How the script in a text is parsed and linked, for the commands that do so.
-use Rattle.std.specs.Prelude.{◌≡◌, ℕ, List, Result, Ok, Err, Vec}
-use Rattle.std.specs.declared.alloc.Global.{Global}
+use Rattle.std.specs.Prelude.{◌≡◌, ℕ, List, Result, Ok, Err}
 use Rattle.pef_cert.specs.Certified.{Certified}
 use Rattle.pef_script.specs.Text.Grammar.{script_of}
 use Rattle.pef_script.specs.Text.Reads.{FailsAs}
@@ -26,6 +25,6 @@ LinksText text (Ok l) = (script : DescribedScript) × (script_of text ≡ Ok scr
 LinksText text (Err fault) = RefusesText text fault
 
 -- .. or its certificates
-abbrev pub CertifiesText : List ℕ → Result (Vec Certified Global) Fault → Type 0
-CertifiesText text (Ok certificates) = (script : DescribedScript) × (script_of text ≡ Ok script) × AreLinkCertificates script certificates.items
+abbrev pub CertifiesText : List ℕ → Result (List Certified) Fault → Type 0
+CertifiesText text (Ok certificates) = (script : DescribedScript) × (script_of text ≡ Ok script) × AreLinkCertificates script certificates
 CertifiesText text (Err fault) = RefusesText text fault

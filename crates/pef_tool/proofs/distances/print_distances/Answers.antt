@@ -4,7 +4,7 @@ use Rattle.pef_cert.specs.Text.Printed.{certificates_text}
 use Rattle.pef_tool.specs.Answers.Answers.{answer_done}
 use Rattle.pef_tool.specs.Answers.Faults.{fault_answer}
 use Rattle.pef_tool.specs.Distances.{certifies, refuses}
-use Rattle.pef_tool.proofs.DistancesLemmas.{certificates_print, file_certified}
+use Rattle.pef_tool.proofs.DistancesLemmas.{file_certified}
 use Rattle.pef_tool.proofs.OutcomeLemmas.{unlinked, unread_linking}
 use Rattle.pef_tool.proofs.distances.print_distances.Goals as goal
 
@@ -19,14 +19,9 @@ returns-in-Err-certify_text g c =
     let refused = unlinked _ c.args.files.now c.read_file.new.files c.args.script.now c.in-Ok.text.items c.as_slice.result.now why c.in-Ok.ensures.read c.as_slice.ensures.value c.in-Err-certify_text.ensures in
     (fault_answer why, (refuses why, refused, refl), c.deliver-in-Err-certify_text.ensures)
 
-pub invariant_of-deliver : goal.invariant_of-deliver
-invariant_of-deliver g c =
-    let certified = c.in-Ok-certify_text.ensures in
-    record { printable = certificates_print certified.0 _ certified.2.certified }
-
 pub returns : goal.returns
 returns g c =
     let certified = c.in-Ok-certify_text.ensures in
-    let certificates = c.in-Ok-certify_text.certificates.items in
+    let certificates = c.in-Ok-certify_text.certificates in
     let file = file_certified c.as_slice.result.now certified.0 c.in-Ok.ensures.read c.as_slice.ensures.value certified.1 certified.2.certified in
     (answer_done (certificates_text certificates), (certifies certificates, file, refl), c.deliver-2.ensures)

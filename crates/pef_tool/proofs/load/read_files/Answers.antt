@@ -5,7 +5,7 @@ use Rattle.std.specs.declared.alloc.Global.{Global}
 use Rattle.std.specs.declared.vec.Vec.{Vec}
 use Rattle.pef_ports.specs.Ports.{FilesPort, Reads}
 use Rattle.pef_request.specs.Requests.{named_path}
-use Rattle.pef_tool.specs.Kept.Reading.{StopsFile}
+use Rattle.pef_tool.specs.Reading.{StopsFile}
 use Rattle.pef_tool.specs.Load.{WereRead}
 use Rattle.pef_tool.proofs.LoadLemmas.{lacks-after, read-next, stops}
 use Rattle.pef_tool.proofs.load.read_files.Goals as goal

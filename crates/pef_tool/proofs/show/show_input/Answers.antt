@@ -18,7 +18,7 @@ returns-in-Ok-link_text g c =
     let before = g.R.Source.stream c.args.input.now in
     let after = g.R.Source.stream c.read_input.new.input in
     let links = c.in-Ok-link_text.ensures in
-    let shown = c.show_linked.ensures links.0 links.2.certified.linked in
+    let shown = c.show_linked.ensures links.0 links.2 in
     let ends = ends_with before after c.in-Ok.text c.as_slice.result.now c.in-Ok.ensures c.as_slice.ensures.value links.0 shown.0 links.1 shown.1 in
     (show_answer shown.0, (shown.0, ends, refl), shown.2)
 

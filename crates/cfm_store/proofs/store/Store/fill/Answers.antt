@@ -1,10 +1,13 @@
 -- The table of places has the new name with its place, and the others as before.
-use Rattle.std.proofs.Common.{◌∙◌, List, Some, false, map, refl, sym, ap, subst, set}
+use Rattle.std.proofs.Common.{ℕ, ◌∙◌, List, Some, false, map, refl, sym, ap, subst, set}
 use Rattle.std.proofs.lemmas.List.{length-set, map-set}
+use Rattle.pef_names.specs.declared.name_key.NameKey.{NameKey}
 use Rattle.cfm_store.specs.Kept.Places.{SetsPlace}
+use Rattle.cfm_store.specs.Places.{NotesSlice}
 use Rattle.cfm_store.specs.Seen.{place_seen}
 use Rattle.cfm_store.specs.Stores.{Pair}
 use Rattle.cfm_store.proofs.PlaceLemmas.{ArePlaces-filled, IsFreeFor}
+use Rattle.cfm_store.proofs.SliceLemmas.{slice-insert, slice-new, slices-filled}
 use Rattle.cfm_store.proofs.store.Store.fill.Goals as goal
 
 pub invariant_of-self-2 : goal.invariant_of-self-2
@@ -18,10 +21,15 @@ invariant_of-self-2 c =
       others = λ other apart. c.in_ok-insert.ensures.updates.2 (record { bytes = record { ref_ptr = (0, 0); now = other } }) apart;
     } in
     let items = map-set place_seen c.self.inside.pairs.items c.args.place (Some (c.args.name, c.args.bytes)) in
-    rw items (record {
-      places = ArePlaces-filled pairs c.args.place n c.self.inside.places.entries _ c.self.invariant.places free refl sets;
-      few = rw (length-set pairs c.args.place n) c.self.invariant.few;
-    })
+    let notes : NotesSlice c.self.inside.places.entries c.args.name c.insert.new.self.entries =
+    subst (λ (es : List (NameKey × ℕ)). NotesSlice c.self.inside.places.entries c.args.name es) (sym c.in_ok-insert.ensures.entries) (slice-insert (record { bytes = c.args.name }) c.args.place c.self.inside.places.entries) in
+    let none = c.self.invariant.places_are n.name ∙ free.none in
+    record {
+      places_are = rw items (ArePlaces-filled pairs c.args.place n c.self.inside.places.entries _ c.self.invariant.places_are free refl sets);
+      slices_are = slices-filled c.self.inside.pairs.items c.args.place c.args.name c.args.bytes free c.self.inside.places.entries c.insert.new.self.entries c.self.invariant.slices_are
+          (slice-new c.self.inside.places.entries c.insert.new.self.entries c.args.name n.name notes refl none);
+      few = rw (length-set c.self.inside.pairs.items c.args.place (Some (c.args.name, c.args.bytes))) c.self.invariant.few;
+    }
 
 pub returns-clause-ok : goal.returns-clause-ok
 returns-clause-ok c =

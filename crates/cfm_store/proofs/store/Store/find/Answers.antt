@@ -14,4 +14,4 @@ returns-then-name-gt-LONGEST_HASHED-clause-below c =
 
 pub returns-clause-below : goal.returns-clause-below
 returns-clause-below c =
-    rw (← c.self.view_is) (place_below _ c.args.name.now _ (sym (c.copied.ensures ∙ c.get.ensures.value ∙ c.self.invariant.places c.args.name.now)))
+    rw (← c.self.view_is) (place_below _ c.args.name.now _ (sym (c.copied.ensures ∙ c.get.ensures.value ∙ c.self.invariant.places_are c.args.name.now)))

@@ -1,0 +1,6 @@
+mod EncodedLemmas
+mod ExportLemmas
+mod ImportLemmas
+mod RelocationLemmas
+mod SectionLemmas
+mod SymbolLemmas

@@ -1,0 +1,9 @@
+-- The comma and the object.
+use Rattle.pef_ports.proofs.Laws.Sending.{Sends-short, Sends-then, StopsShort-longer}
+use Rattle.cfm_rows.proofs.symbols.print_element.Goals as goal
+
+pub returns-in_err-print_separator : goal.returns-in_err-print_separator
+returns-in_err-print_separator g c = Sends-short _ c.from_residual.result _ c.from_residual.ensures.1 (StopsShort-longer _ c.in_err-print_separator.ensures)
+
+pub returns : goal.returns
+returns g c = Sends-then c.print_symbol.result (g.W.Sink.stream c.print_symbol.new.out) _ _ c.in_ok-print_separator.ensures (c.print_symbol.ensures)

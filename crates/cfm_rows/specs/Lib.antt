@@ -1,0 +1,10 @@
+pub mod Encoded
+pub mod Entries
+pub mod Exports
+pub mod Fragments
+pub mod Imports
+pub mod Lines
+pub mod Relocations
+pub mod Sections
+pub mod Symbols
+pub mod Views

@@ -1,0 +1,22 @@
+pub mod Laws
+mod FoldLemmas
+mod SymbolLemmas
+mod VersionLemmas
+mod NumberLemmas
+mod ExactLemmas
+mod FitLemmas
+mod EntryLemmas
+mod OriginLemmas
+mod StubbedLemmas
+mod MadeLemmas
+mod ReadLemmas
+mod LinkedStubs
+mod PreparationLemmas
+mod FittingLemmas
+mod LackingLemmas
+mod AddedLemmas
+mod SeveralLemmas
+mod MemorySteps
+mod MemoryLemmas
+mod MemoryExports
+mod MemoryStubLemmas

@@ -1,0 +1,15 @@
+pub mod Added
+pub mod Faults
+pub mod Fits
+pub mod Kept
+pub mod Lacking
+pub mod Made
+pub mod MemoryStubs
+pub mod NumberStubs
+pub mod Preparations
+pub mod Stubbed
+pub mod Stubs
+pub mod Symbols
+pub mod Values
+pub mod Versions
+pub mod Views

@@ -1,2 +1,0 @@
-mod Room
-mod Taken

@@ -1,0 +1,4 @@
+mod ChoiceLemmas
+mod NamedLemmas
+mod PlaceLemmas
+mod RankLemmas

@@ -1,0 +1,3 @@
+pub mod Expansions
+pub mod Kept
+pub mod Views

@@ -1,0 +1,2 @@
+mod GatherLemmas
+mod NameLemmas

@@ -1,0 +1,4 @@
+pub mod Gathered
+pub mod Names
+pub mod Seen
+pub mod Stores
