@@ -15,13 +15,18 @@
  *   unchanged keeps the bytes that it had. Only a struct pef_context, a struct pef_listing and a struct pef_report have to start as
  *   zero bytes.
  * - What a call writes overlaps nothing else that it takes.
- * - A context is used by one thread at a time; but several may read it at once by the calls whose names end in `_const`. A
- *   listing or a report is used by one thread at a time. Apart from that, several threads may make calls at once: the library has
- *   no state outside of contexts, listings and reports.
- * - A thread that makes calls has 64 KB of stack for them, and 96 KB for pef_report_open() and pef_report_open_container(). No call
+ * - A context, a listing or a report is used by one thread at a time; but several may read a context at once, by the calls that take a
+ *   `const struct pef_context *`. Apart from that, several threads may make calls at once: the library has no state outside of contexts,
+ *   listings and reports.
+ * - A thread that makes calls has 64 KB of stack for them, and 160 KB for those whose names begin with pef_report_open. No call
  *   takes more, whatever it reads.
  * - No call is made from a signal handler.
  * - malloc, realloc and free are those of the C library, or others whose blocks are aligned to 16 bytes.
+ *
+ * A program that was compiled with an older header runs over a later library of the same name, libpef.so.0: structs keep their size, and
+ * fields their place. A new field takes bytes that were padding, in a struct that the library fills; a struct that has to be longer is a new
+ * one, with calls of its own. So a program with a newer header runs over an earlier library, too, if that has its calls. But a field that
+ * the library doesn't know may hold anything: pef_version() says which library it is.
  *
  * What is borrowed is read during the call only, unless a call says that a result points into it. Then the bytes have to
  * stay, unchanged, while the result is used. What pef_add() takes has to stay until pef_free() of that context returns, or until
@@ -48,10 +53,25 @@ extern "C" {
 /* The same as one number, to be compared with pef_version(). */
 #define PEF_VERSION_NUMBER (PEF_VERSION_MAJOR << 16 | PEF_VERSION_MINOR << 8 | PEF_VERSION_PATCH)
 
+/*
+ * A length, a count or an offset in a struct or behind a pointer: a size_t on machines with addresses of 64 bits. On those with 32 bits it
+ * has 64 bits as well, and PEF_WIDE puts a field at a multiple of 8 bytes. So a struct has the same layout on every machine.
+ */
+#if SIZE_MAX > 0xFFFFFFFF
+#define PEF_WIDE
+typedef size_t pef_size;
+#elif defined(_MSC_VER)
+#define PEF_WIDE __declspec(align(8))
+typedef PEF_WIDE uint64_t pef_size;
+#else
+#define PEF_WIDE __attribute__((aligned(8)))
+typedef PEF_WIDE uint64_t pef_size;
+#endif
+
 /* Bytes that somebody else owns. They have no zero byte at their end. */
 struct pef_bytes {
     const uint8_t *at;
-    size_t length;
+    pef_size length;
 };
 
 /* No bytes, at a place that isn't null: struct pef_bytes name = PEF_NO_BYTES; */
@@ -63,6 +83,8 @@ struct pef_bytes {
 
 /* The call did what it says. */
 #define PEF_OK 0
+
+/* Written by tools/declarations from docs/errors.table: */
 
 /* The container is refused. */
 #define PEF_TOO_SHORT 1
@@ -158,7 +180,7 @@ struct pef_bytes {
 /* An allocation failed. */
 #define PEF_OUT_OF_MEMORY 99
 
-/* Notes on a container: oddities that break no rule. No call returns them; findings have them. */
+/* Notes: oddities that break no rule. No call returns them; findings and reports have them. */
 #define PEF_NOTE_RESERVED_NOT_ZERO 101
 #define PEF_NOTE_UNKNOWN_KIND 102
 #define PEF_NOTE_UNKNOWN_SHARE 103
@@ -173,13 +195,22 @@ struct pef_bytes {
 #define PEF_NOTE_OVERLAP 112
 #define PEF_NOTE_UNOWNED_BYTES 113
 #define PEF_NOTE_WORD_RELOCATED_TWICE 114
+#define PEF_NOTE_CONTAINERS_UNVERIFIED 115
 #define PEF_NOTE_SECTIONS_OUT_OF_ORDER 116
+#define PEF_NOTE_BYTES_AFTER_FORKS 117
+#define PEF_NOTE_FRAGMENT_SHORT 118
+#define PEF_NOTE_DATA_FORK_ELSEWHERE 119
+#define PEF_NOTE_NOT_UNPACKED 120
 #define PEF_NOTE_NAME_OUTSIDE 121
+#define PEF_NOTE_FRAGMENT_ARCHITECTURE 122
+#define PEF_NOTE_FRAGMENT_USAGE 123
 
 /* Only this library returns these: the caller's buffer is too small; there is no such thing; the context isn't open; a
- * fragment of an open connection was prepared without the weak library that is added; the context has as many fragments as
- * it may; the granule is none; the options have another size; the fragment is present; a fragment of an open connection names
- * it as a library; a fragment has the name already; there are more or fewer addresses than new sections. */
+ * fragment of an open connection was prepared without the weak library that is added; the context has as many fragments
+ * as it may; the granule is none; the options have another size; the fragment is present; a fragment of an open
+ * connection names it as a library; a fragment has the name already; there are more or fewer addresses than new
+ * sections; no container can export so many symbols, or a name of this length, or so many bytes of names; a number of a
+ * stub has more than 32 bits; a stub in memory can't have this name, or so many bytes. */
 #define PEF_ROOM_TOO_SMALL 200
 #define PEF_NOT_THERE 201
 #define PEF_NOT_OPEN 202
@@ -191,6 +222,14 @@ struct pef_bytes {
 #define PEF_STILL_NAMED 208
 #define PEF_NAME_TAKEN 209
 #define PEF_WRONG_ADDRESS_COUNT 210
+#define PEF_TOO_MANY_SYMBOLS 211
+#define PEF_LONG_NAME 212
+#define PEF_TOO_MANY_NAME_BYTES 213
+#define PEF_PAST_LAST_NUMBER 214
+#define PEF_UNSPELLABLE_NAME 215
+#define PEF_TOO_MANY_STUB_BYTES 216
+
+/* The end of what is written. */
 
 /* How many fragments a context has at most at a time, and how many connections it gives if no other number was asked for, closed ones
  * included. */
@@ -242,7 +281,20 @@ struct pef_bytes {
  * The container has a shortest relocation program without repeats for each section, so linking is more work than reading.
  * To know the length first, a call with a small buffer does all of that work.
  */
-uint32_t pef_link(const uint8_t *script, size_t script_length, uint8_t *buffer, size_t buffer_length, size_t *written, size_t *line);
+uint32_t pef_link(const uint8_t *script, size_t script_length, uint8_t *buffer, size_t buffer_length, pef_size *written, pef_size *line);
+
+/*
+ * Gives the certificates of a script: writes the lines that `pef distances` prints to the front of `buffer`, with no zero byte at their
+ * end. Each certificate has the relocation program that pef_link() writes for a section, and proves that no program without repeats is
+ * shorter.
+ *
+ * Returns PEF_OK, and stores the length of the lines in `*written`; or PEF_ROOM_TOO_SMALL, and stores the length that is needed in
+ * `*written`; or the script's first refusal with its line, or PEF_OUT_OF_MEMORY, as pef_link() does. `*line`, `buffer` and `*written`
+ * are changed and left unchanged as by pef_link().
+ *
+ * This is as much work as linking, and a call with a small buffer does all of it. The lines can be far longer than the container.
+ */
+uint32_t pef_distances(const uint8_t *script, size_t script_length, uint8_t *buffer, size_t buffer_length, pef_size *written, pef_size *line);
 
 /*
  * Lists a container: writes the lines that `pef list` prints to the front of `buffer`, with no zero byte at their end.
@@ -251,7 +303,7 @@ uint32_t pef_link(const uint8_t *script, size_t script_length, uint8_t *buffer, 
  * needed in `*written`; or the first refusal, 1 to 20 or 31 to 36; or PEF_OUT_OF_MEMORY. Unless PEF_OK is returned,
  * `buffer` is left unchanged; and after a refusal `*written` is too.
  */
-uint32_t pef_list(const uint8_t *container, size_t container_length, uint8_t *buffer, size_t buffer_length, size_t *written);
+uint32_t pef_list(const uint8_t *container, size_t container_length, uint8_t *buffer, size_t buffer_length, pef_size *written);
 
 /*
  * A listing that is read part by part. It starts as zero bytes:
@@ -262,7 +314,7 @@ uint32_t pef_list(const uint8_t *container, size_t container_length, uint8_t *bu
  */
 struct pef_listing {
     void *handle;
-    bool is_open;
+    PEF_WIDE bool is_open;
 };
 
 /* No listing, which are zero bytes: struct pef_listing listing = PEF_NO_LISTING; */
@@ -286,7 +338,7 @@ uint32_t pef_list_open(struct pef_listing *listing, const uint8_t *container, si
  * 0 after it. Or returns PEF_NOT_OPEN, if the listing isn't open; or PEF_OUT_OF_MEMORY, and then the next call goes on where
  * this one began. After both `buffer` and `*written` are left unchanged.
  */
-uint32_t pef_list_next(struct pef_listing *listing, uint8_t *buffer, size_t buffer_length, size_t *written);
+uint32_t pef_list_next(struct pef_listing *listing, uint8_t *buffer, size_t buffer_length, pef_size *written);
 
 /*
  * Frees a listing. It may be opened again. A listing that isn't open stays as it is, so one may be freed twice.
@@ -328,9 +380,9 @@ uint32_t pef_help(uint32_t number, struct pef_bytes *help);
  */
 struct pef_place {
     uint32_t part;
-    size_t row;
-    size_t field;
-    size_t offset;
+    pef_size row;
+    pef_size field;
+    pef_size offset;
 };
 
 /* An error that is at no place has PEF_NOWHERE and PEF_NO_OFFSET. */
@@ -350,7 +402,7 @@ struct pef_place {
 #define PEF_LINE_PART 13
 
 /* The offset of what has none. */
-#define PEF_NO_OFFSET SIZE_MAX
+#define PEF_NO_OFFSET UINT64_MAX
 
 /*
  * Finds the first error of a container, in the order in which pef_list() reports them. Every call that reads a container reports
@@ -369,21 +421,31 @@ uint32_t pef_container_place(const uint8_t *container, size_t container_length, 
  * line that must not come first, for PEF_SCRIPT_REPEATED_NAME the line that has the name, and for PEF_SCRIPT_UNKNOWN_NAME a line that declares
  * nearly the name. Or returns PEF_OUT_OF_MEMORY. In all other cases it stores no place, and 0.
  */
-uint32_t pef_script_place(const uint8_t *script, size_t script_length, struct pef_place *place, size_t *earlier);
+uint32_t pef_script_place(const uint8_t *script, size_t script_length, struct pef_place *place, pef_size *earlier);
+
+/*
+ * What the detail of an error or a note is: nothing, and 0; the offset of a relocated word in its section; a number of bytes; or a number
+ * of sections.
+ */
+#define PEF_DETAIL_NONE 0
+#define PEF_DETAIL_WORD 1
+#define PEF_DETAIL_LENGTH 2
+#define PEF_DETAIL_SECTIONS 3
 
 /*
  * An error of a container, or a note on it, and where it is. Errors have numbers below 100, notes from 101 on.
  *
- * For PEF_RELOC_WORD_OUTSIDE, PEF_RELOC_IMPORT_OUTSIDE, PEF_RELOC_SECTION_OUTSIDE, PEF_NOTE_WORD_OUTSIDE_IMAGE and
- * PEF_NOTE_WORD_RELOCATED_TWICE, `detail` is the offset of the relocated word in its section. For PEF_NOTE_TRAILING_BYTES, PEF_NOTE_OVERLAP and
- * PEF_NOTE_UNOWNED_BYTES it is a number of bytes. For PEF_NOTE_SECTIONS_OUT_OF_ORDER it is the number of sections of a kind that may be
- * instantiated. For the others it is 0.
+ * `detail_kind` says what `detail` is. PEF_RELOC_WORD_OUTSIDE, PEF_RELOC_IMPORT_OUTSIDE, PEF_RELOC_SECTION_OUTSIDE,
+ * PEF_NOTE_WORD_OUTSIDE_IMAGE and PEF_NOTE_WORD_RELOCATED_TWICE have a PEF_DETAIL_WORD; PEF_NOTE_TRAILING_BYTES, PEF_NOTE_OVERLAP and
+ * PEF_NOTE_UNOWNED_BYTES a PEF_DETAIL_LENGTH; and PEF_NOTE_SECTIONS_OUT_OF_ORDER a PEF_DETAIL_SECTIONS: how many sections there are of a
+ * kind that may be instantiated.
  */
 struct pef_finding {
     struct pef_place place;
     uint64_t detail;
     uint32_t number;
     bool is_error;
+    uint8_t detail_kind;
 };
 
 /*
@@ -398,7 +460,7 @@ struct pef_finding {
  *
  * Each call reads the whole container, so read many at once.
  */
-uint32_t pef_findings(const uint8_t *container, size_t container_length, size_t from, struct pef_finding *places, size_t place_count, size_t *count);
+uint32_t pef_findings(const uint8_t *container, size_t container_length, size_t from, struct pef_finding *places, size_t place_count, pef_size *count);
 
 /*
  * Finds the notes that need memory, PEF_NOTE_TRAILING_BYTES, PEF_NOTE_OVERLAP, PEF_NOTE_UNOWNED_BYTES and
@@ -407,18 +469,18 @@ uint32_t pef_findings(const uint8_t *container, size_t container_length, size_t 
  *
  * Returns PEF_OK; or PEF_OUT_OF_MEMORY, and leaves `places` and `*count` unchanged.
  */
-uint32_t pef_more_notes(const uint8_t *container, size_t container_length, size_t from, struct pef_finding *places, size_t place_count, size_t *count);
+uint32_t pef_more_notes(const uint8_t *container, size_t container_length, size_t from, struct pef_finding *places, size_t place_count, pef_size *count);
 
 /*
  * A report that is read part by part. It starts as zero bytes:
  *
  *     struct pef_report report = PEF_NO_REPORT;
  *
- * Only the four calls below change it, and it isn't copied. Several reports may be open at once.
+ * Only the calls below change it, and it isn't copied. Several reports may be open at once.
  */
 struct pef_report {
     void *handle;
-    bool is_open;
+    PEF_WIDE bool is_open;
 };
 
 /* No report, which are zero bytes: struct pef_report report = PEF_NO_REPORT; */
@@ -445,13 +507,103 @@ uint32_t pef_report_open(struct pef_report *report, const uint8_t *path, size_t 
 uint32_t pef_report_open_container(struct pef_report *report, const uint8_t *container, size_t container_length);
 
 /*
+ * A report may also be made in parts, by a viewer that doesn't want all of a large file at once. What pef_report_open_head() makes, what
+ * pef_report_open_found() makes of each container, and what pef_report_open_end() makes are, one after the other, the text of
+ * pef_report_open():
+ *
+ *     uint32_t answer;
+ *     struct pef_found_container found;
+ *
+ *     (open the head, and read it)
+ *     for (answer = pef_first_container(file, length, &found); answer == PEF_OK; answer = pef_next_container(file, length, &found))
+ *         (open what was found, and read it)
+ *     (open the end by what was found last, and read it)
+ *
+ * These calls keep none of the bytes. Each keeps its text in memory until pef_report_free() or the next part is opened, and frees the
+ * part before it first. They return PEF_OK; or PEF_OUT_OF_MEMORY, also if there is too little memory to look into the container, and
+ * then the report isn't open.
+ */
+
+/*
+ * A container in a file: where it begins, how many bytes it can have, and its number, from 0. Its bytes are those up to the end of its
+ * fork, or of the file if it begins in no fork. The other fields are what the containers before it leave of what the report on the file
+ * may cost, and how many of them weren't inspected, because it would have cost more. A program passes them on. It may copy the struct,
+ * and use it as long as the file is the same.
+ *
+ * After the last container `offset` is the length of the file, and `length` is 0.
+ */
+struct pef_found_container {
+    pef_size offset;
+    pef_size length;
+    uint64_t number;
+    uint64_t skipped;
+    uint64_t budget;
+    uint64_t program_bytes;
+    uint64_t steps;
+    uint64_t packed_bytes;
+    uint64_t words;
+};
+
+/*
+ * Finds the first container in a file, by the places that pef_find_containers() gives. It allocates nothing.
+ *
+ * Returns PEF_OK, and stores it in `*found`; or PEF_NOT_THERE if there is none, and stores the end of the file.
+ */
+uint32_t pef_first_container(const uint8_t *file, size_t file_length, struct pef_found_container *found);
+
+/*
+ * Goes on to the next container. It allocates nothing.
+ *
+ * Returns PEF_OK, and stores it in `*found`; or PEF_NOT_THERE if there is none, and stores the end of the file. If `*found` is at the
+ * end, it stays as it is.
+ */
+uint32_t pef_next_container(const uint8_t *file, size_t file_length, struct pef_found_container *found);
+
+/* Makes the report up to its containers. `path` is what the object calls the file. */
+uint32_t pef_report_open_head(struct pef_report *report, const uint8_t *path, size_t path_length, const uint8_t *file, size_t file_length);
+
+/*
+ * Makes the object of a container as the report has it, after a comma unless it is the first. It has no bytes if the container isn't
+ * inspected, because the report would cost too much.
+ */
+uint32_t pef_report_open_found(struct pef_report *report, const uint8_t *file, size_t file_length, const struct pef_found_container *found);
+
+/* Makes the report after its containers. `end` is what pef_next_container() stored last, or pef_first_container() if there is none. */
+uint32_t pef_report_open_end(struct pef_report *report, const uint8_t *file, size_t file_length, const struct pef_found_container *end);
+
+/*
+ * Makes the beginning of a container's object, as an object: the first `most` rows of each kind or all if there are fewer, without their
+ * instructions, and of the errors and notes in their order the first `most`. It has no bytes if the container isn't inspected.
+ */
+uint32_t pef_report_open_excerpt(struct pef_report *report, const uint8_t *file, size_t file_length, const struct pef_found_container *found, uint32_t most);
+
+/*
+ * Rows of a container that begins at `offset` of a file: their kind, the number of the first one, from 0, and how many. `part` is
+ * PEF_SECTION_PART, PEF_LIBRARY_PART, PEF_IMPORT_PART, PEF_RELOCATION_PART or PEF_EXPORT_PART.
+ */
+struct pef_row_range {
+    pef_size offset;
+    uint32_t part;
+    uint32_t from;
+    uint32_t count;
+};
+
+/*
+ * Makes the objects of rows, or of those that there are, as a container's object has them in the list of their kind: after a comma,
+ * unless it is row 0. Rows from an excerpt's `most` on go on where the excerpt ends.
+ *
+ * Returns what the others do; or PEF_NOT_THERE if there is no such kind, and then the report isn't open.
+ */
+uint32_t pef_report_open_rows(struct pef_report *report, const uint8_t *file, size_t file_length, const struct pef_row_range *rows);
+
+/*
  * Writes the next bytes of a report to the front of `buffer`, as many as fit.
  *
  * Returns PEF_OK, and stores the number of bytes in `*written`: it is less than `buffer_length` only at the end of the report, and
  * 0 after it. Or returns PEF_NOT_OPEN, if the report isn't open, or PEF_OUT_OF_MEMORY, and then the next call goes on where this one
  * began. After both `buffer` and `*written` are left unchanged.
  */
-uint32_t pef_report_next(struct pef_report *report, uint8_t *buffer, size_t buffer_length, size_t *written);
+uint32_t pef_report_next(struct pef_report *report, uint8_t *buffer, size_t buffer_length, pef_size *written);
 
 /*
  * Frees a report. It may be opened again. A report that isn't open stays as it is, so one may be freed twice.
@@ -472,7 +624,14 @@ static inline void pef_report_free_unless_null(struct pef_report *report)
  * refusal of what they read, and then they leave all that they would write unchanged.
  */
 
-/* A container's header. Dates are seconds since the first of January 1904. */
+/* Architectures, of four characters each: `pwpc` of PowerPC, and `m68k` of CFM-68K, whose containers aren't read. */
+#define PEF_ARCHITECTURE_POWERPC 0x70777063
+#define PEF_ARCHITECTURE_68K 0x6D36386B
+
+/*
+ * A container's header. Dates are seconds since the first of January 1904. The architecture is PEF_ARCHITECTURE_POWERPC, unless
+ * pef_partial_header() reads the header.
+ */
 struct pef_header {
     uint32_t date_time_stamp;
     uint32_t old_def_version;
@@ -480,6 +639,7 @@ struct pef_header {
     uint32_t current_version;
     uint16_t section_count;
     uint16_t instantiated_section_count;
+    uint32_t architecture;
 };
 
 /* Reads a container's header. Refusals are 1 to 10. */
@@ -547,7 +707,7 @@ struct pef_library {
 /* An imported symbol, and the number of its library. A weak one may be missing. */
 struct pef_import {
     struct pef_bytes name;
-    size_t library;
+    pef_size library;
     uint8_t symbol_class;
     bool weak;
 };
@@ -566,7 +726,7 @@ struct pef_relocation {
 /* An addition of a relocation program: the offset of a word in the section that is relocated, and what is added to the word:
  * the address of the section with this number, or of the target of the import with this number. */
 struct pef_fixup {
-    uint64_t offset;
+    PEF_WIDE uint64_t offset;
     uint64_t number;
     uint32_t kind;
 };
@@ -587,10 +747,10 @@ struct pef_export {
  *
  * Each call reads the whole loader section, so read many at once: then n rows cost no more than n of these.
  */
-uint32_t pef_libraries(const uint8_t *container, size_t container_length, size_t from, struct pef_library *places, size_t place_count, size_t *count);
-uint32_t pef_imports(const uint8_t *container, size_t container_length, size_t from, struct pef_import *places, size_t place_count, size_t *count);
-uint32_t pef_relocations(const uint8_t *container, size_t container_length, size_t from, struct pef_relocation *places, size_t place_count, size_t *count);
-uint32_t pef_exports(const uint8_t *container, size_t container_length, size_t from, struct pef_export *places, size_t place_count, size_t *count);
+uint32_t pef_libraries(const uint8_t *container, size_t container_length, size_t from, struct pef_library *places, size_t place_count, pef_size *count);
+uint32_t pef_imports(const uint8_t *container, size_t container_length, size_t from, struct pef_import *places, size_t place_count, pef_size *count);
+uint32_t pef_relocations(const uint8_t *container, size_t container_length, size_t from, struct pef_relocation *places, size_t place_count, pef_size *count);
+uint32_t pef_exports(const uint8_t *container, size_t container_length, size_t from, struct pef_export *places, size_t place_count, pef_size *count);
 
 /*
  * Reads the additions of the program of relocation header `header` from number `from` on into the first of `places`, in the
@@ -601,7 +761,7 @@ uint32_t pef_exports(const uint8_t *container, size_t container_length, size_t f
  * Refusals are 1 to 20, and 31 to 36 for the program. Returns PEF_NOT_THERE past the last header. Each call runs the program
  * from its start up to the last of `places`, so read many at once. A program can make up to 17,179,869,184 additions.
  */
-uint32_t pef_fixups(const uint8_t *container, size_t container_length, size_t header, size_t from, struct pef_fixup *places, size_t place_count, size_t *count);
+uint32_t pef_fixups(const uint8_t *container, size_t container_length, size_t header, size_t from, struct pef_fixup *places, size_t place_count, pef_size *count);
 
 /*
  * Reads the first export with this name into `*found`, and stores its number, which is that of pef_exports(), in `*number`.
@@ -610,7 +770,7 @@ uint32_t pef_fixups(const uint8_t *container, size_t container_length, size_t he
  * Returns PEF_NOT_THERE, if no export has the name. Each call reads the whole loader section, so to look up many names, read
  * all exports once.
  */
-uint32_t pef_export_named(const uint8_t *container, size_t container_length, const uint8_t *name, size_t name_length, size_t *number, struct pef_export *found);
+uint32_t pef_export_named(const uint8_t *container, size_t container_length, const uint8_t *name, size_t name_length, pef_size *number, struct pef_export *found);
 
 /*
  * Reads the first import with this name into `*found`, and stores its number, which is that of pef_imports(), in `*number`.
@@ -618,7 +778,7 @@ uint32_t pef_export_named(const uint8_t *container, size_t container_length, con
  * Returns PEF_NOT_THERE, if no import has the name. Each call reads the whole loader section, and then one import after the
  * other, as they have no hash table.
  */
-uint32_t pef_import_named(const uint8_t *container, size_t container_length, const uint8_t *name, size_t name_length, size_t *number, struct pef_import *found);
+uint32_t pef_import_named(const uint8_t *container, size_t container_length, const uint8_t *name, size_t name_length, pef_size *number, struct pef_import *found);
 
 /*
  * The calls below read a container that may be damaged, as far as it can be read, with the structs of the calls above. An error in
@@ -626,7 +786,10 @@ uint32_t pef_import_named(const uint8_t *container, size_t container_length, con
  * that they would write unchanged.
  */
 
-/* Reads the header of a container. Returns PEF_TOO_SHORT or PEF_BAD_TAG if the bytes have none, in this call and in those below. */
+/*
+ * Reads the header of a container. Returns PEF_TOO_SHORT or PEF_BAD_TAG if the bytes have none, in this call and in those below. If
+ * the architecture is another one, such as PEF_ARCHITECTURE_68K, the container isn't damaged, but one of another machine.
+ */
 uint32_t pef_partial_header(const uint8_t *container, size_t container_length, struct pef_header *header);
 
 /*
@@ -646,17 +809,23 @@ uint32_t pef_partial_section_name(const uint8_t *container, size_t container_len
 uint32_t pef_partial_loader(const uint8_t *container, size_t container_length, struct pef_loader *loader);
 
 /* The library of an import that is in no library's range. */
-#define PEF_NO_LIBRARY SIZE_MAX
+#define PEF_NO_LIBRARY UINT64_MAX
 
 /*
  * Read the libraries, imports, relocation headers and exports that are in the bytes, as pef_libraries() and the others do. A name that
  * can't be read has no bytes, and so have instructions that extend past the loader section. Exports are there if the slots, keys and
  * rows of their table are.
  */
-uint32_t pef_partial_libraries(const uint8_t *container, size_t container_length, size_t from, struct pef_library *places, size_t place_count, size_t *count);
-uint32_t pef_partial_imports(const uint8_t *container, size_t container_length, size_t from, struct pef_import *places, size_t place_count, size_t *count);
-uint32_t pef_partial_relocations(const uint8_t *container, size_t container_length, size_t from, struct pef_relocation *places, size_t place_count, size_t *count);
-uint32_t pef_partial_exports(const uint8_t *container, size_t container_length, size_t from, struct pef_export *places, size_t place_count, size_t *count);
+uint32_t pef_partial_libraries(const uint8_t *container, size_t container_length, size_t from, struct pef_library *places, size_t place_count, pef_size *count);
+uint32_t pef_partial_imports(const uint8_t *container, size_t container_length, size_t from, struct pef_import *places, size_t place_count, pef_size *count);
+uint32_t pef_partial_relocations(const uint8_t *container, size_t container_length, size_t from, struct pef_relocation *places, size_t place_count, pef_size *count);
+uint32_t pef_partial_exports(const uint8_t *container, size_t container_length, size_t from, struct pef_export *places, size_t place_count, pef_size *count);
+
+/*
+ * Reads the additions of the program of relocation header `header`, as pef_fixups() does. Returns PEF_NOT_THERE past the last header
+ * that is in the bytes, and if its instructions extend past the loader section. Errors of the program are 31 to 36.
+ */
+uint32_t pef_partial_fixups(const uint8_t *container, size_t container_length, size_t header, size_t from, struct pef_fixup *places, size_t place_count, pef_size *count);
 
 /*
  * Files of the classic Mac OS (docs/FORMATS.md, section 10). The calls below read them anew from their bytes, and allocate nothing.
@@ -683,8 +852,8 @@ uint32_t pef_file_kind(const uint8_t *file, size_t file_length);
  */
 struct pef_part {
     struct pef_bytes bytes;
-    size_t offset;
-    size_t error_offset;
+    pef_size offset;
+    pef_size error_offset;
     uint32_t error;
 };
 
@@ -693,7 +862,7 @@ struct pef_part {
 
 /* What the Finder knows of a file. The type and the creator are four characters, the first in the highest byte. */
 struct pef_finder {
-    size_t error_offset;
+    pef_size error_offset;
     uint32_t error;
     uint32_t file_type;
     uint32_t creator;
@@ -713,7 +882,7 @@ struct pef_forks {
     struct pef_part name;
     struct pef_part comment;
     struct pef_finder finder;
-    size_t error_offset;
+    pef_size error_offset;
     uint32_t error;
     uint32_t kind;
 };
@@ -726,7 +895,7 @@ uint32_t pef_forks(const uint8_t *file, size_t file_length, struct pef_forks *fo
 
 /* The header and the map of a resource fork. The error is PEF_OK, or PEF_RESOURCE_MAP_OUTSIDE if the map passes the end. */
 struct pef_resource_map {
-    size_t error_offset;
+    pef_size error_offset;
     uint32_t error;
     uint32_t data_offset;
     uint32_t map_offset;
@@ -749,9 +918,9 @@ uint32_t pef_resource_map(const uint8_t *fork, size_t fork_length, struct pef_re
 struct pef_resource {
     struct pef_bytes name;
     struct pef_bytes bytes;
-    size_t offset;
-    size_t error_offset;
-    size_t name_error_offset;
+    pef_size offset;
+    pef_size error_offset;
+    pef_size name_error_offset;
     uint32_t error;
     uint32_t name_error;
     uint32_t type;
@@ -765,7 +934,7 @@ struct pef_resource {
  * Reads the resources from number `from` on into the first of `places`, and stores how many they were in `*count`: as many as there
  * are from there on, or as there are places. The other places are left unchanged. Each call passes over the rows before `from`.
  */
-uint32_t pef_resources(const uint8_t *fork, size_t fork_length, size_t from, struct pef_resource *places, size_t place_count, size_t *count);
+uint32_t pef_resources(const uint8_t *fork, size_t fork_length, size_t from, struct pef_resource *places, size_t place_count, pef_size *count);
 
 /* Reads the resource with a type and an id. Returns PEF_NOT_THERE if there is none. */
 uint32_t pef_find_resource(const uint8_t *fork, size_t fork_length, uint32_t type, int16_t id, struct pef_resource *resource);
@@ -794,10 +963,10 @@ uint32_t pef_find_resource(const uint8_t *fork, size_t fork_length, uint32_t typ
 struct pef_member {
     struct pef_bytes name;
     struct pef_bytes container;
-    size_t place;
-    size_t error_offset;
-    size_t name_error_offset;
-    size_t container_error_offset;
+    pef_size place;
+    pef_size error_offset;
+    pef_size name_error_offset;
+    pef_size container_error_offset;
     uint32_t error;
     uint32_t name_error;
     uint32_t container_error;
@@ -821,13 +990,13 @@ struct pef_member {
  * Reads the members of a table of fragments as pef_resources() reads resources, with their containers in a data fork. The table is the
  * bytes of the resource `cfrg` 0. Errors are PEF_FRAGMENT_TABLE_CUT and PEF_BAD_FRAGMENT_TABLE.
  */
-uint32_t pef_members(const uint8_t *table, size_t table_length, const uint8_t *data_fork, size_t data_fork_length, size_t from, struct pef_member *places, size_t place_count, size_t *count);
+uint32_t pef_members(const uint8_t *table, size_t table_length, const uint8_t *data_fork, size_t data_fork_length, size_t from, struct pef_member *places, size_t place_count, pef_size *count);
 
 /*
  * Finds the places of some bytes where a container begins: it stores their offsets from number `from` on in the first of `places`, and
  * how many they were in `*count`. Returns PEF_OK.
  */
-uint32_t pef_find_containers(const uint8_t *bytes, size_t length, size_t from, size_t *places, size_t place_count, size_t *count);
+uint32_t pef_find_containers(const uint8_t *bytes, size_t length, size_t from, pef_size *places, size_t place_count, pef_size *count);
 
 /*
  * Gives the container of the fragment with this name in a file: of the first member of the table that has the name and isn't for
@@ -842,8 +1011,8 @@ uint32_t pef_file_container(const uint8_t *file, size_t file_length, const uint8
 uint32_t pef_fork_container(const uint8_t *data_fork, size_t data_fork_length, const uint8_t *resource_fork, size_t resource_fork_length, const uint8_t *name, size_t name_length, struct pef_bytes *container);
 
 /*
- * Gives the container with a number, from 0, among those of pef_find_containers(), with all bytes after it up to the end of its fork,
- * or of the bytes if it begins in no fork. Returns PEF_OK, or PEF_NO_CONTAINER past the last one.
+ * Gives the container with a number, from 0, among those of pef_find_containers(), with all bytes after it up to the end of its member
+ * of `cfrg` 0, its resource or its fork, or of the bytes if it begins in no fork. Returns PEF_OK, or PEF_NO_CONTAINER past the last one.
  */
 uint32_t pef_numbered_container(const uint8_t *bytes, size_t length, size_t number, struct pef_bytes *container);
 
@@ -852,7 +1021,7 @@ uint32_t pef_numbered_container(const uint8_t *bytes, size_t length, size_t numb
  *
  *     struct pef_context context = PEF_NO_CONTEXT;
  *
- * Only the calls below change it, and it isn't copied, except to be read. Each of these calls returns PEF_NOT_OPEN, and changes
+ * Only the calls below change it, and it isn't copied. Each of these calls returns PEF_NOT_OPEN, and changes
  * nothing, if the context isn't open: pef_open() wasn't called, failed, or was followed by pef_free(). Several contexts may be
  * open at once, also in different threads.
  *
@@ -864,7 +1033,7 @@ uint32_t pef_numbered_container(const uint8_t *bytes, size_t length, size_t numb
  */
 struct pef_context {
     void *handle;
-    bool is_open;
+    PEF_WIDE bool is_open;
 };
 
 /* No context, which are zero bytes: struct pef_context context = PEF_NO_CONTEXT; */
@@ -998,7 +1167,7 @@ struct pef_names {
  */
 struct pef_missing {
     struct pef_bytes name;
-    size_t fragment;
+    pef_size fragment;
     uint32_t current_version;
     uint32_t old_imp_version;
     uint32_t found_version;
@@ -1020,7 +1189,66 @@ struct pef_missing {
  * or PEF_OUT_OF_MEMORY. If it isn't PEF_OK, `*names` has the names that belong to it, and `places` and `*count` are unchanged. What was
  * read is kept for later calls; otherwise the context is unchanged.
  */
-uint32_t pef_missing(struct pef_context *context, const uint8_t *name, size_t name_length, size_t from, struct pef_missing *places, size_t place_count, size_t *count, struct pef_names *names);
+uint32_t pef_missing(struct pef_context *context, const uint8_t *name, size_t name_length, size_t from, struct pef_missing *places, size_t place_count, pef_size *count, struct pef_names *names);
+
+/*
+ * A library that fragments of a context name, and that no fragment of the context has the name of. If `is_weak` is true, each of them can
+ * be prepared without it. The name is a part of what was added.
+ */
+struct pef_lacking {
+    struct pef_bytes name;
+    bool is_weak;
+};
+
+/*
+ * Gives the libraries that a context lacks, whichever fragment is prepared: each name once, in the order of the fragments and of their
+ * entries, those from number `from` on in the first of `places`, and how many they were in `*count`, which is as many as there are from
+ * there on, or as there are places. The other places are left unchanged. Fragments that can't be read are passed by.
+ *
+ * Returns PEF_OK; or PEF_OUT_OF_MEMORY, and leaves `places` and `*count` unchanged. The context is unchanged.
+ */
+uint32_t pef_lacking(struct pef_context *context, size_t from, struct pef_lacking *places, size_t place_count, pef_size *count);
+
+/* What the symbols of a stub are: numbers, or memory. */
+#define PEF_STUB_NUMBERS 1
+#define PEF_STUB_MEMORY 2
+
+/*
+ * What a stub is made with: one of the two above, and what belongs to it.
+ *
+ * Numbers: the first symbol is the absolute number `first`, and each later one `step` more. Memory: a symbol of code is a `word`, which
+ * an emulator catches, and a `blr`; a transition vector leads to such code; and a symbol of data or TOC is `zeros` bytes of zeros.
+ */
+struct pef_stub_options {
+    /* The size of this struct, by which a later library knows an older program's. */
+    uint32_t size;
+    uint32_t values;
+    uint32_t first;
+    uint32_t step;
+    uint32_t word;
+    uint32_t zeros;
+};
+
+/* Numbers from F0000000 (hexadecimal) on, 16 apart; and memory with `sc` as the word, and 16 zeros. */
+#define PEF_NUMBERED_STUBS {sizeof(struct pef_stub_options), PEF_STUB_NUMBERS, 0xF0000000, 16, 0, 0}
+#define PEF_STUBS_IN_MEMORY {sizeof(struct pef_stub_options), PEF_STUB_MEMORY, 0, 0, 0x44000002, 16}
+
+/*
+ * Makes the stub of a library that nobody has: a container that exports what the fragments of the context import from it, each name
+ * once, with versions that fit each of them. Its bytes are written to the front of `buffer`. docs/RULES.md, "Stubs", says what it has.
+ * Fragments that can't be read are passed by.
+ *
+ * A stub isn't kept: pef_add() adds it under the library's name, with bytes that stay. Then the library isn't lacking, and a preparation
+ * isn't refused for it. pef_exports() of the stub gives its symbols with their classes and values, which say what a number in memory
+ * means. The numbers of the next stub go on after those of this one if its `first` is `*symbol_count` steps more.
+ *
+ * Returns PEF_OK, and stores the stub's length in `*written`; or PEF_ROOM_TOO_SMALL, and stores the length that is needed; and both
+ * times stores how many symbols it exports in `*symbol_count`. Or returns PEF_BAD_OPTIONS, if `size` isn't that of the struct in this
+ * library, or `values` is neither of the two; or why there is no stub: PEF_TOO_MANY_SYMBOLS, PEF_LONG_NAME, PEF_TOO_MANY_NAME_BYTES,
+ * PEF_PAST_LAST_NUMBER, and of a stub in memory PEF_UNSPELLABLE_NAME or PEF_TOO_MANY_STUB_BYTES; or PEF_OUT_OF_MEMORY; and leaves both
+ * unchanged. Unless PEF_OK is returned, `buffer` is left unchanged. The context is unchanged.
+ */
+uint32_t pef_stub(struct pef_context *context, const uint8_t *library, size_t library_length, const struct pef_stub_options *options, uint8_t *buffer, size_t buffer_length, pef_size *written, pef_size *symbol_count);
 
 /*
  * Prepares the fragment of a name and all that it needs: places them, fills them and relocates them, unless they are
@@ -1044,7 +1272,7 @@ uint32_t pef_prepare_with_place(struct pef_context *context, const uint8_t *name
  * count in the granule of the context. A section of 4 GB less a few bytes takes 2^32 bytes.
  */
 struct pef_new_section {
-    size_t fragment;
+    pef_size fragment;
     uint32_t section;
     uint8_t kind;
     uint8_t share;
@@ -1061,7 +1289,7 @@ struct pef_new_section {
  * PEF_OUT_OF_MEMORY. If it isn't PEF_OK, `*names` has the names that belong to it, and `places` and `*count` are unchanged. What was
  * read is kept for later calls; otherwise the context is unchanged.
  */
-uint32_t pef_new_sections(struct pef_context *context, const uint8_t *name, size_t name_length, size_t from, struct pef_new_section *places, size_t place_count, size_t *count, struct pef_names *names);
+uint32_t pef_new_sections(struct pef_context *context, const uint8_t *name, size_t name_length, size_t from, struct pef_new_section *places, size_t place_count, pef_size *count, struct pef_names *names);
 
 /*
  * Prepares as pef_prepare_with_place() does, but places the sections at these addresses: there is one for each section that
@@ -1082,9 +1310,13 @@ uint32_t pef_prepare_at(struct pef_context *context, const uint8_t *name, size_t
 uint32_t pef_close(struct pef_context *context, uint32_t connection);
 
 /*
- * The calls below read a context and don't change it. They return PEF_OK; or PEF_NOT_THERE, and then they leave all that
- * they would write unchanged. While such a call reads, it writes to the struct: several threads take the calls that end in
- * `_const`, which are at the end.
+ * The calls below read a context, and so do pef_lacking() and pef_stub(). A program that includes this header hands them a
+ * `const struct pef_context *`. They write nothing of the struct and nothing of the context, so any number of threads may be in them at
+ * once, also with one context: a debugger's thread may read what another thread prepared. While one is in them, no thread makes another
+ * call with this context. What such a call changed has to be ordered before the reading, by a lock or by the start of a thread, say.
+ *
+ * They return PEF_OK; or PEF_NOT_THERE, and then they leave all that they would write unchanged. pef_released_by() takes memory for
+ * itself, as pef_lacking() and pef_stub() do, and as any thread may.
  */
 
 /*
@@ -1094,7 +1326,7 @@ uint32_t pef_close(struct pef_context *context, uint32_t connection);
  *
  * Returns and stores what pef_fragments() does.
  */
-uint32_t pef_new_fragments(struct pef_context *context, uint32_t connection, size_t *places, size_t place_count, size_t *count);
+uint32_t pef_new_fragments(struct pef_context *context, uint32_t connection, pef_size *places, size_t place_count, pef_size *count);
 
 /*
  * Gives the fragments that pef_close() of a connection would release, because no other open connection needs them, the last
@@ -1102,7 +1334,7 @@ uint32_t pef_new_fragments(struct pef_context *context, uint32_t connection, siz
  *
  * Returns and stores what pef_fragments() does; or returns PEF_OUT_OF_MEMORY, and leaves `places` and `*count` unchanged.
  */
-uint32_t pef_released_by(struct pef_context *context, uint32_t connection, size_t *places, size_t place_count, size_t *count);
+uint32_t pef_released_by(struct pef_context *context, uint32_t connection, pef_size *places, size_t place_count, pef_size *count);
 
 /*
  * Give the fragments of a connection's closure: the first in closure order, in which the fragment that was prepared is the
@@ -1112,8 +1344,8 @@ uint32_t pef_released_by(struct pef_context *context, uint32_t connection, size_
  * fragments; and both times store how many fragments there are in `*count`. Or return PEF_NOT_THERE, if the connection
  * isn't open. PEF_MAX_FRAGMENTS places are enough.
  */
-uint32_t pef_fragments(struct pef_context *context, uint32_t connection, size_t *places, size_t place_count, size_t *count);
-uint32_t pef_init_order(struct pef_context *context, uint32_t connection, size_t *places, size_t place_count, size_t *count);
+uint32_t pef_fragments(struct pef_context *context, uint32_t connection, pef_size *places, size_t place_count, pef_size *count);
+uint32_t pef_init_order(struct pef_context *context, uint32_t connection, pef_size *places, size_t place_count, pef_size *count);
 
 /* Gives a fragment's name, which is what was added. It needn't be present. Returns PEF_NOT_THERE past the last fragment. */
 uint32_t pef_fragment_name(struct pef_context *context, size_t fragment, struct pef_bytes *name);
@@ -1125,12 +1357,12 @@ uint32_t pef_fragment_name(struct pef_context *context, size_t fragment, struct 
 uint32_t pef_is_present(struct pef_context *context, const uint8_t *name, size_t name_length, bool *is_present);
 
 /* Counts the sections that a fragment has in memory: none, if it isn't present. */
-uint32_t pef_fragment_sections(struct pef_context *context, size_t fragment, size_t *count);
+uint32_t pef_fragment_sections(struct pef_context *context, size_t fragment, pef_size *count);
 
 /* A section in memory. `kind` is one of PEF_KIND_CODE and the others, `share` of PEF_SHARE_PROCESS and the others. */
 struct pef_fragment_section {
     uint32_t address;
-    size_t size;
+    pef_size size;
     uint8_t kind;
     uint8_t share;
 };
@@ -1147,7 +1379,7 @@ uint32_t pef_fragment_section(struct pef_context *context, uint32_t connection, 
  * Returns PEF_OK; or PEF_ROOM_TOO_SMALL; and both times stores the section's size in `*written`. Or returns PEF_NOT_THERE,
  * if the fragment has no such section in memory.
  */
-uint32_t pef_fragment_bytes(struct pef_context *context, size_t fragment, size_t number, uint8_t *buffer, size_t buffer_length, size_t *written);
+uint32_t pef_fragment_bytes(struct pef_context *context, size_t fragment, size_t number, uint8_t *buffer, size_t buffer_length, pef_size *written);
 
 /* The addresses at which a fragment is entered. The address of an entry that isn't there is 0. */
 struct pef_entries {
@@ -1180,7 +1412,7 @@ uint32_t pef_fragment_symbol(struct pef_context *context, uint32_t connection, s
  */
 struct pef_target {
     uint32_t kind;
-    size_t fragment;
+    pef_size fragment;
     uint32_t section;
     uint32_t offset;
     uint32_t address;
@@ -1207,7 +1439,7 @@ uint32_t pef_export_address(struct pef_context *context, uint32_t connection, si
  *
  * Returns PEF_NOT_THERE, if the connection isn't open, or its closure lacks the fragment.
  */
-uint32_t pef_fragment_exports(struct pef_context *context, uint32_t connection, size_t fragment, size_t *count);
+uint32_t pef_fragment_exports(struct pef_context *context, uint32_t connection, size_t fragment, pef_size *count);
 
 /*
  * An export of a fragment: its name, its number, where it ends, and its class. `target.kind` is PEF_TARGET_IN_SECTION, also
@@ -1217,9 +1449,9 @@ uint32_t pef_fragment_exports(struct pef_context *context, uint32_t connection, 
  */
 struct pef_fragment_export {
     struct pef_bytes name;
-    size_t number;
+    pef_size number;
     struct pef_target target;
-    size_t import_number;
+    pef_size import_number;
     uint8_t symbol_class;
     bool is_reexport;
 };
@@ -1239,7 +1471,7 @@ uint32_t pef_fragment_export_named(struct pef_context *context, uint32_t connect
  *
  * Returns PEF_NOT_THERE, if no import has the name, or the connection isn't open, or its closure lacks the fragment.
  */
-uint32_t pef_fragment_import_named(struct pef_context *context, uint32_t connection, size_t fragment, const uint8_t *name, size_t name_length, size_t *number);
+uint32_t pef_fragment_import_named(struct pef_context *context, uint32_t connection, size_t fragment, const uint8_t *name, size_t name_length, pef_size *number);
 
 /*
  * Where an address is: the fragment, the number of its section, the offset there, and the nearest export. That is, of the
@@ -1248,8 +1480,8 @@ uint32_t pef_fragment_import_named(struct pef_context *context, uint32_t connect
  * number of an open connection whose closure has the fragment, for the calls that ask for one.
  */
 struct pef_location {
-    size_t fragment;
-    size_t section;
+    pef_size fragment;
+    pef_size section;
     uint32_t connection;
     uint32_t offset;
     bool has_nearest;
@@ -1265,122 +1497,153 @@ struct pef_location {
 uint32_t pef_at(struct pef_context *context, uint32_t address, struct pef_location *location);
 
 /*
- * The same calls for a `const struct pef_context *`. They write nothing of the struct and nothing of the context, so any number of
- * threads may be in them at once, also with one context: a debugger's thread may read what another thread prepared. While one
- * is in them, no thread makes a call with this context whose name doesn't end in `_const`. What such a call changed has to be
- * ordered before the reading, by a lock or by the start of a thread, say. pef_released_by_const() takes memory for itself, as
- * any thread may.
- *
- * Each hands a copy of the struct to the call of its name, and drops the copy. A language without inline functions does the
- * same. A copy may be handed to no call that changes a context.
+ * A program that includes this header makes the calls that read a context by these functions. Each hands a copy of the struct to the
+ * library, which writes to the copy while it reads, and drops the copy. A language without inline functions does the same. A copy may be
+ * handed to no call that changes a context.
  */
-static inline uint32_t pef_new_fragments_const(const struct pef_context *context, uint32_t connection, size_t *places, size_t place_count, size_t *count)
+/* Written by tools/declarations from the calls above that read a context: */
+
+static inline uint32_t pef_lacking_const(const struct pef_context *context, size_t from, struct pef_lacking *places, size_t place_count, pef_size *count)
+{
+    struct pef_context copy = *context;
+    return pef_lacking(&copy, from, places, place_count, count);
+}
+#define pef_lacking(...) pef_lacking_const(__VA_ARGS__)
+
+static inline uint32_t pef_stub_const(const struct pef_context *context, const uint8_t *library, size_t library_length, const struct pef_stub_options *options, uint8_t *buffer, size_t buffer_length, pef_size *written, pef_size *symbol_count)
+{
+    struct pef_context copy = *context;
+    return pef_stub(&copy, library, library_length, options, buffer, buffer_length, written, symbol_count);
+}
+#define pef_stub(...) pef_stub_const(__VA_ARGS__)
+
+static inline uint32_t pef_new_fragments_const(const struct pef_context *context, uint32_t connection, pef_size *places, size_t place_count, pef_size *count)
 {
     struct pef_context copy = *context;
     return pef_new_fragments(&copy, connection, places, place_count, count);
 }
+#define pef_new_fragments(...) pef_new_fragments_const(__VA_ARGS__)
 
-static inline uint32_t pef_released_by_const(const struct pef_context *context, uint32_t connection, size_t *places, size_t place_count, size_t *count)
+static inline uint32_t pef_released_by_const(const struct pef_context *context, uint32_t connection, pef_size *places, size_t place_count, pef_size *count)
 {
     struct pef_context copy = *context;
     return pef_released_by(&copy, connection, places, place_count, count);
 }
+#define pef_released_by(...) pef_released_by_const(__VA_ARGS__)
 
-static inline uint32_t pef_fragments_const(const struct pef_context *context, uint32_t connection, size_t *places, size_t place_count, size_t *count)
+static inline uint32_t pef_fragments_const(const struct pef_context *context, uint32_t connection, pef_size *places, size_t place_count, pef_size *count)
 {
     struct pef_context copy = *context;
     return pef_fragments(&copy, connection, places, place_count, count);
 }
+#define pef_fragments(...) pef_fragments_const(__VA_ARGS__)
 
-static inline uint32_t pef_init_order_const(const struct pef_context *context, uint32_t connection, size_t *places, size_t place_count, size_t *count)
+static inline uint32_t pef_init_order_const(const struct pef_context *context, uint32_t connection, pef_size *places, size_t place_count, pef_size *count)
 {
     struct pef_context copy = *context;
     return pef_init_order(&copy, connection, places, place_count, count);
 }
+#define pef_init_order(...) pef_init_order_const(__VA_ARGS__)
 
 static inline uint32_t pef_fragment_name_const(const struct pef_context *context, size_t fragment, struct pef_bytes *name)
 {
     struct pef_context copy = *context;
     return pef_fragment_name(&copy, fragment, name);
 }
+#define pef_fragment_name(...) pef_fragment_name_const(__VA_ARGS__)
 
 static inline uint32_t pef_is_present_const(const struct pef_context *context, const uint8_t *name, size_t name_length, bool *is_present)
 {
     struct pef_context copy = *context;
     return pef_is_present(&copy, name, name_length, is_present);
 }
+#define pef_is_present(...) pef_is_present_const(__VA_ARGS__)
 
-static inline uint32_t pef_fragment_sections_const(const struct pef_context *context, size_t fragment, size_t *count)
+static inline uint32_t pef_fragment_sections_const(const struct pef_context *context, size_t fragment, pef_size *count)
 {
     struct pef_context copy = *context;
     return pef_fragment_sections(&copy, fragment, count);
 }
+#define pef_fragment_sections(...) pef_fragment_sections_const(__VA_ARGS__)
 
 static inline uint32_t pef_fragment_section_const(const struct pef_context *context, uint32_t connection, size_t fragment, size_t number, struct pef_fragment_section *section)
 {
     struct pef_context copy = *context;
     return pef_fragment_section(&copy, connection, fragment, number, section);
 }
+#define pef_fragment_section(...) pef_fragment_section_const(__VA_ARGS__)
 
-static inline uint32_t pef_fragment_bytes_const(const struct pef_context *context, size_t fragment, size_t number, uint8_t *buffer, size_t buffer_length, size_t *written)
+static inline uint32_t pef_fragment_bytes_const(const struct pef_context *context, size_t fragment, size_t number, uint8_t *buffer, size_t buffer_length, pef_size *written)
 {
     struct pef_context copy = *context;
     return pef_fragment_bytes(&copy, fragment, number, buffer, buffer_length, written);
 }
+#define pef_fragment_bytes(...) pef_fragment_bytes_const(__VA_ARGS__)
 
 static inline uint32_t pef_fragment_entries_const(const struct pef_context *context, uint32_t connection, size_t fragment, struct pef_entries *entries)
 {
     struct pef_context copy = *context;
     return pef_fragment_entries(&copy, connection, fragment, entries);
 }
+#define pef_fragment_entries(...) pef_fragment_entries_const(__VA_ARGS__)
 
 static inline uint32_t pef_fragment_symbol_const(const struct pef_context *context, uint32_t connection, size_t fragment, const uint8_t *name, size_t name_length, uint32_t *address)
 {
     struct pef_context copy = *context;
     return pef_fragment_symbol(&copy, connection, fragment, name, name_length, address);
 }
+#define pef_fragment_symbol(...) pef_fragment_symbol_const(__VA_ARGS__)
 
 static inline uint32_t pef_import_target_const(const struct pef_context *context, uint32_t connection, size_t fragment, size_t number, struct pef_target *target)
 {
     struct pef_context copy = *context;
     return pef_import_target(&copy, connection, fragment, number, target);
 }
+#define pef_import_target(...) pef_import_target_const(__VA_ARGS__)
 
 static inline uint32_t pef_export_address_const(const struct pef_context *context, uint32_t connection, size_t fragment, size_t number, uint32_t *address)
 {
     struct pef_context copy = *context;
     return pef_export_address(&copy, connection, fragment, number, address);
 }
+#define pef_export_address(...) pef_export_address_const(__VA_ARGS__)
 
-static inline uint32_t pef_fragment_exports_const(const struct pef_context *context, uint32_t connection, size_t fragment, size_t *count)
+static inline uint32_t pef_fragment_exports_const(const struct pef_context *context, uint32_t connection, size_t fragment, pef_size *count)
 {
     struct pef_context copy = *context;
     return pef_fragment_exports(&copy, connection, fragment, count);
 }
+#define pef_fragment_exports(...) pef_fragment_exports_const(__VA_ARGS__)
 
 static inline uint32_t pef_fragment_export_const(const struct pef_context *context, uint32_t connection, size_t fragment, size_t number, struct pef_fragment_export *found)
 {
     struct pef_context copy = *context;
     return pef_fragment_export(&copy, connection, fragment, number, found);
 }
+#define pef_fragment_export(...) pef_fragment_export_const(__VA_ARGS__)
 
 static inline uint32_t pef_fragment_export_named_const(const struct pef_context *context, uint32_t connection, size_t fragment, const uint8_t *name, size_t name_length, struct pef_fragment_export *found)
 {
     struct pef_context copy = *context;
     return pef_fragment_export_named(&copy, connection, fragment, name, name_length, found);
 }
+#define pef_fragment_export_named(...) pef_fragment_export_named_const(__VA_ARGS__)
 
-static inline uint32_t pef_fragment_import_named_const(const struct pef_context *context, uint32_t connection, size_t fragment, const uint8_t *name, size_t name_length, size_t *number)
+static inline uint32_t pef_fragment_import_named_const(const struct pef_context *context, uint32_t connection, size_t fragment, const uint8_t *name, size_t name_length, pef_size *number)
 {
     struct pef_context copy = *context;
     return pef_fragment_import_named(&copy, connection, fragment, name, name_length, number);
 }
+#define pef_fragment_import_named(...) pef_fragment_import_named_const(__VA_ARGS__)
 
 static inline uint32_t pef_at_const(const struct pef_context *context, uint32_t address, struct pef_location *location)
 {
     struct pef_context copy = *context;
     return pef_at(&copy, address, location);
 }
+#define pef_at(...) pef_at_const(__VA_ARGS__)
+
+/* The end of the readers. */
 
 #ifdef __cplusplus
 }

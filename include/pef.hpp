@@ -40,6 +40,8 @@ using target = struct ::pef_target;
 using placed_export = struct ::pef_fragment_export;
 using location = struct ::pef_location;
 using missing_library = struct ::pef_missing;
+using lacking_library = struct ::pef_lacking;
+using stub_options = struct ::pef_stub_options;
 using new_section = struct ::pef_new_section;
 using options = struct ::pef_options;
 using forks = struct ::pef_forks;
@@ -197,13 +199,15 @@ inline std::vector<finding> findings(bytes container)
     return found;
 }
 
-/* The container of a script. Throws 41 to 49 with the line. */
-inline buffer link(bytes script)
+namespace detail {
+
+/* What a call writes of a script. Throws 41 to 49 with the line. */
+template <class Out> Out of_script(decltype(pef_link) *call, bytes script, size_t room)
 {
-    buffer out(4096);
+    Out out(room, 0);
     size_t written = 0, line = 0;
     uint32_t answer;
-    while ((answer = pef_link(script.data(), script.size(), out.data(), out.size(), &written, &line)) == PEF_ROOM_TOO_SMALL)
+    while ((answer = call(script.data(), script.size(), reinterpret_cast<uint8_t *>(&out[0]), out.size(), &written, &line)) == PEF_ROOM_TOO_SMALL)
         out.resize(written);
     pef::place where = error::nowhere();
     size_t earlier;
@@ -212,6 +216,14 @@ inline buffer link(bytes script)
     out.resize(written);
     return out;
 }
+
+}
+
+/* The container of a script. Throws 41 to 49 with the line. */
+inline buffer link(bytes script) { return detail::of_script<buffer>(pef_link, script, 4096); }
+
+/* The certificates of a script, as `pef distances` prints them. Throws as link() does. */
+inline std::string distances(bytes script) { return detail::of_script<std::string>(pef_distances, script, 65536); }
 
 namespace detail {
 
@@ -257,13 +269,66 @@ public:
     explicit listing(bytes container) { check(pef_list_open(&it_, container.data(), container.size()), container); }
 };
 
-/* The report of `pef inspect --json` on a file. Nothing of it is kept. */
+using found_container = struct ::pef_found_container;
+using row_range = struct ::pef_row_range;
+
+/* The containers of a file, for reports in parts. The last one is the end of the file. */
+inline std::vector<found_container> found_containers(bytes file)
+{
+    found_container it;
+    std::vector<found_container> found;
+    uint32_t answer = pef_first_container(file.data(), file.size(), &it);
+    for (found.push_back(it); answer == PEF_OK; found.push_back(it))
+        answer = pef_next_container(file.data(), file.size(), &it);
+    return found;
+}
+
+/* The report of `pef inspect --json` on a file, or a part of it. Nothing of the file is kept. */
 class report : public detail::parts<struct ::pef_report> {
 public:
     report(bytes path, bytes file) { check(pef_report_open(&it_, path.data(), path.size(), file.data(), file.size())); }
+
+    /* What comes before the containers, the object of a container after a comma unless it is the first, and what comes after them: one
+     * after the other they are the report. */
+    static report head(bytes path, bytes file)
+    {
+        return report([=](struct ::pef_report *it) { return pef_report_open_head(it, path.data(), path.size(), file.data(), file.size()); });
+    }
+    static report of(bytes file, const found_container &found)
+    {
+        return report([=, &found](struct ::pef_report *it) { return pef_report_open_found(it, file.data(), file.size(), &found); });
+    }
+    static report end(bytes file, const found_container &last)
+    {
+        return report([=, &last](struct ::pef_report *it) { return pef_report_open_end(it, file.data(), file.size(), &last); });
+    }
+    /* The beginning of a container's object, and rows of it. */
+    static report excerpt(bytes file, const found_container &found, uint32_t most)
+    {
+        return report([=, &found](struct ::pef_report *it) { return pef_report_open_excerpt(it, file.data(), file.size(), &found, most); });
+    }
+    static report rows(bytes file, const row_range &rows)
+    {
+        return report([=, &rows](struct ::pef_report *it) { return pef_report_open_rows(it, file.data(), file.size(), &rows); });
+    }
+
+private:
+    template <class Open> explicit report(Open open) { check(open(&it_)); }
 };
 
 class connection;
+
+/* The stub of a library that nobody has: its container, and how many symbols that exports. */
+struct stub {
+    buffer contents;
+    size_t symbol_count;
+};
+
+/* A stub that a context owns: its library's name, and its container. Both are parts of the context until the fragment is removed. */
+struct added_stub {
+    bytes library;
+    bytes contents;
+};
 
 /* Fragments by name, and the memory in which they are prepared. */
 class context {
@@ -314,6 +379,36 @@ public:
         }
         return rows;
     }
+    /* The libraries that the context lacks, whichever fragment is prepared. Throws 99. */
+    std::vector<lacking_library> lacking() const
+    {
+        return all_rows<lacking_library>([this](size_t from, lacking_library *rows, size_t room, size_t *count) { return pef_lacking(&state_->it, from, rows, room, count); });
+    }
+    /* The stub of a library for the fragments of the context. It isn't added. Throws 206, 211 to 216 or 99. */
+    pef::stub stub(bytes library, const stub_options &options = stub_options(PEF_NUMBERED_STUBS)) const
+    {
+        pef::stub made = {buffer(4096), 0};
+        for (size_t written = 0;;) {
+            uint32_t answer = pef_stub(&state_->it, library.data(), library.size(), &options, made.contents.data(), made.contents.size(), &written, &made.symbol_count);
+            if (answer != PEF_OK && answer != PEF_ROOM_TOO_SMALL)
+                throw stub_error(answer, library);
+            made.contents.resize(written);
+            if (answer == PEF_OK)
+                return made;
+        }
+    }
+    /* Adds a stub, which the context owns, of each library that it lacks, also of weak ones unless that is false. Numbers go on from one
+     * stub to the next. Throws what lacking(), stub() and keep() throw, and then none is added. */
+    std::vector<added_stub> add_stubs(const stub_options &options = stub_options(PEF_NUMBERED_STUBS), bool weak = true) { return add_stubs_of(lacking(), options, weak); }
+    /* The same for the libraries that are missing for a fragment and for all that it needs. Throws what missing() throws, too. */
+    std::vector<added_stub> add_stubs(bytes name, const stub_options &options = stub_options(PEF_NUMBERED_STUBS), bool weak = true)
+    {
+        std::vector<lacking_library> found;
+        for (const missing_library &it : missing(name))
+            if (!it.is_found)
+                found.push_back({it.name, it.is_weak});
+        return add_stubs_of(found, options, weak);
+    }
     /* The sections that prepare() would place, in its order. Throws what it throws before it places anything. */
     std::vector<new_section> new_sections(bytes name)
     {
@@ -336,21 +431,62 @@ public:
     bool is_present(bytes name) const
     {
         bool answer = false;
-        check(pef_is_present_const(&state_->it, name.data(), name.size(), &answer));
+        check(pef_is_present(&state_->it, name.data(), name.size(), &answer));
         return answer;
     }
     /* Where an address is, if it is in a section of a fragment that is present. */
-    bool at(uint32_t address, location &found) const { return pef_at_const(&state_->it, address, &found) == PEF_OK; }
+    bool at(uint32_t address, location &found) const { return pef_at(&state_->it, address, &found) == PEF_OK; }
 
 private:
     friend class connection;
     friend class fragment;
+    std::vector<added_stub> add_stubs_of(const std::vector<lacking_library> &libraries, stub_options options, bool weak)
+    {
+        std::vector<std::pair<std::string, buffer>> made;
+        uint64_t next = options.first;
+        for (const lacking_library &it : libraries) {
+            if (it.is_weak && !weak)
+                continue;
+            /* The stub before may have the last number. */
+            bool is_past = options.values == PEF_STUB_NUMBERS && next > UINT32_MAX;
+            options.first = is_past ? 0 : static_cast<uint32_t>(next);
+            stub_options own = options;
+            own.step = is_past ? 0 : options.step;
+            pef::stub one = stub(it.name, own);
+            if (is_past && one.symbol_count > 0)
+                throw stub_error(PEF_PAST_LAST_NUMBER, it.name);
+            next += static_cast<uint64_t>(options.step) * one.symbol_count;
+            made.emplace_back(bytes(it.name).text(), std::move(one.contents));
+        }
+        std::vector<added_stub> added;
+        try {
+            added.reserve(made.size());
+            for (std::pair<std::string, buffer> &it : made) {
+                keep(std::move(it.first), std::move(it.second));
+                added.push_back({state_->kept.back().first, state_->kept.back().second});
+            }
+        } catch (...) {
+            while (!added.empty()) {
+                remove(std::string(added.back().library.text()));
+                added.pop_back();
+            }
+            throw;
+        }
+        return added;
+    }
+    static error stub_error(uint32_t number, bytes library)
+    {
+        struct ::pef_names names = PEF_NO_NAMES;
+        names.library.at = library.data();
+        names.library.length = library.size();
+        return error(number, error::nowhere(), names);
+    }
     /* Where the name of the first fragment of a name is. */
     const void *name_of_first(bytes name) const
     {
         for (size_t number = 0; number < PEF_MAX_FRAGMENTS; number++) {
             struct ::pef_bytes found = PEF_NO_BYTES;
-            if (pef_fragment_name_const(&state_->it, number, &found) == PEF_OK && bytes(found) == name)
+            if (pef_fragment_name(&state_->it, number, &found) == PEF_OK && bytes(found) == name)
                 return found.at;
         }
         return nullptr;
@@ -373,47 +509,47 @@ public:
     bytes name() const
     {
         struct ::pef_bytes text = PEF_NO_BYTES;
-        check(pef_fragment_name_const(it_, number_, &text));
+        check(pef_fragment_name(it_, number_, &text));
         return text;
     }
     /* How many sections it has in memory, and one of them. */
     size_t section_count() const
     {
         size_t count = 0;
-        check(pef_fragment_sections_const(it_, number_, &count));
+        check(pef_fragment_sections(it_, number_, &count));
         return count;
     }
     placed_section section(size_t number) const
     {
         placed_section row;
-        check(pef_fragment_section_const(it_, connection_, number_, number, &row));
+        check(pef_fragment_section(it_, connection_, number_, number, &row));
         return row;
     }
     /* Copies the bytes of a section to the memory of a machine. Throws 200 if it is too small. */
     void copy(size_t number, uint8_t *out, size_t room) const
     {
         size_t written;
-        check(pef_fragment_bytes_const(it_, number_, number, out, room, &written));
+        check(pef_fragment_bytes(it_, number_, number, out, room, &written));
     }
     pef::entries entries() const
     {
         pef::entries row;
-        check(pef_fragment_entries_const(it_, connection_, number_, &row));
+        check(pef_fragment_entries(it_, connection_, number_, &row));
         return row;
     }
-    bool symbol(bytes name, uint32_t &address) const { return pef_fragment_symbol_const(it_, connection_, number_, name.data(), name.size(), &address) == PEF_OK; }
-    bool import_target(size_t number, target &found) const { return pef_import_target_const(it_, connection_, number_, number, &found) == PEF_OK; }
+    bool symbol(bytes name, uint32_t &address) const { return pef_fragment_symbol(it_, connection_, number_, name.data(), name.size(), &address) == PEF_OK; }
+    bool import_target(size_t number, target &found) const { return pef_import_target(it_, connection_, number_, number, &found) == PEF_OK; }
     /* How many exports it has, and one of them with where it ends, by its number and by its name. */
     size_t export_count() const
     {
         size_t count = 0;
-        check(pef_fragment_exports_const(it_, connection_, number_, &count));
+        check(pef_fragment_exports(it_, connection_, number_, &count));
         return count;
     }
-    bool find(size_t number, placed_export &found) const { return pef_fragment_export_const(it_, connection_, number_, number, &found) == PEF_OK; }
-    bool find(bytes name, placed_export &found) const { return pef_fragment_export_named_const(it_, connection_, number_, name.data(), name.size(), &found) == PEF_OK; }
-    bool find_import(bytes name, size_t &number) const { return pef_fragment_import_named_const(it_, connection_, number_, name.data(), name.size(), &number) == PEF_OK; }
-    bool export_address(size_t number, uint32_t &address) const { return pef_export_address_const(it_, connection_, number_, number, &address) == PEF_OK; }
+    bool find(size_t number, placed_export &found) const { return pef_fragment_export(it_, connection_, number_, number, &found) == PEF_OK; }
+    bool find(bytes name, placed_export &found) const { return pef_fragment_export_named(it_, connection_, number_, name.data(), name.size(), &found) == PEF_OK; }
+    bool find_import(bytes name, size_t &number) const { return pef_fragment_import_named(it_, connection_, number_, name.data(), name.size(), &number) == PEF_OK; }
+    bool export_address(size_t number, uint32_t &address) const { return pef_export_address(it_, connection_, number_, number, &address) == PEF_OK; }
 
 private:
     friend class connection;

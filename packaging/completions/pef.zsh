@@ -2,6 +2,8 @@
 # Completion of pef for zsh. docs/USAGE.md has its commands and options.
 
 local -a commands=(
+    'prepare:print the memory that an application and its libraries become'
+    'stubs:make stubs of the libraries that fragments lack'
     'load:print the memory that containers become'
     'link:link a script to a container'
     'show:print the memory that the script on the standard input becomes'
@@ -21,6 +23,17 @@ command)
     ;;
 operand)
     case $words[1] in
+    prepare)
+        _arguments $help '--root[the fragment that is prepared]:name: ' '*--library[a file with libraries only]:file:_files' \
+            '*-L[a folder with libraries]:folder:_files -/' '--no-stubs[make no stubs]' '--no-weak[make no stubs of weak libraries]' \
+            '--json[print JSON]' '--bytes[with --json, print bytes in base64]' \
+            '*:[NAME=]FILE:{compset -P 1 "*="; _files}'
+        ;;
+    stubs)
+        _arguments $help '--first[the first number, in hexadecimal]:address: ' '--step[how far the numbers are from each other]:bytes: ' \
+            '--no-weak[make no stubs of weak libraries]' '--memory[give the symbols code and data]' '-o[the folder that gets the stubs]:folder:_files -/' \
+            '*:[NAME=]FILE:{compset -P 1 "*="; _files}'
+        ;;
     load) _arguments $help '*:NAME=FILE:{compset -P 1 "*=" && _files}' ;;
     link) _arguments $help '1:script:_files' '2:container:_files' ;;
     show) _arguments $help ;;
