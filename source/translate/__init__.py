@@ -1,0 +1,1 @@
+"""Translates a relocatable object of WebAssembly to C. ../HOW.md explains."""

@@ -1,0 +1,1 @@
+"""Small modules that try the translation: ../opcodes runs them."""
