@@ -14,9 +14,9 @@
     ...                 print(fragment.name, hex(section.address), section.contents.hex())
     Tools 0x10000 0000002a
 
-This module needs the shared library of tools/build-library and nothing else. It looks for the file that the environment's
-PEF_LIBRARY names, then for libpef.so in this folder, as a wheel has it, then for out/libpef.so at the top of the repository, then
-for an installed libpef.so.0.
+This module needs the shared library and nothing else. It looks for the file that the environment's PEF_LIBRARY names, then for the
+library in this folder, where an installation puts it (libpef.so, libpef.dylib or pef.dll), then for out/libpef.so at the top of the
+repository, then for an installed libpef.so.0.
 
 Names of fragments, libraries and symbols are `str`. In a container they are bytes, and here each byte is the character that it
 is in Mac Roman, so nothing is lost. Where a name is asked for, `bytes` are taken too.
@@ -28,18 +28,62 @@ from __future__ import annotations
 import ctypes
 import ctypes.util
 import dataclasses
-import enum
 import functools
 import json
 import os
 import pathlib
+import sys
 import threading
 from typing import Any, Dict, Iterator, List, Optional, Sequence, Tuple, Type, Union
 
+from ._codes import _NUMBERED, CLASSES, FIXUP_KINDS, KINDS, PARTS, SHARES, TARGETS, Code, DetailKind, FileKind, Locator, Part, SectionKind, Share, SymbolClass, Usage, _code
+from ._declarations import (
+    _CALLS,
+    ABSOLUTE,
+    ENCODING,
+    LIBRARY_INIT_BEFORE,
+    LIBRARY_WEAK,
+    MAX_FRAGMENTS,
+    REEXPORT,
+    STUB_MEMORY,
+    STUB_NUMBERS,
+    _Bytes,
+    _Context,
+    _Entries,
+    _Export,
+    _Fixup,
+    _FoundContainer,
+    _FragmentExport,
+    _FragmentSection,
+    _Header,
+    _Import,
+    _Lacking,
+    _Library,
+    _Listing,
+    _Loader,
+    _Location,
+    _Missing,
+    _Names,
+    _NewSection,
+    _Options,
+    _Place,
+    _Relocation,
+    _Report,
+    _RowRange,
+    _Section,
+    _Size,
+    _StubOptions,
+    _Target,
+)
+
 __all__ = [
+    "ABSOLUTE",
+    "CLASSES",
+    "Code",
     "Connection",
     "Container",
     "Context",
+    "DetailKind",
     "Entry",
     "Export",
     "Finding",
@@ -48,132 +92,47 @@ __all__ = [
     "Header",
     "Import",
     "ImportTarget",
+    "KINDS",
+    "LackingLibrary",
     "Library",
     "Location",
     "MissingLibrary",
     "NewSection",
+    "PARTS",
     "Part",
     "PefError",
     "PlacedExport",
     "PlacedSection",
+    "REEXPORT",
     "Relocation",
+    "SHARES",
     "Section",
     "SectionKind",
     "Share",
+    "Stub",
+    "StubMemory",
+    "StubNumbers",
     "SymbolClass",
+    "TARGETS",
+    "distances",
     "help_of",
     "inspect",
     "library",
     "link",
     "name_of",
     "report",
+    "report_excerpts",
+    "report_parts",
+    "report_rows",
     "version",
 ]
 
 __version__ = "0.1.0"
 
-ENCODING = "mac_roman"
-OK, ROOM_TOO_SMALL, NOT_THERE = 0, 200, 201
-MAX_FRAGMENTS = 256
-
-KINDS = {0: "code", 1: "data", 2: "pattern", 3: "const", 4: "loader", 5: "debug", 6: "exec", 7: "exception", 8: "traceback"}
-SHARES = {1: "process", 4: "global", 5: "protected"}
-FIXUP_KINDS = {1: "section", 2: "import"}
-CLASSES = {0: "code", 1: "data", 2: "tvector", 3: "toc", 4: "glue"}
-
-
-class _Code(enum.IntEnum):
-    """A code of the format. It is an int, and prints as one in each version of Python."""
-
-    def __str__(self) -> str:
-        return str(int(self))
-
-    def __format__(self, form: str) -> str:
-        return format(int(self), form)
-
-
-class SectionKind(_Code):
-    """What a section holds.
-
-    >>> SectionKind(2), SectionKind.PATTERN == 2, str(SectionKind.PATTERN)
-    (<SectionKind.PATTERN: 2>, True, '2')
-    """
-
-    CODE = 0
-    DATA = 1
-    PATTERN = 2
-    CONST = 3
-    LOADER = 4
-    DEBUG = 5
-    EXEC = 6
-    EXCEPTION = 7
-    TRACEBACK = 8
-
-
-class Share(_Code):
-    """How instances of a section are shared."""
-
-    PROCESS = 1
-    GLOBAL = 4
-    PROTECTED = 5
-
-
-class SymbolClass(_Code):
-    """What a symbol names."""
-
-    CODE = 0
-    DATA = 1
-    TVECTOR = 2
-    TOC = 3
-    GLUE = 4
-
-
-class Part(_Code):
-    """A part of a container that a finding can be about."""
-
-    CONTAINER_HEADER = 1
-    SECTION = 2
-    LOADER_HEADER = 3
-    LIBRARY = 4
-    IMPORT = 5
-    MAIN = 6
-    INIT = 7
-    TERM = 8
-    RELOCATION = 9
-    EXPORT = 10
-    PACKED_DATA = 11
-    PROGRAM = 12
-
-
-def _code(kind: Type[_Code], number: int) -> int:
-    """The constant with this number, or the number if the format has none."""
-    try:
-        return kind(number)
-    except ValueError:
-        return number
-
-
-#: The parts that an error can be about, by the numbers of `struct pef_place`.
-PARTS = {
-    1: "container header",
-    2: "section",
-    3: "loader header",
-    4: "library",
-    5: "import",
-    6: "main entry point",
-    7: "initialization routine",
-    8: "termination routine",
-    9: "relocation header",
-    10: "export",
-    11: "packed data of section",
-    12: "program of relocation header",
-    13: "line",
-}
-_NUMBERED = {PARTS[number] for number in (2, 4, 5, 9, 10, 11, 12)}
-_NO_OFFSET = 2 ** (8 * ctypes.sizeof(ctypes.c_size_t)) - 1
-
-#: Sections of exports that are no section: a number, and an import that is passed on.
-ABSOLUTE, REEXPORT = -2, -3
+OK, ROOM_TOO_SMALL, NOT_THERE = Code.OK, Code.ROOM_TOO_SMALL, Code.NOT_THERE
+_NO_OFFSET = 2**64 - 1
+#: The parts by their words in reports.
+_PARTS = {part.word: part for part in Part}
 
 Text = Union[str, bytes]
 _Contents = bytes
@@ -215,6 +174,11 @@ class PefError(Exception):
         super().__init__(" ".join([str(number), self.name, *(f"{word} {value}" for word, value in self.names.items()), *self._where()]))
 
     @property
+    def code(self) -> int:
+        """The number as a Code: three pairs of errors have the same `name`, and no two have the same Code."""
+        return _code(Code, self.number)
+
+    @property
     def help(self) -> Optional[str]:
         """What the number means, and what to do, in a sentence or two; None if nothing has the number."""
         return help_of(self.number)
@@ -240,114 +204,6 @@ def _copied(kind: Type[PefError], words: Tuple[Any, ...]) -> PefError:
 # --- what C has ---
 
 
-class _Bytes(ctypes.Structure):
-    _fields_ = [("at", ctypes.c_void_p), ("length", ctypes.c_size_t)]
-
-    def value(self) -> bytes:
-        return ctypes.string_at(self.at, self.length)
-
-    def text(self) -> str:
-        return self.value().decode(ENCODING)
-
-
-def _fields(**kinds: str) -> List[Tuple[str, Any]]:
-    """Fields of a structure: for each kind of number the names, in order."""
-    return [(name, getattr(ctypes, f"c_{kind}")) for kind, names in kinds.items() for name in names.split()]
-
-
-class _Place(ctypes.Structure):
-    _fields_ = _fields(uint32="part", size_t="row field offset")
-
-
-class _Header(ctypes.Structure):
-    _fields_ = _fields(
-        uint32="date_time_stamp old_def_version old_imp_version current_version",
-        uint16="section_count instantiated_section_count",
-    )
-
-
-class _Section(ctypes.Structure):
-    _fields_ = _fields(
-        uint32="default_address total_size unpacked_size packed_size container_offset",
-        uint8="kind share alignment",
-    )
-
-
-class _Loader(ctypes.Structure):
-    _fields_ = [
-        *_fields(int32="main_section", uint32="main_offset"),
-        *_fields(int32="init_section", uint32="init_offset"),
-        *_fields(int32="term_section", uint32="term_offset"),
-        *_fields(uint32="library_count import_count relocation_count export_count"),
-    ]
-
-
-class _Library(ctypes.Structure):
-    _fields_ = [("name", _Bytes), *_fields(uint32="current_version old_imp_version import_count first_import", uint8="options")]
-
-
-class _Import(ctypes.Structure):
-    _fields_ = [("name", _Bytes), *_fields(size_t="library", uint8="symbol_class", bool="weak")]
-
-
-class _Relocation(ctypes.Structure):
-    _fields_ = [("instructions", _Bytes), *_fields(uint32="section")]
-
-
-class _Fixup(ctypes.Structure):
-    _fields_ = _fields(uint64="offset number", uint32="kind")
-
-
-class _Export(ctypes.Structure):
-    _fields_ = [("name", _Bytes), *_fields(int32="section", uint32="value", uint8="symbol_class")]
-
-
-class _Handle(ctypes.Structure):
-    """A context, a listing or a report. Zero bytes are one that isn't open."""
-
-    _fields_ = _fields(void_p="handle", bool="is_open")
-
-
-class _Options(ctypes.Structure):
-    _fields_ = _fields(uint32="size limit granule connections", uint64="steps bytes")
-
-
-class _Names(ctypes.Structure):
-    _fields_ = [("fragment", _Bytes), ("library", _Bytes), ("symbol", _Bytes)]
-
-
-class _Missing(ctypes.Structure):
-    _fields_ = [
-        ("name", _Bytes),
-        *_fields(size_t="fragment"),
-        *_fields(uint32="current_version old_imp_version found_version found_old_def_version", bool="is_weak is_found"),
-    ]
-
-
-class _NewSection(ctypes.Structure):
-    _fields_ = _fields(size_t="fragment", uint32="section", uint8="kind share", uint64="size alignment")
-
-
-class _FragmentSection(ctypes.Structure):
-    _fields_ = _fields(uint32="address", size_t="size", uint8="kind share")
-
-
-class _Entries(ctypes.Structure):
-    _fields_ = _fields(uint32="init main term", bool="has_init has_main has_term")
-
-
-class _Target(ctypes.Structure):
-    _fields_ = [*_fields(uint32="kind", size_t="fragment"), *_fields(uint32="section offset address")]
-
-
-class _FragmentExport(ctypes.Structure):
-    _fields_ = [("name", _Bytes), *_fields(size_t="number"), ("target", _Target), *_fields(size_t="import_number", uint8="symbol_class", bool="is_reexport")]
-
-
-class _Location(ctypes.Structure):
-    _fields_ = [*_fields(size_t="fragment section", uint32="connection offset", bool="has_nearest"), ("nearest", _FragmentExport)]
-
-
 # A place that isn't null, for slices of no bytes: the library is never handed a null pointer.
 _NOWHERE = ctypes.create_string_buffer(1)
 
@@ -364,98 +220,19 @@ def _raw(text: Text) -> bytes:
     return text if isinstance(text, bytes) else text.encode(ENCODING)
 
 
-_IN: List[Any] = [ctypes.c_char_p, ctypes.c_size_t]
-_ROOM: List[Any] = [ctypes.c_void_p, ctypes.c_size_t]
-_SIZE: List[Any] = [ctypes.POINTER(ctypes.c_size_t)]
-_PLACES: List[Any] = [ctypes.POINTER(ctypes.c_size_t), ctypes.c_size_t]
-_IN_HANDLE: List[Any] = [ctypes.POINTER(_Handle)]
-_OF_FRAGMENT: List[Any] = _IN_HANDLE + [ctypes.c_uint32, ctypes.c_size_t]
-_CALLS: Dict[str, List[Any]] = {
-    "pef_link": _IN + _ROOM + _SIZE * 2,
-    "pef_list": _IN + _ROOM + _SIZE,
-    "pef_list_open": _IN_HANDLE + _IN,
-    "pef_list_next": _IN_HANDLE + _ROOM + _SIZE,
-    "pef_list_free": _IN_HANDLE,
-    "pef_name": [ctypes.c_uint32, ctypes.POINTER(_Bytes)],
-    "pef_help": [ctypes.c_uint32, ctypes.POINTER(_Bytes)],
-    "pef_container_place": _IN + [ctypes.POINTER(_Place)],
-    "pef_script_place": _IN + [ctypes.POINTER(_Place)] + _SIZE,
-    "pef_report_open": _IN_HANDLE + _IN * 2,
-    "pef_report_open_container": _IN_HANDLE + _IN,
-    "pef_report_next": _IN_HANDLE + _ROOM + _SIZE,
-    "pef_report_free": _IN_HANDLE,
-    "pef_header": _IN + [ctypes.POINTER(_Header)],
-    "pef_section": _IN + [ctypes.c_size_t, ctypes.POINTER(_Section), ctypes.POINTER(_Bytes)],
-    "pef_section_name": _IN + [ctypes.c_size_t, ctypes.POINTER(_Bytes)],
-    "pef_expand": _IN + _ROOM,
-    "pef_loader": _IN + [ctypes.POINTER(_Loader)],
-    "pef_libraries": _IN + [ctypes.c_size_t, ctypes.POINTER(_Library), ctypes.c_size_t] + _SIZE,
-    "pef_imports": _IN + [ctypes.c_size_t, ctypes.POINTER(_Import), ctypes.c_size_t] + _SIZE,
-    "pef_relocations": _IN + [ctypes.c_size_t, ctypes.POINTER(_Relocation), ctypes.c_size_t] + _SIZE,
-    "pef_fixups": _IN + [ctypes.c_size_t] * 2 + [ctypes.POINTER(_Fixup), ctypes.c_size_t] + _SIZE,
-    "pef_exports": _IN + [ctypes.c_size_t, ctypes.POINTER(_Export), ctypes.c_size_t] + _SIZE,
-    "pef_export_named": _IN * 2 + _SIZE + [ctypes.POINTER(_Export)],
-    "pef_import_named": _IN * 2 + _SIZE + [ctypes.POINTER(_Import)],
-    "pef_partial_header": _IN + [ctypes.POINTER(_Header)],
-    "pef_partial_section": _IN + [ctypes.c_size_t, ctypes.POINTER(_Section), ctypes.POINTER(_Bytes)],
-    "pef_partial_section_name": _IN + [ctypes.c_size_t, ctypes.POINTER(_Bytes)],
-    "pef_partial_loader": _IN + [ctypes.POINTER(_Loader)],
-    "pef_partial_libraries": _IN + [ctypes.c_size_t, ctypes.POINTER(_Library), ctypes.c_size_t] + _SIZE,
-    "pef_partial_imports": _IN + [ctypes.c_size_t, ctypes.POINTER(_Import), ctypes.c_size_t] + _SIZE,
-    "pef_partial_relocations": _IN + [ctypes.c_size_t, ctypes.POINTER(_Relocation), ctypes.c_size_t] + _SIZE,
-    "pef_partial_exports": _IN + [ctypes.c_size_t, ctypes.POINTER(_Export), ctypes.c_size_t] + _SIZE,
-    "pef_open": _IN_HANDLE + [ctypes.c_uint32],
-    "pef_open_with": _IN_HANDLE + [ctypes.POINTER(_Options)],
-    "pef_version": [],
-    "pef_free": _IN_HANDLE,
-    "pef_add": _IN_HANDLE + _IN * 2,
-    "pef_add_new": _IN_HANDLE + _IN * 2,
-    "pef_remove": _IN_HANDLE + _IN,
-    "pef_prepare": _IN_HANDLE + _IN + [ctypes.POINTER(ctypes.c_uint32), ctypes.POINTER(_Names)],
-    "pef_prepare_with_place": _IN_HANDLE + _IN + [ctypes.POINTER(ctypes.c_uint32), ctypes.POINTER(_Names), ctypes.POINTER(_Place)],
-    "pef_missing": _IN_HANDLE + _IN + [ctypes.c_size_t, ctypes.POINTER(_Missing), ctypes.c_size_t] + _SIZE + [ctypes.POINTER(_Names)],
-    "pef_new_sections": _IN_HANDLE + _IN + [ctypes.c_size_t, ctypes.POINTER(_NewSection), ctypes.c_size_t] + _SIZE + [ctypes.POINTER(_Names)],
-    "pef_prepare_at": _IN_HANDLE
-    + _IN
-    + [ctypes.POINTER(ctypes.c_uint32), ctypes.c_size_t, ctypes.POINTER(ctypes.c_uint32), ctypes.POINTER(_Names), ctypes.POINTER(_Place)],
-    "pef_reserve": _IN_HANDLE + [ctypes.c_uint32] * 2,
-    "pef_unreserve": _IN_HANDLE + [ctypes.c_uint32] * 2,
-    "pef_close": _IN_HANDLE + [ctypes.c_uint32],
-    "pef_new_fragments": _IN_HANDLE + [ctypes.c_uint32] + _PLACES + _SIZE,
-    "pef_released_by": _IN_HANDLE + [ctypes.c_uint32] + _PLACES + _SIZE,
-    "pef_fragments": _IN_HANDLE + [ctypes.c_uint32] + _PLACES + _SIZE,
-    "pef_init_order": _IN_HANDLE + [ctypes.c_uint32] + _PLACES + _SIZE,
-    "pef_fragment_name": _IN_HANDLE + [ctypes.c_size_t, ctypes.POINTER(_Bytes)],
-    "pef_is_present": _IN_HANDLE + _IN + [ctypes.POINTER(ctypes.c_bool)],
-    "pef_fragment_sections": _IN_HANDLE + [ctypes.c_size_t] + _SIZE,
-    "pef_fragment_section": _OF_FRAGMENT + [ctypes.c_size_t, ctypes.POINTER(_FragmentSection)],
-    "pef_fragment_bytes": _IN_HANDLE + [ctypes.c_size_t] * 2 + _ROOM + _SIZE,
-    "pef_fragment_entries": _OF_FRAGMENT + [ctypes.POINTER(_Entries)],
-    "pef_fragment_symbol": _OF_FRAGMENT + _IN + [ctypes.POINTER(ctypes.c_uint32)],
-    "pef_import_target": _OF_FRAGMENT + [ctypes.c_size_t, ctypes.POINTER(_Target)],
-    "pef_export_address": _OF_FRAGMENT + [ctypes.c_size_t, ctypes.POINTER(ctypes.c_uint32)],
-    "pef_fragment_exports": _OF_FRAGMENT + _SIZE,
-    "pef_fragment_export": _OF_FRAGMENT + [ctypes.c_size_t, ctypes.POINTER(_FragmentExport)],
-    "pef_fragment_export_named": _OF_FRAGMENT + _IN + [ctypes.POINTER(_FragmentExport)],
-    "pef_fragment_import_named": _OF_FRAGMENT + _IN + _SIZE,
-    "pef_at": _IN_HANDLE + [ctypes.c_uint32, ctypes.POINTER(_Location)],
-}
-
-
 @functools.lru_cache(maxsize=None)
 def library() -> ctypes.CDLL:
     """The shared library, which is loaded by the first call of any kind. An OSError says where it was looked for."""
-    beside = pathlib.Path(__file__).resolve().with_name("libpef.so")
+    beside = pathlib.Path(__file__).resolve().with_name({"win32": "pef.dll", "darwin": "libpef.dylib"}.get(sys.platform, "libpef.so"))
     built = beside.parent.parent.parent / "out" / "libpef.so"
     named = os.environ.get("PEF_LIBRARY")
     path = named or next((str(file) for file in (beside, built) if file.exists()), None) or ctypes.util.find_library("pef")
     if path is None:
         raise OSError(f"libpef isn't found: tools/build-library builds {built}, or PEF_LIBRARY names the file")
     loaded = ctypes.CDLL(path)
-    for name, arguments in _CALLS.items():
-        if hasattr(loaded, name):  # an older library lacks some calls
-            call = getattr(loaded, name)
-            call.argtypes, call.restype = arguments, None if name.endswith("_free") else ctypes.c_uint32
+    for name, (result, arguments) in _CALLS.items():
+        call = getattr(loaded, name)
+        call.argtypes, call.restype = arguments, result
     return loaded
 
 
@@ -464,20 +241,16 @@ def _check(answer: int, place: Optional[_Place] = None, earlier: int = 0, **name
         raise PefError(answer, {word: value for word, value in names.items() if value}, place, earlier)
 
 
-def _container_place(contents: bytes) -> Optional[_Place]:
-    """Where the first error of a container is; None from an older library."""
+def _container_place(contents: bytes) -> _Place:
+    """Where the first error of a container is."""
     place = _Place()
-    if not hasattr(library(), "pef_container_place"):
-        return None
     library().pef_container_place(contents, len(contents), ctypes.byref(place))
     return place
 
 
-def _script_place(text: bytes) -> Tuple[Optional[_Place], int]:
-    """Where the first error of a script is, and the earlier line that it is about; None and 0 from an older library."""
-    place, earlier = _Place(), ctypes.c_size_t()
-    if not hasattr(library(), "pef_script_place"):
-        return None, 0
+def _script_place(text: bytes) -> Tuple[_Place, int]:
+    """Where the first error of a script is, and the earlier line that it is about."""
+    place, earlier = _Place(), _Size()
     library().pef_script_place(text, len(text), ctypes.byref(place), ctypes.byref(earlier))
     return place, earlier.value
 
@@ -515,10 +288,26 @@ def link(script: Text) -> bytes:
     >>> link("section d data process 4 4\\nbytes d 0000002A\\n")[:12]
     b'Joy!peffpwpc'
     """
-    text, length = _raw(script), 4096
+    return _of_script("pef_link", script, 4096)
+
+
+def distances(script: Text) -> str:
+    """The certificates of a script, as `pef distances` prints them (docs/CERTIFICATES.md). Each has the relocation program that `link`
+    writes for a section, and proves that no program without repeats is shorter.
+
+    Raises what `link` raises.
+
+    >>> distances("section d data process 4 4\\n").split("\\n")[:3]
+    ['pefcert 2', 'section 0', 'fixups 0']
+    """
+    return _of_script("pef_distances", script, 65536).decode("ascii")
+
+
+def _of_script(call: str, script: Text, length: int) -> bytes:
+    text = _raw(script)
     while True:
-        room, written, line = _room(length), ctypes.c_size_t(), ctypes.c_size_t()
-        answer = library().pef_link(text, len(text), room, length, ctypes.byref(written), ctypes.byref(line))
+        room, written, line = _room(length), _Size(), _Size()
+        answer = getattr(library(), call)(text, len(text), room, length, ctypes.byref(written), ctypes.byref(line))
         if answer != ROOM_TOO_SMALL:
             if answer != OK:
                 _check(answer, *_script_place(text), line=line.value)
@@ -534,8 +323,8 @@ class Finding:
     """An error of a container, or a note on it: something odd that breaks no rule.
 
     `part` is the kind of part that it is about, `row` the number of the part among those of its kind, `field` the offset in the part,
-    and `offset` that in the container, or None. `detail` is the offset of a relocated word in its section (37 to 39, 107 and 114), a
-    number of bytes (109, 112 and 113), a number of sections (116), or None.
+    and `offset` that in the container, or None. `detail` is the number that it has beside its place, or None, and `detail_kind` says what
+    that number is.
 
     >>> damaged = bytearray(link("section d data process 4 4\\nbytes d 0000002A\\n"))
     >>> damaged[15] = 2
@@ -552,6 +341,12 @@ class Finding:
     field: int
     offset: Optional[int]
     detail: Optional[int] = None
+    detail_kind: DetailKind = DetailKind.NONE
+
+    @property
+    def code(self) -> int:
+        """The number as a Code: three pairs of errors have the same `name`, and no two have the same Code."""
+        return _code(Code, self.number)
 
     @property
     def help(self) -> str:
@@ -565,20 +360,11 @@ class Finding:
         return f"{self.number} {self.name} in {word}{row}{at}"
 
 
-#: The parts by their names in JSON.
-_PARTS = {
-    "header": Part.CONTAINER_HEADER,
-    "loader": Part.LOADER_HEADER,
-    "packed": Part.PACKED_DATA,
-    **{part.name.lower(): part for part in Part},
-}
-
-
 def _finding(row: Dict[str, Any], is_error: bool) -> Finding:
     """An error or a note of a report. What is about no field is about the bytes at its offset."""
     field = row["offset"] if row["field"] is None else row["field"]
-    detail = next((row[name] for name in ("word", "length", "sections") if name in row), None)
-    return Finding(row["number"], row["name"], is_error, _PARTS[row["part"]], row["row"], field, row["offset"], detail)
+    kind = next((it for it in DetailKind if it.word in row), DetailKind.NONE)
+    return Finding(row["number"], row["name"], is_error, _PARTS[row["part"]], row["row"], field, row["offset"], row.get(kind.word), kind)
 
 
 def inspect(contents: bytes) -> List[Finding]:
@@ -607,19 +393,64 @@ def report(contents: bytes, path: Text = "") -> Dict[str, Any]:
     return found
 
 
-def _report(call: str, *given: bytes) -> bytes:
+def report_parts(contents: bytes, path: Text = "") -> Iterator[str]:
+    """The text of `pef inspect --json` for a file, part by part: what comes before its containers, each container, and what comes after
+    them. Only one part is in memory. Raises PefError: 99.
+
+    >>> two = 2 * link("section d data process 4 4\\nbytes d 0000002A\\n")
+    >>> parts = list(report_parts(two))
+    >>> len(parts), json.loads("".join(parts)) == report(two)
+    (4, True)
+    """
+    raw, found = bytes(contents), _FoundContainer()
+    yield _report("pef_report_open_head", path.encode() if isinstance(path, str) else path, raw).decode()
+    for _ in _containers_in(raw, found):
+        yield _report("pef_report_open_found", raw, more=(ctypes.byref(found),)).decode()
+    yield _report("pef_report_open_end", raw, more=(ctypes.byref(found),)).decode()
+
+
+def report_excerpts(contents: bytes, most: int) -> Iterator[Optional[Dict[str, Any]]]:
+    """The containers of a file as report() has them, one after the other, with the first `most` rows of each kind, errors and notes alone,
+    and without instructions. None is one that isn't inspected, because the report would cost too much. Raises PefError: 99."""
+    raw, found = bytes(contents), _FoundContainer()
+    for _ in _containers_in(raw, found):
+        text = _report("pef_report_open_excerpt", raw, more=(ctypes.byref(found), most))
+        yield json.loads(text) if text else None
+
+
+def report_rows(contents: bytes, offset: int, part: Part, start: int, count: int) -> List[Dict[str, Any]]:
+    """Rows of the container at an offset of a file, as report() has them: so many from the one that has the number `start`.
+
+    `part` is SECTION, LIBRARY, IMPORT, RELOCATION or EXPORT. Raises PefError: 201 for another part, or 99.
+    """
+    rows = _RowRange(offset, part, start, count)
+    found: List[Dict[str, Any]] = json.loads(b"[" + _report("pef_report_open_rows", bytes(contents), more=(ctypes.byref(rows),)).lstrip(b",") + b"]")
+    return found
+
+
+def _containers_in(contents: bytes, found: _FoundContainer) -> Iterator[None]:
+    """Goes from container to container of a file, up to its end."""
+    answer = library().pef_first_container(contents, len(contents), ctypes.byref(found))
+    while answer == OK:
+        yield
+        answer = library().pef_next_container(contents, len(contents), ctypes.byref(found))
+    if answer != NOT_THERE:
+        _check(answer)
+
+
+def _report(call: str, *given: bytes, more: Tuple[Any, ...] = ()) -> bytes:
     """The text of a report that a call opens."""
-    it = _Handle()
+    it = _Report()
     try:
-        _check(getattr(library(), call)(ctypes.byref(it), *(word for raw in map(bytes, given) for word in (raw, len(raw)))))
+        _check(getattr(library(), call)(ctypes.byref(it), *(word for raw in map(bytes, given) for word in (raw, len(raw))), *more))
         return b"".join(_parts("pef_report_next", it, 1 << 16))
     finally:
         library().pef_report_free(ctypes.byref(it))
 
 
-def _parts(call: str, handle: _Handle, size: int) -> Iterator[bytes]:
+def _parts(call: str, handle: Union[_Listing, _Report], size: int) -> Iterator[bytes]:
     """The bytes that a call gives in parts of this size, up to the last one."""
-    room, written = _room(size), ctypes.c_size_t(size)
+    room, written = _room(size), _Size(size)
     while written.value == size:
         _check(getattr(library(), call)(ctypes.byref(handle), room, size, ctypes.byref(written)))
         if written.value > 0:
@@ -631,7 +462,7 @@ def _all_rows(call: str, contents: bytes, row: Any, slice_name: Optional[str] = 
     found: List[Any] = []
     room = 256
     while True:
-        rows, count = (row * room)(), ctypes.c_size_t()
+        rows, count = (row * room)(), _Size()
         if slice_name is not None:
             for it in rows:
                 setattr(it, slice_name, _no_bytes())
@@ -647,7 +478,9 @@ def _all_rows(call: str, contents: bytes, row: Any, slice_name: Optional[str] = 
 
 @dataclasses.dataclass(frozen=True)
 class Header:
-    """A container's header. The date is in seconds since the first of January 1904."""
+    """A container's header. The date is in seconds since the first of January 1904. The architecture is `pwpc`, or in a container that is
+    read as a damaged one also `m68k` or any other.
+    """
 
     date: int
     current_version: int
@@ -655,6 +488,7 @@ class Header:
     old_imp_version: int
     section_count: int
     instantiated_section_count: int
+    architecture: str
 
 
 @dataclasses.dataclass(frozen=True)
@@ -782,6 +616,7 @@ class Container:
             row.old_imp_version,
             row.section_count,
             row.instantiated_section_count,
+            row.architecture.to_bytes(4, "big").decode(ENCODING),
         )
         self._loader = _Loader(main_section=-1, init_section=-1, term_section=-1)
         if damaged:
@@ -814,8 +649,13 @@ class Container:
     @functools.cached_property
     def sections(self) -> List[Section]:
         """All sections, by their numbers."""
-        found = (self._section(number) for number in range(self.header.section_count))
-        return [section for section in found if section is not None]
+        found: List[Section] = []
+        for number in range(self.header.section_count):
+            section = self._section(number)
+            if section is None:  # the headers after it aren't in the bytes either
+                break
+            found.append(section)
+        return found
 
     def _section(self, number: int) -> Optional[Section]:
         row, raw, name = _Section(), _no_bytes(), _no_bytes()
@@ -846,7 +686,7 @@ class Container:
 
         Zeros follow it in memory, up to total_size. Raises PefError: 21 to 25.
         """
-        if section.kind != 2:
+        if section.kind != SectionKind.PATTERN:
             return section.raw[: section.unpacked_size]
         room = _room(section.unpacked_size)
         _check(library().pef_expand(section.raw, len(section.raw), room, section.unpacked_size))
@@ -855,7 +695,7 @@ class Container:
     def _rows(self, table: str, row: Any, count: int, slice_name: str = "name") -> List[Any]:
         if self._damaged:
             return _all_rows(f"pef_partial_{table}", self.contents, row, slice_name) if self._has_loader else []
-        rows, found = (row * max(1, count))(), ctypes.c_size_t()
+        rows, found = (row * max(1, count))(), _Size()
         for it in rows:
             setattr(it, slice_name, _no_bytes())
         _check(getattr(library(), f"pef_{table}")(*self._bytes, 0, rows, count, ctypes.byref(found)))
@@ -865,7 +705,7 @@ class Container:
     def libraries(self) -> List[Library]:
         """The libraries that the fragment imports from."""
         rows = self._rows("libraries", _Library, self._loader.library_count)
-        return [Library(it.name.text(), it.current_version, it.old_imp_version, bool(it.options & 0x40), bool(it.options & 0x80)) for it in rows]
+        return [Library(it.name.text(), it.current_version, it.old_imp_version, bool(it.options & LIBRARY_WEAK), bool(it.options & LIBRARY_INIT_BEFORE)) for it in rows]
 
     @functools.cached_property
     def imports(self) -> List[Import]:
@@ -888,13 +728,13 @@ class Container:
     def fixups(self, header: int) -> Iterator[Fixup]:
         """The additions of the program that has this place in `relocations`, in the order in which it makes them.
 
-        Words, sections and imports needn't exist. Raises PefError: 31 to 36, for a damaged program, or 201 past the last header; and
-        1 to 20 for a damaged container.
+        Words, sections and imports needn't exist. Raises PefError: 31 to 36, for a damaged program, or 201 past the last header. Of a
+        container that is read as one that may be damaged also 201 if the instructions extend past the loader section.
         """
-        start, room = 0, 1024
+        call, start, room = library().pef_partial_fixups if self._damaged else library().pef_fixups, 0, 1024
         while True:
-            rows, count = (_Fixup * room)(), ctypes.c_size_t()
-            self._read(library().pef_fixups(*self._bytes, header, start, rows, room, ctypes.byref(count)))
+            rows, count = (_Fixup * room)(), _Size()
+            self._read(call(*self._bytes, header, start, rows, room, ctypes.byref(count)))
             for it in rows[: count.value]:
                 yield Fixup(it.offset, FIXUP_KINDS[it.kind], it.number)
             if count.value < room:
@@ -913,7 +753,7 @@ class Container:
 
         Each call reads the loader section anew. To look up many names, make a dictionary of `exports`.
         """
-        raw, number, row = _raw(name), ctypes.c_size_t(), _Export(_no_bytes())
+        raw, number, row = _raw(name), _Size(), _Export(_no_bytes())
         if self._damaged:
             return next(((place, it) for place, it in enumerate(self.exports) if _raw(it.name) == raw), None)
         answer = library().pef_export_named(*self._bytes, raw, len(raw), ctypes.byref(number), ctypes.byref(row))
@@ -924,7 +764,7 @@ class Container:
 
     def find_import(self, name: Text) -> Optional[Tuple[int, Import]]:
         """The place in `imports` of the first symbol with this name, and that symbol; None if there is none."""
-        raw, number, row = _raw(name), ctypes.c_size_t(), _Import(_no_bytes())
+        raw, number, row = _raw(name), _Size(), _Import(_no_bytes())
         if self._damaged:
             return next(((place, it) for place, it in enumerate(self.imports) if _raw(it.name) == raw), None)
         answer = library().pef_import_named(*self._bytes, raw, len(raw), ctypes.byref(number), ctypes.byref(row))
@@ -947,7 +787,7 @@ class Container:
         """The lines of `pef list`. Raises PefError: 31 to 36, for a damaged relocation program, and 1 to 20 for a damaged container."""
         length = 4096
         while True:
-            room, written = _room(length), ctypes.c_size_t()
+            room, written = _room(length), _Size()
             answer = library().pef_list(*self._bytes, room, length, ctypes.byref(written))
             if answer != ROOM_TOO_SMALL:
                 _check(answer)
@@ -957,7 +797,7 @@ class Container:
     def listing_parts(self, size: int = 65536) -> Iterator[str]:
         """The lines of `pef list`, in parts of `size` characters; the last part may be shorter. However many lines there are, only
         one part is in memory. Raises what `listing` raises, when the first part is asked for."""
-        listing = _Handle()
+        listing = _Listing()
         try:
             _check(library().pef_list_open(ctypes.byref(listing), *self._bytes))
             for part in _parts("pef_list_next", listing, size):
@@ -978,10 +818,6 @@ class PlacedSection:
     kind: int
     share: int
     contents: bytes = dataclasses.field(repr=False)
-
-
-#: The kinds of an import's target, by the numbers of `struct pef_target`.
-TARGETS = {0: "missing", 1: "absolute", 2: "in section"}
 
 
 @dataclasses.dataclass(frozen=True)
@@ -1063,6 +899,52 @@ class MissingLibrary:
     found_old_def_version: Optional[int] = None
 
 
+@dataclasses.dataclass(frozen=True)
+class LackingLibrary:
+    """A library that fragments of a context name, and that no fragment of it has the name of. If it is weak, each of them can be prepared
+    without it."""
+
+    name: str
+    weak: bool
+
+
+@dataclasses.dataclass(frozen=True)
+class StubNumbers:
+    """What the symbols of a stub are: absolute numbers. The first symbol is `first`, and each later one `step` more."""
+
+    first: int = 0xF0000000
+    step: int = 16
+
+
+@dataclasses.dataclass(frozen=True)
+class StubMemory:
+    """What the symbols of a stub are: memory. A symbol of code is a `word`, which an emulator catches (usually `sc`), and a `blr`. A
+    transition vector leads to such code. A symbol of data or TOC is so many `zeros`."""
+
+    word: int = 0x44000002
+    zeros: int = 16
+
+
+@dataclasses.dataclass(frozen=True)
+class Stub:
+    """A container in place of a library that nobody has."""
+
+    library: str
+    contents: bytes = dataclasses.field(repr=False)
+
+    @functools.cached_property
+    def symbols(self) -> List[Export]:
+        """What it exports, in the order of the values. A symbol that is a number has the section ABSOLUTE, and the number as its value."""
+        return sorted(Container(self.contents).exports, key=lambda it: (it.section, it.value, it.name))
+
+
+def _stub_options(values: Union[StubNumbers, StubMemory]) -> _StubOptions:
+    fields = dataclasses.asdict(values)
+    if not all(0 <= it < 2**32 for it in fields.values()):
+        raise ValueError(f"{' and '.join(fields)} have 32 bits")
+    return _StubOptions(ctypes.sizeof(_StubOptions), STUB_NUMBERS if isinstance(values, StubNumbers) else STUB_MEMORY, **fields)
+
+
 class Fragment:
     """A fragment of a connection's closure. What is read of it after the connection is closed raises PefError."""
 
@@ -1088,12 +970,12 @@ class Fragment:
     @property
     def sections(self) -> List[PlacedSection]:
         """Its sections in memory, by their numbers."""
-        count = ctypes.c_size_t()
+        count = _Size()
         self.connection.context._call("pef_fragment_sections", self.number, ctypes.byref(count))
         return [self._section(number) for number in range(count.value)]
 
     def _section(self, number: int) -> PlacedSection:
-        row, written = _FragmentSection(), ctypes.c_size_t()
+        row, written = _FragmentSection(), _Size()
         self._call("pef_fragment_section", number, ctypes.byref(row))
         room = _room(row.size)
         self.connection.context._call("pef_fragment_bytes", self.number, number, room, row.size, ctypes.byref(written))
@@ -1124,13 +1006,13 @@ class Fragment:
 
     def import_named(self, name: Text) -> Optional[int]:
         """The place in `Container.imports` of its first import with this name; None if there is none."""
-        raw, number = _raw(name), ctypes.c_size_t()
+        raw, number = _raw(name), _Size()
         return number.value if self._finds("pef_fragment_import_named", raw, len(raw), ctypes.byref(number)) else None
 
     @property
     def export_count(self) -> int:
         """How many exports it has."""
-        count = ctypes.c_size_t()
+        count = _Size()
         self._call("pef_fragment_exports", ctypes.byref(count))
         return count.value
 
@@ -1217,7 +1099,7 @@ class Connection:
         return self.fragments[-1]
 
     def _fragments(self, call: str) -> List[Fragment]:
-        places, count = (ctypes.c_size_t * MAX_FRAGMENTS)(), ctypes.c_size_t()
+        places, count = (_Size * MAX_FRAGMENTS)(), _Size()
         self.context._call(call, self.number, places, MAX_FRAGMENTS, ctypes.byref(count))
         return [Fragment(self, number) for number in places[: count.value]]
 
@@ -1257,7 +1139,7 @@ class Context:
         steps: Optional[int] = None,
         bytes: Optional[int] = None,  # pylint: disable=redefined-builtin
     ):
-        self._context = _Handle()
+        self._context = _Context()
         #: Held during each call: a call writes to the struct, even if it only reads.
         self._lock = threading.RLock()
         #: The names and containers that were added, in this order: the library reads them until they are removed or the context is
@@ -1350,7 +1232,7 @@ class Context:
         Each name is there once, and weak libraries are among them. Add those that you have, and ask again, since these may name
         others; then prepare(). Raises PefError: 60 if no fragment has the name, 1 to 20 for a fragment that can't be read, or 99.
         """
-        raw, room, count = _raw(name), 64, ctypes.c_size_t()
+        raw, room, count = _raw(name), 64, _Size()
         found: List[MissingLibrary] = []
         with self._lock:  # the names are parts of what was added
             while True:
@@ -1373,6 +1255,83 @@ class Context:
         found = {"found_version": row.found_version, "found_old_def_version": row.found_old_def_version}
         return dataclasses.replace(it, **found) if row.is_found else it
 
+    def lacking(self) -> List[LackingLibrary]:
+        """The libraries that the context lacks, whichever fragment is prepared: each name once, in the order of the fragments and of their
+        entries. Fragments that can't be read are passed by. Raises PefError: 99."""
+        room, count = 64, _Size()
+        found: List[LackingLibrary] = []
+        with self._lock:  # the names are parts of what was added
+            while True:
+                rows = (_Lacking * room)(*[_Lacking(_no_bytes()) for _ in range(room)])
+                self._call("pef_lacking", len(found), rows, room, ctypes.byref(count))
+                found += [LackingLibrary(it.name.text(), it.is_weak) for it in rows[: count.value]]
+                if count.value < room:
+                    return found
+                room = min(2 * room, 1 << 16)
+
+    def stub(self, name: Text, values: Union[StubNumbers, StubMemory] = StubNumbers()) -> Stub:
+        """The stub of a library: a container that exports what the fragments of the context import from it (docs/RULES.md). It isn't added.
+
+        Raises PefError: 211 to 216 if there is no such stub, or 99. ValueError if a number of `values` has more than 32 bits.
+        """
+        raw, length, options = _raw(name), 4096, _stub_options(values)
+        while True:
+            room, written, count = _room(length), _Size(), _Size()
+            with self._lock:
+                answer = library().pef_stub(
+                    ctypes.byref(self._context), raw, len(raw), ctypes.byref(options), room, length, ctypes.byref(written), ctypes.byref(count)
+                )
+            if answer != ROOM_TOO_SMALL:
+                _check(answer, library=raw.decode(ENCODING))
+                return Stub(raw.decode(ENCODING), ctypes.string_at(room, written.value))
+            length = written.value
+
+    def add_stubs(
+        self, name: Optional[Text] = None, values: Union[StubNumbers, StubMemory] = StubNumbers(), weak: bool = True
+    ) -> List[Stub]:
+        """Adds a stub of each library that the context lacks, or with a name of each that is missing for that fragment and all that it
+        needs. Numbers go on from one stub to the next, so each belongs to one symbol.
+
+        Without `weak`, a library that each fragment can do without gets none. Returns the stubs in their order. Raises what missing() and
+        stub() raise, and 203 or 204 as add() does. Then no stub is added.
+
+        >>> with Context() as context:
+        ...     context.add("App", link("library System 1 0 -\\nimport beep tvector strong\\nsection d data process 4 4\\nfix d 0 import beep\\n"))
+        ...     for stub in context.add_stubs("App"):
+        ...         print(stub.library, [(it.name, hex(it.value)) for it in stub.symbols])
+        ...     context.prepare("App").root.sections[0].contents.hex()
+        System [('beep', '0xf0000000')]
+        'f0000000'
+        """
+        with self._lock:
+            if name is None:
+                found = {it.name: it.weak for it in self.lacking()}
+            else:
+                found = {it.name: it.weak for it in self.missing(name) if it.found_version is None}
+            made: List[Stub] = []
+            for library_name, is_weak in found.items():
+                if weak or not is_weak:
+                    made.append(self._next_stub(library_name, values))
+                    if isinstance(values, StubNumbers):
+                        values = StubNumbers(values.first + values.step * len(made[-1].symbols), values.step)
+            for number, stub in enumerate(made):
+                try:
+                    self.add(stub.library, stub.contents)
+                except PefError:
+                    for added in made[:number]:
+                        self.remove(added.library)
+                    raise
+        return made
+
+    def _next_stub(self, name: str, values: Union[StubNumbers, StubMemory]) -> Stub:
+        """A stub whose numbers go on from others, which may have taken the last one."""
+        if not (isinstance(values, StubNumbers) and values.first >= 2**32):
+            return self.stub(name, values)
+        stub = self.stub(name, StubNumbers(0, 0))
+        if stub.symbols:
+            raise PefError(int(Code.PAST_LAST_NUMBER), {"library": name})
+        return stub
+
     def prepare(self, name: Text) -> Connection:
         """Opens a connection: places, fills and relocates what isn't present of a fragment and all that it needs.
 
@@ -1382,10 +1341,7 @@ class Context:
         names, place = _Names(_no_bytes(), _no_bytes(), _no_bytes()), _Place()
         words = (ctypes.byref(self._context), raw, len(raw), ctypes.byref(number), ctypes.byref(names))
         with self._lock:
-            if hasattr(library(), "pef_prepare_with_place"):
-                answer = library().pef_prepare_with_place(*words, ctypes.byref(place))
-            else:
-                answer = library().pef_prepare(*words)
+            answer = library().pef_prepare_with_place(*words, ctypes.byref(place))
             _check(answer, place, fragment=names.fragment.text(), library=names.library.text(), symbol=names.symbol.text())
         return Connection(self, number.value)
 
@@ -1394,7 +1350,7 @@ class Context:
 
         Raises PefError: 1 to 20, 60 to 66, 68 to 70, 75, or 99: what prepare() raises before it places anything.
         """
-        raw, room, count = _raw(name), 64, ctypes.c_size_t()
+        raw, room, count = _raw(name), 64, _Size()
         found: List[NewSection] = []
         with self._lock:
             while True:
@@ -1474,6 +1430,6 @@ class Context:
             self.free()
 
 
-from .mac import Damage, FileKind, Finder, FoundContainer, Locator, MacFile, Member, Resource, Usage, resource_files  # noqa: E402
+from .mac import Damage, Finder, FoundContainer, MacFile, Member, Resource, fragments_of, resource_files  # noqa: E402
 
-__all__ += ["Damage", "FileKind", "Finder", "FoundContainer", "Locator", "MacFile", "Member", "Resource", "Usage", "resource_files"]
+__all__ += ["Damage", "FileKind", "Finder", "FoundContainer", "Locator", "MacFile", "Member", "Resource", "Usage", "fragments_of", "resource_files"]

@@ -6,105 +6,14 @@ import dataclasses
 import functools
 import os
 import pathlib
-from typing import Any, Dict, Iterator, List, Optional, Tuple, Union
+from typing import Any, Dict, Iterator, List, Optional, Sequence, Tuple, Union
 
-from . import _CALLS, _IN, _NO_OFFSET, _SIZE, ENCODING, NOT_THERE, OK, PefError, Text, _Bytes, _check, _Code, _code, _fields, _no_bytes, _raw, library, name_of
+from . import _NO_OFFSET, NOT_THERE, OK, PefError, Text, _check, _no_bytes, _raw, library, name_of
+from ._codes import Code, FileKind, Locator, Usage, _code
+from ._declarations import ENCODING, FRAGMENT_TABLE_TYPE, _Bytes, _Forks, _Member, _Part, _Resource, _ResourceMap, _Size
 
-NO_CONTAINER, FRAGMENT_OUTSIDE = 80, 98
 #: A fork passes the end of the file, and is read as far as it goes.
-_CUT = (76, 77)
-
-
-class FileKind(_Code):
-    """What a file is."""
-
-    OTHER = 0
-    CONTAINER = 1
-    MAC_BINARY = 2
-    APPLE_SINGLE = 3
-    APPLE_DOUBLE = 4
-    DAMAGED_APPLE = 5
-    RESOURCE_FORK = 6
-
-
-class Usage(_Code):
-    """What a fragment is for."""
-
-    IMPORT_LIBRARY = 0
-    APPLICATION = 1
-    DROP_IN_ADDITION = 2
-    STUB_LIBRARY = 3
-    WEAK_STUB_LIBRARY = 4
-
-
-class Locator(_Code):
-    """Where the container of a fragment is."""
-
-    MEMORY = 0
-    DATA_FORK = 1
-    RESOURCE = 2
-
-
-# --- what C has ---
-
-
-class _Part(ctypes.Structure):
-    _fields_ = [("bytes", _Bytes), *_fields(size_t="offset error_offset", uint32="error")]
-
-
-class _Finder(ctypes.Structure):
-    _fields_ = [
-        *_fields(size_t="error_offset", uint32="error file_type creator", uint16="flags"),
-        *_fields(int16="vertical horizontal"),
-        *_fields(uint16="window"),
-    ]
-
-
-class _Forks(ctypes.Structure):
-    _fields_ = [
-        *((name, _Part) for name in ("data_fork", "resource_fork", "name", "comment")),
-        ("finder", _Finder),
-        *_fields(size_t="error_offset", uint32="error kind"),
-    ]
-
-
-class _ResourceMap(ctypes.Structure):
-    _fields_ = _fields(size_t="error_offset", uint32="error data_offset map_offset data_length map_length", uint16="attributes type_count")
-
-
-class _Resource(ctypes.Structure):
-    _fields_ = [
-        *((name, _Bytes) for name in ("name", "bytes")),
-        *_fields(size_t="offset error_offset name_error_offset", uint32="error name_error type"),
-        *_fields(int16="id", uint16="type_row row", uint8="attributes"),
-    ]
-
-
-class _Member(ctypes.Structure):
-    _fields_ = [
-        *((name, _Bytes) for name in ("name", "container")),
-        *_fields(size_t="place error_offset name_error_offset container_error_offset"),
-        *_fields(uint32="error name_error container_error architecture current_version old_def_version stack_size offset length space_id"),
-        *_fields(uint16="directory_or_flags fork_instance extension_count size", uint8="update_level usage locator"),
-    ]
-
-
-_CALLS.update(
-    {
-        "pef_file_kind": _IN,
-        "pef_forks": _IN + [ctypes.POINTER(_Forks)],
-        "pef_resource_map": _IN + [ctypes.POINTER(_ResourceMap)],
-        "pef_resources": _IN + [ctypes.c_size_t, ctypes.POINTER(_Resource), ctypes.c_size_t] + _SIZE,
-        "pef_find_resource": _IN + [ctypes.c_uint32, ctypes.c_int16, ctypes.POINTER(_Resource)],
-        "pef_members": _IN * 2 + [ctypes.c_size_t, ctypes.POINTER(_Member), ctypes.c_size_t] + _SIZE,
-        "pef_find_containers": _IN + [ctypes.c_size_t] + _SIZE + [ctypes.c_size_t] + _SIZE,
-        "pef_file_container": _IN * 2 + [ctypes.POINTER(_Bytes)],
-        "pef_fork_container": _IN * 3 + [ctypes.POINTER(_Bytes)],
-        "pef_numbered_container": _IN + [ctypes.c_size_t, ctypes.POINTER(_Bytes)],
-    }
-)
-
-_TABLE_TYPE = 0x63667267
+_CUT = (Code.DATA_FORK_CUT, Code.RESOURCE_FORK_CUT)
 
 
 def _empty(structure: Any) -> Any:
@@ -122,7 +31,7 @@ def _all(call: str, row: Any, *words: Any) -> List[Any]:
     """All rows of a table: more places are offered until some stay free."""
     room = 64
     while True:
-        rows, found = (row * room)(*(_empty(row) for _ in range(room) if row is not ctypes.c_size_t)), ctypes.c_size_t()
+        rows, found = (row * room)(*(_empty(row) for _ in range(room) if row is not _Size)), _Size()
         _check(getattr(library(), call)(*words, 0, rows, room, ctypes.byref(found)))
         if found.value < room:
             return list(rows[: found.value])
@@ -145,6 +54,11 @@ class Damage:
     name: str
     part: str
     offset: Optional[int]
+
+    @property
+    def code(self) -> int:
+        """The number as a Code."""
+        return _code(Code, self.number)
 
     def __str__(self) -> str:
         return f"{self.number} {self.name} in {self.part}" + ("" if self.offset is None else f" at 0x{self.offset:X}")
@@ -288,8 +202,8 @@ class MacFile:
             place = self._place_of(member)
             if member.container is not None and place is not None:
                 known = found.get(place)
-                longer = known.contents if known and len(known.contents) > len(member.container) else member.container
-                found[place] = FoundContainer(*place, (*(known.members if known else ()), member), longer)
+                contents = known.contents if known else member.container
+                found[place] = FoundContainer(*place, (*(known.members if known else ()), member), contents)
         for resource in self.resources:
             place = (f"resource {resource.type} {resource.id}", 0)
             if resource.contents is not None and place not in found and 0 in _places_in(resource.contents):
@@ -305,7 +219,7 @@ class MacFile:
         Raises PefError: 80 if there is none, or 87 to 98.
         """
         if self.resource_fork is None:
-            raise PefError(NO_CONTAINER)
+            raise PefError(int(Code.NO_CONTAINER))
         raw, found = _raw(name), _no_bytes()
         if self.data_fork is None:
             answer = library().pef_file_container(self.resource_fork, len(self.resource_fork), raw, len(raw), ctypes.byref(found))
@@ -381,7 +295,7 @@ class MacFile:
 
     def _read_members(self) -> Iterator[Member]:
         fork, table = self.resource_fork or b"", _empty(_Resource)
-        if not fork or library().pef_find_resource(fork, len(fork), _TABLE_TYPE, 0, ctypes.byref(table)) != OK or table.error != OK:
+        if not fork or library().pef_find_resource(fork, len(fork), FRAGMENT_TABLE_TYPE, 0, ctypes.byref(table)) != OK or table.error != OK:
             return
         data = self.data_fork or b""
         contents = table.bytes.value()
@@ -401,7 +315,7 @@ class MacFile:
         if row.locator == Locator.DATA_FORK:
             error, offset = row.container_error, row.container_error_offset
             if self.data_fork is None:
-                error, offset = FRAGMENT_OUTSIDE, row.place + 24
+                error, offset = int(Code.FRAGMENT_OUTSIDE), row.place + 24
             self._note(error, offset, "cfrg 0")
             container = row.container.value() if error == OK else None
         elif row.locator == Locator.RESOURCE:
@@ -439,6 +353,27 @@ class MacFile:
         return None
 
 
+def fragments_of(words: Sequence[str]) -> Dict[str, bytes]:
+    """The containers for PowerPC in files, by the names of their fragments, as a command line says them: `FILE` or `NAME=FILE`.
+
+    NAME ends before the first `=`. A fragment goes by its name in the file's table of fragments. Without one it has the file's, up to its
+    last dot. NAME is that of the first fragment of its file. If several fragments have one name, the first is there. A file without a container for PowerPC is taken
+    as one: a preparation says what is wrong with it. Raises OSError.
+    """
+    found: Dict[str, bytes] = {}
+    for word in words:
+        name, is_named, path = word.partition("=")
+        path = path if is_named else word
+        file = MacFile.from_file(path)
+        of_file = [it for it in file.containers if it.contents[8:12] == b"pwpc"]
+        fragments = [(own, it.contents) for it in of_file for own in it.names or [pathlib.Path(path).stem]] or [(pathlib.Path(path).stem, file.contents)]
+        if is_named:
+            fragments[0] = (os.fsencode(name).decode(ENCODING), fragments[0][1])
+        for own, contents in fragments:
+            found.setdefault(own, contents)
+    return found
+
+
 def _signed(number: int) -> int:
     """The lower half of a number of 32 bits, with its sign."""
     return ctypes.c_int16(number & 0xFFFF).value
@@ -446,7 +381,7 @@ def _signed(number: int) -> int:
 
 def _places_in(contents: bytes) -> List[int]:
     """The places in some bytes where a container begins."""
-    return list(_all("pef_find_containers", ctypes.c_size_t, contents, len(contents)))
+    return list(_all("pef_find_containers", _Size, contents, len(contents)))
 
 
 def _read(path: pathlib.Path) -> Optional[bytes]:

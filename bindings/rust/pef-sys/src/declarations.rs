@@ -1,4 +1,4 @@
-// Written by tools/rust-declarations from include/pef.h. Change that, and run it again.
+// Written by tools/declarations from include/pef.h. Change that, and run it again.
 
 // The version of this header.
 pub const PEF_VERSION_MAJOR: u32 = 0;
@@ -190,7 +190,7 @@ pub const PEF_FRAGMENT_OUTSIDE: u32 = 98;
 /// An allocation failed.
 pub const PEF_OUT_OF_MEMORY: u32 = 99;
 
-// Notes on a container: oddities that break no rule. No call returns them; findings have them.
+// Notes: oddities that break no rule. No call returns them; findings and reports have them.
 pub const PEF_NOTE_RESERVED_NOT_ZERO: u32 = 101;
 
 pub const PEF_NOTE_UNKNOWN_KIND: u32 = 102;
@@ -219,14 +219,30 @@ pub const PEF_NOTE_UNOWNED_BYTES: u32 = 113;
 
 pub const PEF_NOTE_WORD_RELOCATED_TWICE: u32 = 114;
 
+pub const PEF_NOTE_CONTAINERS_UNVERIFIED: u32 = 115;
+
 pub const PEF_NOTE_SECTIONS_OUT_OF_ORDER: u32 = 116;
+
+pub const PEF_NOTE_BYTES_AFTER_FORKS: u32 = 117;
+
+pub const PEF_NOTE_FRAGMENT_SHORT: u32 = 118;
+
+pub const PEF_NOTE_DATA_FORK_ELSEWHERE: u32 = 119;
+
+pub const PEF_NOTE_NOT_UNPACKED: u32 = 120;
 
 pub const PEF_NOTE_NAME_OUTSIDE: u32 = 121;
 
+pub const PEF_NOTE_FRAGMENT_ARCHITECTURE: u32 = 122;
+
+pub const PEF_NOTE_FRAGMENT_USAGE: u32 = 123;
+
 // Only this library returns these: the caller's buffer is too small; there is no such thing; the context isn't open; a
-// fragment of an open connection was prepared without the weak library that is added; the context has as many fragments as
-// it may; the granule is none; the options have another size; the fragment is present; a fragment of an open connection names
-// it as a library; a fragment has the name already; there are more or fewer addresses than new sections.
+// fragment of an open connection was prepared without the weak library that is added; the context has as many fragments
+// as it may; the granule is none; the options have another size; the fragment is present; a fragment of an open
+// connection names it as a library; a fragment has the name already; there are more or fewer addresses than new
+// sections; no container can export so many symbols, or a name of this length, or so many bytes of names; a number of a
+// stub has more than 32 bits; a stub in memory can't have this name, or so many bytes.
 pub const PEF_ROOM_TOO_SMALL: u32 = 200;
 
 pub const PEF_NOT_THERE: u32 = 201;
@@ -248,6 +264,18 @@ pub const PEF_STILL_NAMED: u32 = 208;
 pub const PEF_NAME_TAKEN: u32 = 209;
 
 pub const PEF_WRONG_ADDRESS_COUNT: u32 = 210;
+
+pub const PEF_TOO_MANY_SYMBOLS: u32 = 211;
+
+pub const PEF_LONG_NAME: u32 = 212;
+
+pub const PEF_TOO_MANY_NAME_BYTES: u32 = 213;
+
+pub const PEF_PAST_LAST_NUMBER: u32 = 214;
+
+pub const PEF_UNSPELLABLE_NAME: u32 = 215;
+
+pub const PEF_TOO_MANY_STUB_BYTES: u32 = 216;
 
 // How many fragments a context has at most at a time, and how many connections it gives if no other number was asked for, closed ones
 // included.
@@ -370,12 +398,22 @@ pub const PEF_LINE_PART: u32 = 13;
 /// The offset of what has none.
 pub const PEF_NO_OFFSET: usize = usize::MAX;
 
+// What the detail of an error or a note is: nothing, and 0; the offset of a relocated word in its section; a number of bytes; or a number
+// of sections.
+pub const PEF_DETAIL_NONE: u8 = 0;
+
+pub const PEF_DETAIL_WORD: u8 = 1;
+
+pub const PEF_DETAIL_LENGTH: u8 = 2;
+
+pub const PEF_DETAIL_SECTIONS: u8 = 3;
+
 /// An error of a container, or a note on it, and where it is. Errors have numbers below 100, notes from 101 on.
 ///
-/// For PEF_RELOC_WORD_OUTSIDE, PEF_RELOC_IMPORT_OUTSIDE, PEF_RELOC_SECTION_OUTSIDE, PEF_NOTE_WORD_OUTSIDE_IMAGE and
-/// PEF_NOTE_WORD_RELOCATED_TWICE, `detail` is the offset of the relocated word in its section. For PEF_NOTE_TRAILING_BYTES, PEF_NOTE_OVERLAP and
-/// PEF_NOTE_UNOWNED_BYTES it is a number of bytes. For PEF_NOTE_SECTIONS_OUT_OF_ORDER it is the number of sections of a kind that may be
-/// instantiated. For the others it is 0.
+/// `detail_kind` says what `detail` is. PEF_RELOC_WORD_OUTSIDE, PEF_RELOC_IMPORT_OUTSIDE, PEF_RELOC_SECTION_OUTSIDE,
+/// PEF_NOTE_WORD_OUTSIDE_IMAGE and PEF_NOTE_WORD_RELOCATED_TWICE have a PEF_DETAIL_WORD; PEF_NOTE_TRAILING_BYTES, PEF_NOTE_OVERLAP and
+/// PEF_NOTE_UNOWNED_BYTES a PEF_DETAIL_LENGTH; and PEF_NOTE_SECTIONS_OUT_OF_ORDER a PEF_DETAIL_SECTIONS: how many sections there are of a
+/// kind that may be instantiated.
 #[repr(C)]
 #[derive(Clone, Copy, Debug)]
 pub struct pef_finding {
@@ -383,6 +421,7 @@ pub struct pef_finding {
     pub detail: u64,
     pub number: u32,
     pub is_error: bool,
+    pub detail_kind: u8,
 }
 
 /// A report that is read part by part. It starts as zero bytes:
@@ -391,7 +430,7 @@ pub struct pef_finding {
 /// struct pef_report report = PEF_NO_REPORT;
 ///
 /// ```
-/// Only the four calls below change it, and it isn't copied. Several reports may be open at once.
+/// Only the calls below change it, and it isn't copied. Several reports may be open at once.
 #[repr(C)]
 #[derive(Clone, Copy, Debug)]
 pub struct pef_report {
@@ -402,7 +441,44 @@ pub struct pef_report {
 /// No report, which are zero bytes: struct pef_report report = PEF_NO_REPORT;
 pub const PEF_NO_REPORT: pef_report = pef_report { handle: core::ptr::null_mut(), is_open: false };
 
-/// A container's header. Dates are seconds since the first of January 1904.
+/// A container in a file: where it begins, how many bytes it can have, and its number, from 0. Its bytes are those up to the end of its
+/// fork, or of the file if it begins in no fork. The other fields are what the containers before it leave of what the report on the file
+/// may cost, and how many of them weren't inspected, because it would have cost more. A program passes them on. It may copy the struct,
+/// and use it as long as the file is the same.
+///
+/// After the last container `offset` is the length of the file, and `length` is 0.
+#[repr(C)]
+#[derive(Clone, Copy, Debug)]
+pub struct pef_found_container {
+    pub offset: usize,
+    pub length: usize,
+    pub number: u64,
+    pub skipped: u64,
+    pub budget: u64,
+    pub program_bytes: u64,
+    pub steps: u64,
+    pub packed_bytes: u64,
+    pub words: u64,
+}
+
+/// Rows of a container that begins at `offset` of a file: their kind, the number of the first one, from 0, and how many. `part` is
+/// PEF_SECTION_PART, PEF_LIBRARY_PART, PEF_IMPORT_PART, PEF_RELOCATION_PART or PEF_EXPORT_PART.
+#[repr(C)]
+#[derive(Clone, Copy, Debug)]
+pub struct pef_row_range {
+    pub offset: usize,
+    pub part: u32,
+    pub from: u32,
+    pub count: u32,
+}
+
+// Architectures, of four characters each: `pwpc` of PowerPC, and `m68k` of CFM-68K, whose containers aren't read.
+pub const PEF_ARCHITECTURE_POWERPC: u32 = 0x70777063;
+
+pub const PEF_ARCHITECTURE_68K: u32 = 0x6D36386B;
+
+/// A container's header. Dates are seconds since the first of January 1904. The architecture is PEF_ARCHITECTURE_POWERPC, unless
+/// `pef_partial_header()` reads the header.
 #[repr(C)]
 #[derive(Clone, Copy, Debug)]
 pub struct pef_header {
@@ -412,6 +488,7 @@ pub struct pef_header {
     pub current_version: u32,
     pub section_count: u16,
     pub instantiated_section_count: u16,
+    pub architecture: u32,
 }
 
 /// A section's header. Lengths and the offset into the container count bytes; the alignment is an exponent of two.
@@ -670,7 +747,7 @@ pub struct pef_member {
 /// struct pef_context context = PEF_NO_CONTEXT;
 ///
 /// ```
-/// Only the calls below change it, and it isn't copied, except to be read. Each of these calls returns PEF_NOT_OPEN, and changes
+/// Only the calls below change it, and it isn't copied. Each of these calls returns PEF_NOT_OPEN, and changes
 /// nothing, if the context isn't open: `pef_open()` wasn't called, failed, or was followed by `pef_free()`. Several contexts may be
 /// open at once, also in different threads.
 ///
@@ -744,6 +821,55 @@ pub struct pef_missing {
     pub is_weak: bool,
     pub is_found: bool,
 }
+
+/// A library that fragments of a context name, and that no fragment of the context has the name of. If `is_weak` is true, each of them can
+/// be prepared without it. The name is a part of what was added.
+#[repr(C)]
+#[derive(Clone, Copy, Debug)]
+pub struct pef_lacking {
+    pub name: pef_bytes,
+    pub is_weak: bool,
+}
+
+// What the symbols of a stub are: numbers, or memory.
+pub const PEF_STUB_NUMBERS: u32 = 1;
+
+pub const PEF_STUB_MEMORY: u32 = 2;
+
+/// What a stub is made with: one of the two above, and what belongs to it.
+///
+/// Numbers: the first symbol is the absolute number `first`, and each later one `step` more. Memory: a symbol of code is a `word`, which
+/// an emulator catches, and a `blr`; a transition vector leads to such code; and a symbol of data or TOC is `zeros` bytes of zeros.
+#[repr(C)]
+#[derive(Clone, Copy, Debug)]
+pub struct pef_stub_options {
+    /// The size of this struct, by which a later library knows an older program's.
+    pub size: u32,
+    pub values: u32,
+    pub first: u32,
+    pub step: u32,
+    pub word: u32,
+    pub zeros: u32,
+}
+
+// Numbers from F0000000 (hexadecimal) on, 16 apart; and memory with `sc` as the word, and 16 zeros.
+pub const PEF_NUMBERED_STUBS: pef_stub_options = pef_stub_options {
+    size: core::mem::size_of::<pef_stub_options>() as u32,
+    values: PEF_STUB_NUMBERS,
+    first: 0xF0000000,
+    step: 16,
+    word: 0,
+    zeros: 0,
+};
+
+pub const PEF_STUBS_IN_MEMORY: pef_stub_options = pef_stub_options {
+    size: core::mem::size_of::<pef_stub_options>() as u32,
+    values: PEF_STUB_MEMORY,
+    first: 0,
+    step: 0,
+    word: 0x44000002,
+    zeros: 16,
+};
 
 /// A section that a preparation would place: the number of its fragment, and its number in the fragment's container. `kind` and
 /// `share` are codes (PEF_KIND_.., PEF_SHARE_..). It takes `size` bytes, and its address has to be a multiple of `alignment`: both
@@ -841,15 +967,24 @@ extern "C" {
     ///
     /// The container has a shortest relocation program without repeats for each section, so linking is more work than reading.
     /// To know the length first, a call with a small buffer does all of that work.
-    #[cfg(feature = "native")]
     pub fn pef_link(script: *const u8, script_length: usize, buffer: *mut u8, buffer_length: usize, written: *mut usize, line: *mut usize) -> u32;
+
+    /// Gives the certificates of a script: writes the lines that `pef distances` prints to the front of `buffer`, with no zero byte at their
+    /// end. Each certificate has the relocation program that `pef_link()` writes for a section, and proves that no program without repeats is
+    /// shorter.
+    ///
+    /// Returns PEF_OK, and stores the length of the lines in `*written`; or PEF_ROOM_TOO_SMALL, and stores the length that is needed in
+    /// `*written`; or the script's first refusal with its line, or PEF_OUT_OF_MEMORY, as `pef_link()` does. `*line`, `buffer` and `*written`
+    /// are changed and left unchanged as by `pef_link()`.
+    ///
+    /// This is as much work as linking, and a call with a small buffer does all of it. The lines can be far longer than the container.
+    pub fn pef_distances(script: *const u8, script_length: usize, buffer: *mut u8, buffer_length: usize, written: *mut usize, line: *mut usize) -> u32;
 
     /// Lists a container: writes the lines that `pef list` prints to the front of `buffer`, with no zero byte at their end.
     ///
     /// Returns PEF_OK, and stores the length of the lines in `*written`; or PEF_ROOM_TOO_SMALL, and stores the length that is
     /// needed in `*written`; or the first refusal, 1 to 20 or 31 to 36; or PEF_OUT_OF_MEMORY. Unless PEF_OK is returned,
     /// `buffer` is left unchanged; and after a refusal `*written` is too.
-    #[cfg(feature = "native")]
     pub fn pef_list(container: *const u8, container_length: usize, buffer: *mut u8, buffer_length: usize, written: *mut usize) -> u32;
 
     /// Opens the listing of a container, to be read by `pef_list_next()`. A listing that is open already is freed first.
@@ -857,7 +992,6 @@ extern "C" {
     /// `container` is kept, not copied: it has to stay, unchanged, until `pef_list_free()` of this listing returns.
     ///
     /// Returns PEF_OK; or the first refusal, 1 to 20 or 31 to 36, or PEF_OUT_OF_MEMORY, and then the listing isn't open.
-    #[cfg(feature = "native")]
     pub fn pef_list_open(listing: *mut pef_listing, container: *const u8, container_length: usize) -> u32;
 
     /// Writes the next bytes of the lines that `pef list` prints to the front of `buffer`, as many as fit. Each line is made once,
@@ -867,13 +1001,11 @@ extern "C" {
     /// Returns PEF_OK, and stores the number of bytes in `*written`: it is less than `buffer_length` only at the end of the lines, and
     /// 0 after it. Or returns PEF_NOT_OPEN, if the listing isn't open; or PEF_OUT_OF_MEMORY, and then the next call goes on where
     /// this one began. After both `buffer` and `*written` are left unchanged.
-    #[cfg(feature = "native")]
     pub fn pef_list_next(listing: *mut pef_listing, buffer: *mut u8, buffer_length: usize, written: *mut usize) -> u32;
 
     /// Frees a listing. It may be opened again. A listing that isn't open stays as it is, so one may be freed twice.
     ///
     /// A program that includes this header may also free NULL, which does nothing.
-    #[cfg(feature = "native")]
     pub fn pef_list_free(listing: *mut pef_listing);
 
     /// Gives the name of a number that a call returned or of a note, as "BadTag". PEF_OK has none.
@@ -900,7 +1032,6 @@ extern "C" {
     /// of the earlier line that the error is about, or 0: for PEF_SCRIPT_OVERLAP the line whose word is overlapped, for PEF_SCRIPT_OUT_OF_ORDER the
     /// line that must not come first, for PEF_SCRIPT_REPEATED_NAME the line that has the name, and for PEF_SCRIPT_UNKNOWN_NAME a line that declares
     /// nearly the name. Or returns PEF_OUT_OF_MEMORY. In all other cases it stores no place, and 0.
-    #[cfg(feature = "native")]
     pub fn pef_script_place(script: *const u8, script_length: usize, place: *mut pef_place, earlier: *mut usize) -> u32;
 
     /// Finds all errors of a container, 1 to 39, and then what is odd about it, except what `pef_more_notes()` finds. It reads them from number
@@ -937,6 +1068,37 @@ extern "C" {
     ///
     /// Returns PEF_OK; or PEF_OUT_OF_MEMORY, and then the report isn't open.
     pub fn pef_report_open_container(report: *mut pef_report, container: *const u8, container_length: usize) -> u32;
+
+    /// Finds the first container in a file, by the places that `pef_find_containers()` gives. It allocates nothing.
+    ///
+    /// Returns PEF_OK, and stores it in `*found`; or PEF_NOT_THERE if there is none, and stores the end of the file.
+    pub fn pef_first_container(file: *const u8, file_length: usize, found: *mut pef_found_container) -> u32;
+
+    /// Goes on to the next container. It allocates nothing.
+    ///
+    /// Returns PEF_OK, and stores it in `*found`; or PEF_NOT_THERE if there is none, and stores the end of the file. If `*found` is at the
+    /// end, it stays as it is.
+    pub fn pef_next_container(file: *const u8, file_length: usize, found: *mut pef_found_container) -> u32;
+
+    /// Makes the report up to its containers. `path` is what the object calls the file.
+    pub fn pef_report_open_head(report: *mut pef_report, path: *const u8, path_length: usize, file: *const u8, file_length: usize) -> u32;
+
+    /// Makes the object of a container as the report has it, after a comma unless it is the first. It has no bytes if the container isn't
+    /// inspected, because the report would cost too much.
+    pub fn pef_report_open_found(report: *mut pef_report, file: *const u8, file_length: usize, found: *const pef_found_container) -> u32;
+
+    /// Makes the report after its containers. `end` is what `pef_next_container()` stored last, or `pef_first_container()` if there is none.
+    pub fn pef_report_open_end(report: *mut pef_report, file: *const u8, file_length: usize, end: *const pef_found_container) -> u32;
+
+    /// Makes the beginning of a container's object, as an object: the first `most` rows of each kind or all if there are fewer, without their
+    /// instructions, and of the errors and notes in their order the first `most`. It has no bytes if the container isn't inspected.
+    pub fn pef_report_open_excerpt(report: *mut pef_report, file: *const u8, file_length: usize, found: *const pef_found_container, most: u32) -> u32;
+
+    /// Makes the objects of rows, or of those that there are, as a container's object has them in the list of their kind: after a comma,
+    /// unless it is row 0. Rows from an excerpt's `most` on go on where the excerpt ends.
+    ///
+    /// Returns what the others do; or PEF_NOT_THERE if there is no such kind, and then the report isn't open.
+    pub fn pef_report_open_rows(report: *mut pef_report, file: *const u8, file_length: usize, rows: *const pef_row_range) -> u32;
 
     /// Writes the next bytes of a report to the front of `buffer`, as many as fit.
     ///
@@ -1008,7 +1170,8 @@ extern "C" {
     /// other, as they have no hash table.
     pub fn pef_import_named(container: *const u8, container_length: usize, name: *const u8, name_length: usize, number: *mut usize, found: *mut pef_import) -> u32;
 
-    /// Reads the header of a container. Returns PEF_TOO_SHORT or PEF_BAD_TAG if the bytes have none, in this call and in those below.
+    /// Reads the header of a container. Returns PEF_TOO_SHORT or PEF_BAD_TAG if the bytes have none, in this call and in those below. If
+    /// the architecture is another one, such as PEF_ARCHITECTURE_68K, the container isn't damaged, but one of another machine.
     pub fn pef_partial_header(container: *const u8, container_length: usize, header: *mut pef_header) -> u32;
 
     /// Reads a section, and stores its raw bytes in `*raw`, as far as they are in the container: they are fewer than `packed_size` if the
@@ -1036,6 +1199,10 @@ extern "C" {
 
     /// See [`pef_partial_libraries()`].
     pub fn pef_partial_exports(container: *const u8, container_length: usize, from: usize, places: *mut pef_export, place_count: usize, count: *mut usize) -> u32;
+
+    /// Reads the additions of the program of relocation header `header`, as `pef_fixups()` does. Returns PEF_NOT_THERE past the last header
+    /// that is in the bytes, and if its instructions extend past the loader section. Errors of the program are 31 to 36.
+    pub fn pef_partial_fixups(container: *const u8, container_length: usize, header: usize, from: usize, places: *mut pef_fixup, place_count: usize, count: *mut usize) -> u32;
 
     /// Returns what a file is: one of the numbers above.
     pub fn pef_file_kind(file: *const u8, file_length: usize) -> u32;
@@ -1071,22 +1238,20 @@ extern "C" {
     /// Does the same by the bytes of both forks.
     pub fn pef_fork_container(data_fork: *const u8, data_fork_length: usize, resource_fork: *const u8, resource_fork_length: usize, name: *const u8, name_length: usize, container: *mut pef_bytes) -> u32;
 
-    /// Gives the container with a number, from 0, among those of `pef_find_containers()`, with all bytes after it up to the end of its fork,
-    /// or of the bytes if it begins in no fork. Returns PEF_OK, or PEF_NO_CONTAINER past the last one.
+    /// Gives the container with a number, from 0, among those of `pef_find_containers()`, with all bytes after it up to the end of its member
+    /// of `cfrg` 0, its resource or its fork, or of the bytes if it begins in no fork. Returns PEF_OK, or PEF_NO_CONTAINER past the last one.
     pub fn pef_numbered_container(bytes: *const u8, length: usize, number: usize, container: *mut pef_bytes) -> u32;
 
     /// Opens a context without fragments. Sections are placed from address 00010000 on, and none passes `limit`; `pef load`
     /// has the limit 10000000 (hexadecimal). A context that is open already is freed first.
     ///
     /// Returns PEF_OK; or PEF_OUT_OF_MEMORY, and then the context isn't open.
-    #[cfg(feature = "native")]
     pub fn pef_open(context: *mut pef_context, limit: u32) -> u32;
 
     /// Opens a context without fragments, with options. A context that is open already is freed first.
     ///
     /// Returns PEF_OK; or PEF_BAD_OPTIONS, if `size` isn't that of the struct in this library; or PEF_BAD_GRANULE; or
     /// PEF_OUT_OF_MEMORY, and then the context isn't open. After the other two nothing is changed.
-    #[cfg(feature = "native")]
     pub fn pef_open_with(context: *mut pef_context, options: *const pef_options) -> u32;
 
     /// Returns the version of the library that runs. It is PEF_VERSION_NUMBER of the header that belongs to it.
@@ -1096,7 +1261,6 @@ extern "C" {
     /// freed twice. When `pef_free()` returns, the library has nothing any more of what `pef_add()` took.
     ///
     /// A program that includes this header may also free NULL, which does nothing.
-    #[cfg(feature = "native")]
     pub fn pef_free(context: *mut pef_context);
 
     /// Adds a fragment: its name, and the bytes of its container. They are read by each preparation, and refused then. If two
@@ -1111,12 +1275,10 @@ extern "C" {
     /// Returns PEF_OK; or PEF_ADDED_TOO_LATE, if a fragment of an open connection has a weak library of this name, and was
     /// prepared without it; or PEF_STORE_FULL, if the context has PEF_MAX_FRAGMENTS fragments; or PEF_OUT_OF_MEMORY. The
     /// context is changed only if PEF_OK is returned.
-    #[cfg(feature = "native")]
     pub fn pef_add(context: *mut pef_context, name: *const u8, name_length: usize, bytes: *const u8, bytes_length: usize) -> u32;
 
     /// Adds a fragment as `pef_add()` does, if none has its name. Otherwise returns PEF_NAME_TAKEN, and the context is unchanged: a second
     /// fragment of a name is never used as long as the first one is there.
-    #[cfg(feature = "native")]
     pub fn pef_add_new(context: *mut pef_context, name: *const u8, name_length: usize, bytes: *const u8, bytes_length: usize) -> u32;
 
     /// Removes the first fragment of a name. If another one has the name, that is the first then. The numbers of the others don't change,
@@ -1125,7 +1287,6 @@ extern "C" {
     /// Returns PEF_OK; or PEF_ROOT_MISSING, if no fragment has the name; or PEF_STILL_PRESENT, if the fragment is present; or
     /// PEF_STILL_NAMED, if a fragment of an open connection names it as a library: a weak one, whose version didn't fit; or
     /// PEF_OUT_OF_MEMORY. The context is changed only if PEF_OK is returned.
-    #[cfg(feature = "native")]
     pub fn pef_remove(context: *mut pef_context, name: *const u8, name_length: usize) -> u32;
 
     /// Takes `size` addresses from `address` on out of use, until pef_unreserve gives them back: no section is placed in them. The
@@ -1134,7 +1295,6 @@ extern "C" {
     ///
     /// Returns PEF_OK; or PEF_NO_ROOM, if the range meets a section in memory or another range, or passes the last address of 32
     /// bits; or PEF_OUT_OF_MEMORY. The context is changed only if PEF_OK is returned.
-    #[cfg(feature = "native")]
     pub fn pef_reserve(context: *mut pef_context, address: u32, size: u32) -> u32;
 
     /// Gives back a range that pef_reserve took out of use for the same numbers, or for others with the same ends: sections can
@@ -1142,7 +1302,6 @@ extern "C" {
     ///
     /// Returns PEF_OK; or PEF_NOT_THERE, if the addresses aren't exactly such a range, also if they are a part of one or several.
     /// The context is changed only if PEF_OK is returned.
-    #[cfg(feature = "native")]
     pub fn pef_unreserve(context: *mut pef_context, address: u32, size: u32) -> u32;
 
     /// Gives the libraries that are missing for the fragment of a name and for all that it needs, in the order in which `pef_prepare()`
@@ -1156,7 +1315,6 @@ extern "C" {
     /// Returns PEF_OK; or PEF_ROOT_MISSING, if no fragment has the name; or the first refusal (1 to 20) of a fragment that can't be read;
     /// or PEF_OUT_OF_MEMORY. If it isn't PEF_OK, `*names` has the names that belong to it, and `places` and `*count` are unchanged. What was
     /// read is kept for later calls; otherwise the context is unchanged.
-    #[cfg(feature = "native")]
     pub fn pef_missing(context: *mut pef_context, name: *const u8, name_length: usize, from: usize, places: *mut pef_missing, place_count: usize, count: *mut usize, names: *mut pef_names) -> u32;
 
     /// Prepares the fragment of a name and all that it needs: places them, fills them and relocates them, unless they are
@@ -1165,12 +1323,10 @@ extern "C" {
     /// Returns PEF_OK, and stores the number of the connection in `*connection`. Or returns the first refusal (1 to 39, 60 to
     /// 70, or 75) or PEF_OUT_OF_MEMORY, stores its names in `*names`, and leaves the context and `*connection` unchanged. Names
     /// are parts of what was added.
-    #[cfg(feature = "native")]
     pub fn pef_prepare(context: *mut pef_context, name: *const u8, name_length: usize, connection: *mut u32, names: *mut pef_names) -> u32;
 
     /// Prepares as `pef_prepare()` does. If it returns an error other than PEF_NOT_OPEN, it also stores in `*place` where the error is, in
     /// the container of the fragment that `*names` names. Otherwise `*place` is left unchanged.
-    #[cfg(feature = "native")]
     pub fn pef_prepare_with_place(context: *mut pef_context, name: *const u8, name_length: usize, connection: *mut u32, names: *mut pef_names, place: *mut pef_place) -> u32;
 
     /// Gives the sections that `pef_prepare()` would place for a name, in the order in which it places them: those from number `from` on in
@@ -1180,7 +1336,6 @@ extern "C" {
     /// Returns PEF_OK; or an error that `pef_prepare()` returns before it places anything (1 to 20, 60 to 66, 68 to 70, or 75), or
     /// PEF_OUT_OF_MEMORY. If it isn't PEF_OK, `*names` has the names that belong to it, and `places` and `*count` are unchanged. What was
     /// read is kept for later calls; otherwise the context is unchanged.
-    #[cfg(feature = "native")]
     pub fn pef_new_sections(context: *mut pef_context, name: *const u8, name_length: usize, from: usize, places: *mut pef_new_section, place_count: usize, count: *mut usize, names: *mut pef_names) -> u32;
 
     /// Prepares as `pef_prepare_with_place()` does, but places the sections at these addresses: there is one for each section that
@@ -1189,336 +1344,230 @@ extern "C" {
     ///
     /// Returns what `pef_prepare_with_place()` returns. PEF_WRONG_ADDRESS_COUNT, if there are more or fewer addresses than sections, comes
     /// after PEF_TOO_MANY_STEPS_IN_ALL and before PEF_NO_ROOM, which is for the first section that can't lie at its address.
-    #[cfg(feature = "native")]
     pub fn pef_prepare_at(context: *mut pef_context, name: *const u8, name_length: usize, addresses: *const u32, address_count: usize, connection: *mut u32, names: *mut pef_names, place: *mut pef_place) -> u32;
 
     /// Closes a connection. Fragments that no other open connection needs are no longer present. The number of the connection isn't
     /// given again.
     ///
     /// Returns PEF_OK; or PEF_BAD_CONNECTION, if no open connection has this number, and changes nothing.
-    #[cfg(feature = "native")]
     pub fn pef_close(context: *mut pef_context, connection: u32) -> u32;
-
-    /// Gives the fragments that the preparation of a connection placed, because they weren't present before, in the order in
-    /// which fragments are initialized. Copy exactly these into the machine, and initialize exactly these: the others of the
-    /// closure were there already, and may have run since.
-    ///
-    /// Returns and stores what `pef_fragments()` does.
-    #[cfg(feature = "native")]
-    pub fn pef_new_fragments(context: *mut pef_context, connection: u32, places: *mut usize, place_count: usize, count: *mut usize) -> u32;
-
-    /// Gives the fragments that `pef_close()` of a connection would release, because no other open connection needs them, the last
-    /// to be initialized first. Call their termination routines in this order, and then `pef_close()`.
-    ///
-    /// Returns and stores what `pef_fragments()` does; or returns PEF_OUT_OF_MEMORY, and leaves `places` and `*count` unchanged.
-    #[cfg(feature = "native")]
-    pub fn pef_released_by(context: *mut pef_context, connection: u32, places: *mut usize, place_count: usize, count: *mut usize) -> u32;
-
-    /// Give the fragments of a connection's closure: the first in closure order, in which the fragment that was prepared is the
-    /// last; the other in the order in which the fragments are initialized.
-    ///
-    /// Return PEF_OK, and store the numbers in the first of `places`; or PEF_ROOM_TOO_SMALL, if there are fewer places than
-    /// fragments; and both times store how many fragments there are in `*count`. Or return PEF_NOT_THERE, if the connection
-    /// isn't open. PEF_MAX_FRAGMENTS places are enough.
-    #[cfg(feature = "native")]
-    pub fn pef_fragments(context: *mut pef_context, connection: u32, places: *mut usize, place_count: usize, count: *mut usize) -> u32;
-
-    /// See [`pef_fragments()`].
-    #[cfg(feature = "native")]
-    pub fn pef_init_order(context: *mut pef_context, connection: u32, places: *mut usize, place_count: usize, count: *mut usize) -> u32;
-
-    /// Gives a fragment's name, which is what was added. It needn't be present. Returns PEF_NOT_THERE past the last fragment.
-    #[cfg(feature = "native")]
-    pub fn pef_fragment_name(context: *mut pef_context, fragment: usize, name: *mut pef_bytes) -> u32;
-
-    /// Tells whether the fragment of a name is present: the closure of an open connection has it. If several fragments have the same
-    /// name, the first is used. If none has it, false is stored.
-    #[cfg(feature = "native")]
-    pub fn pef_is_present(context: *mut pef_context, name: *const u8, name_length: usize, is_present: *mut bool) -> u32;
-
-    /// Counts the sections that a fragment has in memory: none, if it isn't present.
-    #[cfg(feature = "native")]
-    pub fn pef_fragment_sections(context: *mut pef_context, fragment: usize, count: *mut usize) -> u32;
-
-    /// Reads where a section lies. Returns PEF_NOT_THERE, if the fragment has no such section in memory, or the connection
-    /// isn't open, or its closure lacks the fragment.
-    #[cfg(feature = "native")]
-    pub fn pef_fragment_section(context: *mut pef_context, connection: u32, fragment: usize, number: usize, section: *mut pef_fragment_section) -> u32;
-
-    /// Copies a section's bytes to the front of `buffer`, as the memory of a machine.
-    ///
-    /// Returns PEF_OK; or PEF_ROOM_TOO_SMALL; and both times stores the section's size in `*written`. Or returns PEF_NOT_THERE,
-    /// if the fragment has no such section in memory.
-    #[cfg(feature = "native")]
-    pub fn pef_fragment_bytes(context: *mut pef_context, fragment: usize, number: usize, buffer: *mut u8, buffer_length: usize, written: *mut usize) -> u32;
-
-    /// Reads a fragment's entries. Returns PEF_NOT_THERE, if the connection isn't open, or its closure lacks the fragment.
-    #[cfg(feature = "native")]
-    pub fn pef_fragment_entries(context: *mut pef_context, connection: u32, fragment: usize, entries: *mut pef_entries) -> u32;
-
-    /// Gives the address of a fragment's first export of a name. Returns PEF_NOT_THERE, if there is none, or the connection
-    /// isn't open, or its closure lacks the fragment.
-    #[cfg(feature = "native")]
-    pub fn pef_fragment_symbol(context: *mut pef_context, connection: u32, fragment: usize, name: *const u8, name_length: usize, address: *mut u32) -> u32;
-
-    /// Reads what import `number` of a fragment means. Exports that are passed on have been followed. The numbers of imports are
-    /// those of `pef_imports()`.
-    ///
-    /// Returns PEF_NOT_THERE past the last import, and if the connection isn't open, or its closure lacks the fragment.
-    #[cfg(feature = "native")]
-    pub fn pef_import_target(context: *mut pef_context, connection: u32, fragment: usize, number: usize, target: *mut pef_target) -> u32;
-
-    /// Gives the address of export `number` of a fragment. The numbers of exports are those of `pef_exports()`.
-    ///
-    /// Returns PEF_NOT_THERE past the last export, and if the connection isn't open, or its closure lacks the fragment.
-    #[cfg(feature = "native")]
-    pub fn pef_export_address(context: *mut pef_context, connection: u32, fragment: usize, number: usize, address: *mut u32) -> u32;
-
-    /// Counts the exports of a fragment, whose numbers are from 0 on and are those of `pef_exports()`. This call and the next two
-    /// use what the context keeps of a fragment, so they don't read the container again.
-    ///
-    /// Returns PEF_NOT_THERE, if the connection isn't open, or its closure lacks the fragment.
-    #[cfg(feature = "native")]
-    pub fn pef_fragment_exports(context: *mut pef_context, connection: u32, fragment: usize, count: *mut usize) -> u32;
-
-    /// Read export `number` of a fragment, and a fragment's first export with a name. `target.address` is the address that
-    /// `pef_export_address()` and `pef_fragment_symbol()` give.
-    ///
-    /// Return PEF_NOT_THERE past the last export or if none has the name, and if the connection isn't open, or its closure lacks
-    /// the fragment.
-    #[cfg(feature = "native")]
-    pub fn pef_fragment_export(context: *mut pef_context, connection: u32, fragment: usize, number: usize, found: *mut pef_fragment_export) -> u32;
-
-    /// See [`pef_fragment_export()`].
-    #[cfg(feature = "native")]
-    pub fn pef_fragment_export_named(context: *mut pef_context, connection: u32, fragment: usize, name: *const u8, name_length: usize, found: *mut pef_fragment_export) -> u32;
-
-    /// Gives the number of a fragment's first import with a name, for `pef_import_target()`. It reads one import after the other.
-    ///
-    /// Returns PEF_NOT_THERE, if no import has the name, or the connection isn't open, or its closure lacks the fragment.
-    #[cfg(feature = "native")]
-    pub fn pef_fragment_import_named(context: *mut pef_context, connection: u32, fragment: usize, name: *const u8, name_length: usize, number: *mut usize) -> u32;
-
-    /// Finds where an address is, as a debugger or the report of an error in a program has to. It reads the exports of one fragment,
-    /// one after the other.
-    ///
-    /// Returns PEF_NOT_THERE, if the address is in no section of a fragment that is present.
-    #[cfg(feature = "native")]
-    pub fn pef_at(context: *mut pef_context, address: u32, location: *mut pef_location) -> u32;
 }
 
-/// Makes the call [`pef_new_fragments()`] with a copy of the context's struct, so that several threads may read the context at once.
+/// Gives the libraries that a context lacks, whichever fragment is prepared: each name once, in the order of the fragments and of their
+/// entries, those from number `from` on in the first of `places`, and how many they were in `*count`, which is as many as there are from
+/// there on, or as there are places. The other places are left unchanged. Fragments that can't be read are passed by.
 ///
-/// # Safety
-///
-/// As `pef_new_fragments`; and while a thread is in this call, none changes the context.
-#[cfg(feature = "native")]
+/// Returns PEF_OK; or PEF_OUT_OF_MEMORY, and leaves `places` and `*count` unchanged. The context is unchanged.
 #[inline]
-pub unsafe fn pef_new_fragments_const(context: *const pef_context, connection: u32, places: *mut usize, place_count: usize, count: *mut usize) -> u32 {
+pub unsafe fn pef_lacking(context: *const pef_context, from: usize, places: *mut pef_lacking, place_count: usize, count: *mut usize) -> u32 {
     let mut copy = *context;
-    pef_new_fragments(&mut copy, connection, places, place_count, count)
+    exported::pef_lacking(&mut copy, from, places, place_count, count)
 }
 
-/// Makes the call [`pef_released_by()`] with a copy of the context's struct, so that several threads may read the context at once.
+/// Makes the stub of a library that nobody has: a container that exports what the fragments of the context import from it, each name
+/// once, with versions that fit each of them. Its bytes are written to the front of `buffer`. docs/RULES.md, "Stubs", says what it has.
+/// Fragments that can't be read are passed by.
 ///
-/// # Safety
+/// A stub isn't kept: `pef_add()` adds it under the library's name, with bytes that stay. Then the library isn't lacking, and a preparation
+/// isn't refused for it. `pef_exports()` of the stub gives its symbols with their classes and values, which say what a number in memory
+/// means. The numbers of the next stub go on after those of this one if its `first` is `*symbol_count` steps more.
 ///
-/// As `pef_released_by`; and while a thread is in this call, none changes the context.
-#[cfg(feature = "native")]
+/// Returns PEF_OK, and stores the stub's length in `*written`; or PEF_ROOM_TOO_SMALL, and stores the length that is needed; and both
+/// times stores how many symbols it exports in `*symbol_count`. Or returns PEF_BAD_OPTIONS, if `size` isn't that of the struct in this
+/// library, or `values` is neither of the two; or why there is no stub: PEF_TOO_MANY_SYMBOLS, PEF_LONG_NAME, PEF_TOO_MANY_NAME_BYTES,
+/// PEF_PAST_LAST_NUMBER, and of a stub in memory PEF_UNSPELLABLE_NAME or PEF_TOO_MANY_STUB_BYTES; or PEF_OUT_OF_MEMORY; and leaves both
+/// unchanged. Unless PEF_OK is returned, `buffer` is left unchanged. The context is unchanged.
 #[inline]
-pub unsafe fn pef_released_by_const(context: *const pef_context, connection: u32, places: *mut usize, place_count: usize, count: *mut usize) -> u32 {
+pub unsafe fn pef_stub(context: *const pef_context, library: *const u8, library_length: usize, options: *const pef_stub_options, buffer: *mut u8, buffer_length: usize, written: *mut usize, symbol_count: *mut usize) -> u32 {
     let mut copy = *context;
-    pef_released_by(&mut copy, connection, places, place_count, count)
+    exported::pef_stub(&mut copy, library, library_length, options, buffer, buffer_length, written, symbol_count)
 }
 
-/// Makes the call [`pef_fragments()`] with a copy of the context's struct, so that several threads may read the context at once.
+/// Gives the fragments that the preparation of a connection placed, because they weren't present before, in the order in
+/// which fragments are initialized. Copy exactly these into the machine, and initialize exactly these: the others of the
+/// closure were there already, and may have run since.
 ///
-/// # Safety
-///
-/// As `pef_fragments`; and while a thread is in this call, none changes the context.
-#[cfg(feature = "native")]
+/// Returns and stores what `pef_fragments()` does.
 #[inline]
-pub unsafe fn pef_fragments_const(context: *const pef_context, connection: u32, places: *mut usize, place_count: usize, count: *mut usize) -> u32 {
+pub unsafe fn pef_new_fragments(context: *const pef_context, connection: u32, places: *mut usize, place_count: usize, count: *mut usize) -> u32 {
     let mut copy = *context;
-    pef_fragments(&mut copy, connection, places, place_count, count)
+    exported::pef_new_fragments(&mut copy, connection, places, place_count, count)
 }
 
-/// Makes the call [`pef_init_order()`] with a copy of the context's struct, so that several threads may read the context at once.
+/// Gives the fragments that `pef_close()` of a connection would release, because no other open connection needs them, the last
+/// to be initialized first. Call their termination routines in this order, and then `pef_close()`.
 ///
-/// # Safety
-///
-/// As `pef_init_order`; and while a thread is in this call, none changes the context.
-#[cfg(feature = "native")]
+/// Returns and stores what `pef_fragments()` does; or returns PEF_OUT_OF_MEMORY, and leaves `places` and `*count` unchanged.
 #[inline]
-pub unsafe fn pef_init_order_const(context: *const pef_context, connection: u32, places: *mut usize, place_count: usize, count: *mut usize) -> u32 {
+pub unsafe fn pef_released_by(context: *const pef_context, connection: u32, places: *mut usize, place_count: usize, count: *mut usize) -> u32 {
     let mut copy = *context;
-    pef_init_order(&mut copy, connection, places, place_count, count)
+    exported::pef_released_by(&mut copy, connection, places, place_count, count)
 }
 
-/// Makes the call [`pef_fragment_name()`] with a copy of the context's struct, so that several threads may read the context at once.
+/// Give the fragments of a connection's closure: the first in closure order, in which the fragment that was prepared is the
+/// last; the other in the order in which the fragments are initialized.
 ///
-/// # Safety
-///
-/// As `pef_fragment_name`; and while a thread is in this call, none changes the context.
-#[cfg(feature = "native")]
+/// Return PEF_OK, and store the numbers in the first of `places`; or PEF_ROOM_TOO_SMALL, if there are fewer places than
+/// fragments; and both times store how many fragments there are in `*count`. Or return PEF_NOT_THERE, if the connection
+/// isn't open. PEF_MAX_FRAGMENTS places are enough.
 #[inline]
-pub unsafe fn pef_fragment_name_const(context: *const pef_context, fragment: usize, name: *mut pef_bytes) -> u32 {
+pub unsafe fn pef_fragments(context: *const pef_context, connection: u32, places: *mut usize, place_count: usize, count: *mut usize) -> u32 {
     let mut copy = *context;
-    pef_fragment_name(&mut copy, fragment, name)
+    exported::pef_fragments(&mut copy, connection, places, place_count, count)
 }
 
-/// Makes the call [`pef_is_present()`] with a copy of the context's struct, so that several threads may read the context at once.
-///
-/// # Safety
-///
-/// As `pef_is_present`; and while a thread is in this call, none changes the context.
-#[cfg(feature = "native")]
+/// See [`pef_fragments()`].
 #[inline]
-pub unsafe fn pef_is_present_const(context: *const pef_context, name: *const u8, name_length: usize, is_present: *mut bool) -> u32 {
+pub unsafe fn pef_init_order(context: *const pef_context, connection: u32, places: *mut usize, place_count: usize, count: *mut usize) -> u32 {
     let mut copy = *context;
-    pef_is_present(&mut copy, name, name_length, is_present)
+    exported::pef_init_order(&mut copy, connection, places, place_count, count)
 }
 
-/// Makes the call [`pef_fragment_sections()`] with a copy of the context's struct, so that several threads may read the context at once.
-///
-/// # Safety
-///
-/// As `pef_fragment_sections`; and while a thread is in this call, none changes the context.
-#[cfg(feature = "native")]
+/// Gives a fragment's name, which is what was added. It needn't be present. Returns PEF_NOT_THERE past the last fragment.
 #[inline]
-pub unsafe fn pef_fragment_sections_const(context: *const pef_context, fragment: usize, count: *mut usize) -> u32 {
+pub unsafe fn pef_fragment_name(context: *const pef_context, fragment: usize, name: *mut pef_bytes) -> u32 {
     let mut copy = *context;
-    pef_fragment_sections(&mut copy, fragment, count)
+    exported::pef_fragment_name(&mut copy, fragment, name)
 }
 
-/// Makes the call [`pef_fragment_section()`] with a copy of the context's struct, so that several threads may read the context at once.
-///
-/// # Safety
-///
-/// As `pef_fragment_section`; and while a thread is in this call, none changes the context.
-#[cfg(feature = "native")]
+/// Tells whether the fragment of a name is present: the closure of an open connection has it. If several fragments have the same
+/// name, the first is used. If none has it, false is stored.
 #[inline]
-pub unsafe fn pef_fragment_section_const(context: *const pef_context, connection: u32, fragment: usize, number: usize, section: *mut pef_fragment_section) -> u32 {
+pub unsafe fn pef_is_present(context: *const pef_context, name: *const u8, name_length: usize, is_present: *mut bool) -> u32 {
     let mut copy = *context;
-    pef_fragment_section(&mut copy, connection, fragment, number, section)
+    exported::pef_is_present(&mut copy, name, name_length, is_present)
 }
 
-/// Makes the call [`pef_fragment_bytes()`] with a copy of the context's struct, so that several threads may read the context at once.
-///
-/// # Safety
-///
-/// As `pef_fragment_bytes`; and while a thread is in this call, none changes the context.
-#[cfg(feature = "native")]
+/// Counts the sections that a fragment has in memory: none, if it isn't present.
 #[inline]
-pub unsafe fn pef_fragment_bytes_const(context: *const pef_context, fragment: usize, number: usize, buffer: *mut u8, buffer_length: usize, written: *mut usize) -> u32 {
+pub unsafe fn pef_fragment_sections(context: *const pef_context, fragment: usize, count: *mut usize) -> u32 {
     let mut copy = *context;
-    pef_fragment_bytes(&mut copy, fragment, number, buffer, buffer_length, written)
+    exported::pef_fragment_sections(&mut copy, fragment, count)
 }
 
-/// Makes the call [`pef_fragment_entries()`] with a copy of the context's struct, so that several threads may read the context at once.
-///
-/// # Safety
-///
-/// As `pef_fragment_entries`; and while a thread is in this call, none changes the context.
-#[cfg(feature = "native")]
+/// Reads where a section lies. Returns PEF_NOT_THERE, if the fragment has no such section in memory, or the connection
+/// isn't open, or its closure lacks the fragment.
 #[inline]
-pub unsafe fn pef_fragment_entries_const(context: *const pef_context, connection: u32, fragment: usize, entries: *mut pef_entries) -> u32 {
+pub unsafe fn pef_fragment_section(context: *const pef_context, connection: u32, fragment: usize, number: usize, section: *mut pef_fragment_section) -> u32 {
     let mut copy = *context;
-    pef_fragment_entries(&mut copy, connection, fragment, entries)
+    exported::pef_fragment_section(&mut copy, connection, fragment, number, section)
 }
 
-/// Makes the call [`pef_fragment_symbol()`] with a copy of the context's struct, so that several threads may read the context at once.
+/// Copies a section's bytes to the front of `buffer`, as the memory of a machine.
 ///
-/// # Safety
-///
-/// As `pef_fragment_symbol`; and while a thread is in this call, none changes the context.
-#[cfg(feature = "native")]
+/// Returns PEF_OK; or PEF_ROOM_TOO_SMALL; and both times stores the section's size in `*written`. Or returns PEF_NOT_THERE,
+/// if the fragment has no such section in memory.
 #[inline]
-pub unsafe fn pef_fragment_symbol_const(context: *const pef_context, connection: u32, fragment: usize, name: *const u8, name_length: usize, address: *mut u32) -> u32 {
+pub unsafe fn pef_fragment_bytes(context: *const pef_context, fragment: usize, number: usize, buffer: *mut u8, buffer_length: usize, written: *mut usize) -> u32 {
     let mut copy = *context;
-    pef_fragment_symbol(&mut copy, connection, fragment, name, name_length, address)
+    exported::pef_fragment_bytes(&mut copy, fragment, number, buffer, buffer_length, written)
 }
 
-/// Makes the call [`pef_import_target()`] with a copy of the context's struct, so that several threads may read the context at once.
-///
-/// # Safety
-///
-/// As `pef_import_target`; and while a thread is in this call, none changes the context.
-#[cfg(feature = "native")]
+/// Reads a fragment's entries. Returns PEF_NOT_THERE, if the connection isn't open, or its closure lacks the fragment.
 #[inline]
-pub unsafe fn pef_import_target_const(context: *const pef_context, connection: u32, fragment: usize, number: usize, target: *mut pef_target) -> u32 {
+pub unsafe fn pef_fragment_entries(context: *const pef_context, connection: u32, fragment: usize, entries: *mut pef_entries) -> u32 {
     let mut copy = *context;
-    pef_import_target(&mut copy, connection, fragment, number, target)
+    exported::pef_fragment_entries(&mut copy, connection, fragment, entries)
 }
 
-/// Makes the call [`pef_export_address()`] with a copy of the context's struct, so that several threads may read the context at once.
-///
-/// # Safety
-///
-/// As `pef_export_address`; and while a thread is in this call, none changes the context.
-#[cfg(feature = "native")]
+/// Gives the address of a fragment's first export of a name. Returns PEF_NOT_THERE, if there is none, or the connection
+/// isn't open, or its closure lacks the fragment.
 #[inline]
-pub unsafe fn pef_export_address_const(context: *const pef_context, connection: u32, fragment: usize, number: usize, address: *mut u32) -> u32 {
+pub unsafe fn pef_fragment_symbol(context: *const pef_context, connection: u32, fragment: usize, name: *const u8, name_length: usize, address: *mut u32) -> u32 {
     let mut copy = *context;
-    pef_export_address(&mut copy, connection, fragment, number, address)
+    exported::pef_fragment_symbol(&mut copy, connection, fragment, name, name_length, address)
 }
 
-/// Makes the call [`pef_fragment_exports()`] with a copy of the context's struct, so that several threads may read the context at once.
+/// Reads what import `number` of a fragment means. Exports that are passed on have been followed. The numbers of imports are
+/// those of `pef_imports()`.
 ///
-/// # Safety
-///
-/// As `pef_fragment_exports`; and while a thread is in this call, none changes the context.
-#[cfg(feature = "native")]
+/// Returns PEF_NOT_THERE past the last import, and if the connection isn't open, or its closure lacks the fragment.
 #[inline]
-pub unsafe fn pef_fragment_exports_const(context: *const pef_context, connection: u32, fragment: usize, count: *mut usize) -> u32 {
+pub unsafe fn pef_import_target(context: *const pef_context, connection: u32, fragment: usize, number: usize, target: *mut pef_target) -> u32 {
     let mut copy = *context;
-    pef_fragment_exports(&mut copy, connection, fragment, count)
+    exported::pef_import_target(&mut copy, connection, fragment, number, target)
 }
 
-/// Makes the call [`pef_fragment_export()`] with a copy of the context's struct, so that several threads may read the context at once.
+/// Gives the address of export `number` of a fragment. The numbers of exports are those of `pef_exports()`.
 ///
-/// # Safety
-///
-/// As `pef_fragment_export`; and while a thread is in this call, none changes the context.
-#[cfg(feature = "native")]
+/// Returns PEF_NOT_THERE past the last export, and if the connection isn't open, or its closure lacks the fragment.
 #[inline]
-pub unsafe fn pef_fragment_export_const(context: *const pef_context, connection: u32, fragment: usize, number: usize, found: *mut pef_fragment_export) -> u32 {
+pub unsafe fn pef_export_address(context: *const pef_context, connection: u32, fragment: usize, number: usize, address: *mut u32) -> u32 {
     let mut copy = *context;
-    pef_fragment_export(&mut copy, connection, fragment, number, found)
+    exported::pef_export_address(&mut copy, connection, fragment, number, address)
 }
 
-/// Makes the call [`pef_fragment_export_named()`] with a copy of the context's struct, so that several threads may read the context at once.
+/// Counts the exports of a fragment, whose numbers are from 0 on and are those of `pef_exports()`. This call and the next two
+/// use what the context keeps of a fragment, so they don't read the container again.
 ///
-/// # Safety
-///
-/// As `pef_fragment_export_named`; and while a thread is in this call, none changes the context.
-#[cfg(feature = "native")]
+/// Returns PEF_NOT_THERE, if the connection isn't open, or its closure lacks the fragment.
 #[inline]
-pub unsafe fn pef_fragment_export_named_const(context: *const pef_context, connection: u32, fragment: usize, name: *const u8, name_length: usize, found: *mut pef_fragment_export) -> u32 {
+pub unsafe fn pef_fragment_exports(context: *const pef_context, connection: u32, fragment: usize, count: *mut usize) -> u32 {
     let mut copy = *context;
-    pef_fragment_export_named(&mut copy, connection, fragment, name, name_length, found)
+    exported::pef_fragment_exports(&mut copy, connection, fragment, count)
 }
 
-/// Makes the call [`pef_fragment_import_named()`] with a copy of the context's struct, so that several threads may read the context at once.
+/// Read export `number` of a fragment, and a fragment's first export with a name. `target.address` is the address that
+/// `pef_export_address()` and `pef_fragment_symbol()` give.
 ///
-/// # Safety
-///
-/// As `pef_fragment_import_named`; and while a thread is in this call, none changes the context.
-#[cfg(feature = "native")]
+/// Return PEF_NOT_THERE past the last export or if none has the name, and if the connection isn't open, or its closure lacks
+/// the fragment.
 #[inline]
-pub unsafe fn pef_fragment_import_named_const(context: *const pef_context, connection: u32, fragment: usize, name: *const u8, name_length: usize, number: *mut usize) -> u32 {
+pub unsafe fn pef_fragment_export(context: *const pef_context, connection: u32, fragment: usize, number: usize, found: *mut pef_fragment_export) -> u32 {
     let mut copy = *context;
-    pef_fragment_import_named(&mut copy, connection, fragment, name, name_length, number)
+    exported::pef_fragment_export(&mut copy, connection, fragment, number, found)
 }
 
-/// Makes the call [`pef_at()`] with a copy of the context's struct, so that several threads may read the context at once.
-///
-/// # Safety
-///
-/// As `pef_at`; and while a thread is in this call, none changes the context.
-#[cfg(feature = "native")]
+/// See [`pef_fragment_export()`].
 #[inline]
-pub unsafe fn pef_at_const(context: *const pef_context, address: u32, location: *mut pef_location) -> u32 {
+pub unsafe fn pef_fragment_export_named(context: *const pef_context, connection: u32, fragment: usize, name: *const u8, name_length: usize, found: *mut pef_fragment_export) -> u32 {
     let mut copy = *context;
-    pef_at(&mut copy, address, location)
+    exported::pef_fragment_export_named(&mut copy, connection, fragment, name, name_length, found)
+}
+
+/// Gives the number of a fragment's first import with a name, for `pef_import_target()`. It reads one import after the other.
+///
+/// Returns PEF_NOT_THERE, if no import has the name, or the connection isn't open, or its closure lacks the fragment.
+#[inline]
+pub unsafe fn pef_fragment_import_named(context: *const pef_context, connection: u32, fragment: usize, name: *const u8, name_length: usize, number: *mut usize) -> u32 {
+    let mut copy = *context;
+    exported::pef_fragment_import_named(&mut copy, connection, fragment, name, name_length, number)
+}
+
+/// Finds where an address is, as a debugger or the report of an error in a program has to. It reads the exports of one fragment,
+/// one after the other.
+///
+/// Returns PEF_NOT_THERE, if the address is in no section of a fragment that is present.
+#[inline]
+pub unsafe fn pef_at(context: *const pef_context, address: u32, location: *mut pef_location) -> u32 {
+    let mut copy = *context;
+    exported::pef_at(&mut copy, address, location)
+}
+
+// The library writes to the struct while it reads a context, so each of the calls above hands it a copy.
+mod exported {
+    use crate::*;
+
+    extern "C" {
+        pub fn pef_lacking(context: *mut pef_context, from: usize, places: *mut pef_lacking, place_count: usize, count: *mut usize) -> u32;
+        pub fn pef_stub(context: *mut pef_context, library: *const u8, library_length: usize, options: *const pef_stub_options, buffer: *mut u8, buffer_length: usize, written: *mut usize, symbol_count: *mut usize) -> u32;
+        pub fn pef_new_fragments(context: *mut pef_context, connection: u32, places: *mut usize, place_count: usize, count: *mut usize) -> u32;
+        pub fn pef_released_by(context: *mut pef_context, connection: u32, places: *mut usize, place_count: usize, count: *mut usize) -> u32;
+        pub fn pef_fragments(context: *mut pef_context, connection: u32, places: *mut usize, place_count: usize, count: *mut usize) -> u32;
+        pub fn pef_init_order(context: *mut pef_context, connection: u32, places: *mut usize, place_count: usize, count: *mut usize) -> u32;
+        pub fn pef_fragment_name(context: *mut pef_context, fragment: usize, name: *mut pef_bytes) -> u32;
+        pub fn pef_is_present(context: *mut pef_context, name: *const u8, name_length: usize, is_present: *mut bool) -> u32;
+        pub fn pef_fragment_sections(context: *mut pef_context, fragment: usize, count: *mut usize) -> u32;
+        pub fn pef_fragment_section(context: *mut pef_context, connection: u32, fragment: usize, number: usize, section: *mut pef_fragment_section) -> u32;
+        pub fn pef_fragment_bytes(context: *mut pef_context, fragment: usize, number: usize, buffer: *mut u8, buffer_length: usize, written: *mut usize) -> u32;
+        pub fn pef_fragment_entries(context: *mut pef_context, connection: u32, fragment: usize, entries: *mut pef_entries) -> u32;
+        pub fn pef_fragment_symbol(context: *mut pef_context, connection: u32, fragment: usize, name: *const u8, name_length: usize, address: *mut u32) -> u32;
+        pub fn pef_import_target(context: *mut pef_context, connection: u32, fragment: usize, number: usize, target: *mut pef_target) -> u32;
+        pub fn pef_export_address(context: *mut pef_context, connection: u32, fragment: usize, number: usize, address: *mut u32) -> u32;
+        pub fn pef_fragment_exports(context: *mut pef_context, connection: u32, fragment: usize, count: *mut usize) -> u32;
+        pub fn pef_fragment_export(context: *mut pef_context, connection: u32, fragment: usize, number: usize, found: *mut pef_fragment_export) -> u32;
+        pub fn pef_fragment_export_named(context: *mut pef_context, connection: u32, fragment: usize, name: *const u8, name_length: usize, found: *mut pef_fragment_export) -> u32;
+        pub fn pef_fragment_import_named(context: *mut pef_context, connection: u32, fragment: usize, name: *const u8, name_length: usize, number: *mut usize) -> u32;
+        pub fn pef_at(context: *mut pef_context, address: u32, location: *mut pef_location) -> u32;
+    }
 }

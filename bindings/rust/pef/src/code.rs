@@ -4,6 +4,32 @@ use core::fmt;
 
 use crate::raw;
 
+/// The calls of an error that say what it is, by its `code`.
+macro_rules! calls_of_code {
+    () => {
+        /// What it is.
+        pub fn code(&self) -> $crate::Code {
+            self.code
+        }
+
+        /// Its number, as `pef` prints it.
+        pub fn number(&self) -> u32 {
+            self.code.number()
+        }
+
+        /// Its name, as `pef` prints it.
+        pub fn name(&self) -> &'static str {
+            self.code.name()
+        }
+
+        /// One or two sentences: what it means, and what to do.
+        pub fn help(&self) -> &'static str {
+            self.code.help()
+        }
+    };
+}
+pub(crate) use calls_of_code;
+
 macro_rules! codes {
     ($($(#[$doc:meta])* $name:ident = $number:ident,)*) => {
         /// What an error or a note is. `docs/ERRORS.md` of the project explains each.
@@ -37,6 +63,19 @@ macro_rules! codes {
                     Self::Other(number) => number,
                 }
             }
+
+            /// The name of the constant in C, which no other number has: three pairs of errors have the same [name](Self::name).
+            ///
+            /// ```
+            /// assert_eq!(pef::Code::PackedTooShort.c_name(), Some("PEF_PACKED_TOO_SHORT"));
+            /// assert_eq!(pef::Code::PackedTooShort.name(), pef::Code::TooShort.name());
+            /// ```
+            pub fn c_name(self) -> Option<&'static str> {
+                match self {
+                    $(Self::$name => Some(stringify!($number)),)*
+                    Self::Other(_) => None,
+                }
+            }
         }
 
         impl From<u32> for Code {
@@ -51,6 +90,7 @@ macro_rules! codes {
 }
 
 codes! {
+    // Variants, written by tools/declarations from docs/errors.table:
     TooShort = PEF_TOO_SHORT,
     BadTag = PEF_BAD_TAG,
     BadArchitecture = PEF_BAD_ARCHITECTURE,
@@ -143,8 +183,15 @@ codes! {
     NoteOverlap = PEF_NOTE_OVERLAP,
     NoteUnownedBytes = PEF_NOTE_UNOWNED_BYTES,
     NoteWordRelocatedTwice = PEF_NOTE_WORD_RELOCATED_TWICE,
+    NoteContainersUnverified = PEF_NOTE_CONTAINERS_UNVERIFIED,
     NoteSectionsOutOfOrder = PEF_NOTE_SECTIONS_OUT_OF_ORDER,
+    NoteBytesAfterForks = PEF_NOTE_BYTES_AFTER_FORKS,
+    NoteFragmentShort = PEF_NOTE_FRAGMENT_SHORT,
+    NoteDataForkElsewhere = PEF_NOTE_DATA_FORK_ELSEWHERE,
+    NoteNotUnpacked = PEF_NOTE_NOT_UNPACKED,
     NoteNameOutside = PEF_NOTE_NAME_OUTSIDE,
+    NoteFragmentArchitecture = PEF_NOTE_FRAGMENT_ARCHITECTURE,
+    NoteFragmentUsage = PEF_NOTE_FRAGMENT_USAGE,
     RoomTooSmall = PEF_ROOM_TOO_SMALL,
     NotThere = PEF_NOT_THERE,
     NotOpen = PEF_NOT_OPEN,
@@ -156,6 +203,13 @@ codes! {
     StillNamed = PEF_STILL_NAMED,
     NameTaken = PEF_NAME_TAKEN,
     WrongAddressCount = PEF_WRONG_ADDRESS_COUNT,
+    TooManySymbols = PEF_TOO_MANY_SYMBOLS,
+    LongName = PEF_LONG_NAME,
+    TooManyNameBytes = PEF_TOO_MANY_NAME_BYTES,
+    PastLastNumber = PEF_PAST_LAST_NUMBER,
+    UnspellableName = PEF_UNSPELLABLE_NAME,
+    TooManyStubBytes = PEF_TOO_MANY_STUB_BYTES,
+    // The end of what is written.
 }
 
 impl Code {

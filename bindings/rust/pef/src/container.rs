@@ -5,7 +5,7 @@ use core::fmt;
 
 use pef_sys as sys;
 
-use crate::error::Error;
+use crate::error::{Error, Part, Place};
 use crate::inspect::{findings, Finding};
 use crate::raw;
 use crate::rows::{Exports, Imports, Libraries, Relocations};
@@ -14,7 +14,6 @@ use crate::tables::{Count, Entry, Export, Fixup, Header, Import, Section};
 /// A container, read from its bytes. Nothing of it is copied: names and raw bytes are parts of what was read.
 ///
 /// ```
-/// # #[cfg(feature = "native")] {
 /// let bytes = pef::link("library Tools 1 0 -\nimport answer data strong\nsection data data process 4 4\nfix data 0 import answer\n")?;
 /// let container = pef::Container::read(&bytes)?;
 /// let libraries: Vec<_> = container.libraries().collect();
@@ -23,7 +22,6 @@ use crate::tables::{Count, Entry, Export, Fixup, Header, Import, Section};
 ///     assert_eq!((library.name, import.name), (&b"Tools"[..], &b"answer"[..]));
 /// }
 /// assert_eq!(container.sections().filter(|it| it.instantiated).count(), 1);
-/// # }
 /// # Ok::<(), Box<dyn std::error::Error>>(())
 /// ```
 #[derive(Clone, Copy)]
@@ -91,13 +89,13 @@ impl<'a> Container<'a> {
     ///
     /// Each call reads the loader section anew. To look up many names, make a map of the [exports](Self::exports).
     pub fn find<N: AsRef<[u8]> + ?Sized>(&self, name: &N) -> Option<Export<'a>> {
-        let (number, row) = raw::there(raw::export_named(self.bytes, name.as_ref()))?;
+        let (number, row) = raw::export_named(self.bytes, name.as_ref()).ok()?;
         Some(Export::of(self.bytes, number, &row))
     }
 
     /// The first import with a name. Names are compared byte by byte.
     pub fn find_import<N: AsRef<[u8]> + ?Sized>(&self, name: &N) -> Option<Import<'a>> {
-        let (number, row) = raw::there(raw::import_named(self.bytes, name.as_ref()))?;
+        let (number, row) = raw::import_named(self.bytes, name.as_ref()).ok()?;
         Some(Import::of(self.bytes, number, &row))
     }
 
@@ -143,12 +141,10 @@ impl fmt::Debug for Container<'_> {
 /// The sections of a container, by their numbers.
 ///
 /// ```
-/// # #[cfg(feature = "native")] {
 /// let bytes = pef::link("section code code global 4 4\nsection data data process 4 8\n")?;
 /// let container = pef::Container::read(&bytes)?;
 /// let sizes: Vec<_> = container.sections().filter(|it| it.instantiated).map(|it| it.total_size).collect();
 /// assert_eq!(sizes, [4, 8]);
-/// # }
 /// # Ok::<(), Box<dyn std::error::Error>>(())
 /// ```
 #[derive(Clone)]
@@ -170,7 +166,7 @@ impl<'a> Sections<'a> {
         } else {
             (raw::section(self.bytes, number), raw::section_name(self.bytes, number))
         };
-        let ((row, raw), name) = (raw::there(row)?, raw::there(name));
+        let ((row, raw), name) = (row.ok()?, name.ok());
         Some(Section::new(number, name, row, raw, number < usize::from(self.header.instantiated_section_count)))
     }
 }
@@ -217,7 +213,6 @@ impl fmt::Debug for Sections<'_> {
 /// The additions of a relocation program. After an error it ends.
 ///
 /// ```
-/// # #[cfg(feature = "native")] {
 /// let bytes = pef::link("section data data process 4 8\nfix data 0 section data\nfix data 4 section data\n")?;
 /// let relocation = pef::Container::read(&bytes)?.relocations().next().unwrap();
 /// for fixup in relocation.fixups() {
@@ -225,7 +220,6 @@ impl fmt::Debug for Sections<'_> {
 ///     println!("at {:X}: {:?}", fixup.offset, fixup.target);
 /// }
 /// assert_eq!(relocation.fixups().count(), 2);
-/// # }
 /// # Ok::<(), Box<dyn std::error::Error>>(())
 /// ```
 pub struct Fixups<'a> {
@@ -248,13 +242,19 @@ impl<'a> Fixups<'a> {
 
     fn read_more(&mut self) -> Result<(), Error> {
         let asked = core::mem::replace(&mut self.next, 0);
-        let rows = raw::fixups(self.bytes, self.header, self.count, asked).map_err(|number| Error::of_container(number, self.bytes))?;
+        let rows = raw::fixups(self.bytes, self.header, self.count, asked).map_err(|number| self.error(number))?;
         self.count += rows.len();
         if rows.len() == asked {
             self.next = (2 * asked).min(MOST);
         }
         self.read = rows.into_iter();
         Ok(())
+    }
+
+    /// An error, with its place if it is the first of the container.
+    fn error(&self, number: u32) -> Error {
+        let place = raw::container_place(self.bytes).and_then(Place::of);
+        Error::at(number, place.filter(|it| it.part == Part::Program && it.row == self.header))
     }
 }
 

@@ -79,7 +79,7 @@ impl Default for ContextOptions {
     }
 }
 
-/// Fragments by name, and the memory in which they are prepared. It needs the features `native` and `std`.
+/// Fragments by name, and the memory in which they are prepared. It needs the feature `std`.
 ///
 /// It keeps the names and containers that are added, without a copy: `'a` is how long they stay. It is freed when it and all of its
 /// connections are dropped.
@@ -252,6 +252,86 @@ impl<'a> Context<'a> {
         }
     }
 
+    /// The libraries that the context lacks, whichever fragment is prepared: each name once, in the order of the fragments and of their
+    /// entries. Fragments that can't be read are passed by.
+    ///
+    /// # Errors
+    ///
+    /// 99.
+    pub fn lacking(&self) -> Result<Vec<LackingLibrary<'a>>, Error> {
+        let (mut found, mut most) = (Vec::new(), 64);
+        let context = self.shared.read();
+        loop {
+            let rows = context.lacking(found.len(), most).map_err(Error::new)?;
+            let is_last = rows.len() < most;
+            found.extend(rows.into_iter().map(|(name, weak)| LackingLibrary { name, weak }));
+            if is_last {
+                return Ok(found);
+            }
+            most = (2 * most).min(1 << 16);
+        }
+    }
+
+    /// The stub of a library that nobody has: a container that exports what the fragments of the context import from it. It isn't added.
+    ///
+    /// # Errors
+    ///
+    /// 211 to 216 if there is no such stub, with the library's name; or 99.
+    pub fn stub<N: AsRef<[u8]> + ?Sized>(&self, library: &N, values: StubValues) -> Result<Stub, Error> {
+        let library = library.as_ref();
+        let made = self.shared.read().stub(library, &values.options());
+        match made {
+            Ok((contents, symbols)) => Ok(Stub { library: library.to_vec(), contents, symbols }),
+            Err(number) => Err(stub_error(number, library)),
+        }
+    }
+
+    /// Adds a stub of each library that the context lacks, also of weak ones if that is so. `kept` gets the stubs, and the context borrows it
+    /// for as long as it is there. Numbers go on from one stub to the next, so each belongs to one symbol.
+    ///
+    /// ```
+    /// let app = pef::link("library System 1 0 -\nimport beep tvector strong\nsection d data process 4 4\nfix d 0 import beep\n")?;
+    /// let mut kept = Vec::new();
+    /// let context = pef::Context::new()?;
+    /// context.add("App", &app)?;
+    /// let stubs = context.add_stubs(pef::StubValues::default(), true, &mut kept)?;
+    /// assert_eq!((stubs.len(), stubs[0].library()), (1, &b"System"[..]));
+    /// let symbol = pef::Container::read(stubs[0].contents())?.exports().next().unwrap();
+    /// assert_eq!((symbol.name, symbol.value), (&b"beep"[..], pef::ExportValue::Absolute(0xF000_0000)));
+    /// let connection = context.prepare("App")?;
+    /// assert_eq!(connection.root().section(0).unwrap().to_vec()?, [0xF0, 0, 0, 0]);
+    /// # Ok::<(), Box<dyn std::error::Error>>(())
+    /// ```
+    ///
+    /// The stubs stay as long as the context:
+    ///
+    /// ```compile_fail,E0597
+    /// let context = pef::Context::new().unwrap();
+    /// let mut kept = Vec::new();
+    /// context.add_stubs(pef::StubValues::default(), true, &mut kept).unwrap();
+    /// ```
+    ///
+    /// # Errors
+    ///
+    /// Those of [`stub`](Self::stub), and of [`add`](Self::add). Then no stub is added.
+    pub fn add_stubs(&self, values: StubValues, weak: bool, kept: &'a mut Vec<Stub>) -> Result<&'a [Stub], Error> {
+        let first = kept.len();
+        let mut next = NextValues::new(values);
+        for it in self.lacking()?.into_iter().filter(|it| weak || !it.weak) {
+            kept.push(next.stub(self, it.name)?);
+        }
+        let made = &kept[first..];
+        for (number, stub) in made.iter().enumerate() {
+            if let Err(error) = self.add(&stub.library, &stub.contents) {
+                for added in &made[..number] {
+                    self.remove(&added.library)?;
+                }
+                return Err(error);
+            }
+        }
+        Ok(made)
+    }
+
     /// Prepares the fragment of a name and all that it needs: places them, fills them and relocates them, unless they are present already.
     ///
     /// # Errors
@@ -335,6 +415,126 @@ impl fmt::Debug for Context<'_> {
     fn fmt(&self, out: &mut fmt::Formatter<'_>) -> fmt::Result {
         let names: Vec<_> = (0..sys::PEF_MAX_FRAGMENTS).filter_map(|number| self.fragment_name(number)).map(Text).collect();
         out.debug_struct("Context").field("fragments", &names).finish()
+    }
+}
+
+/// A library that fragments of a context name, and that no fragment of it has the name of.
+#[derive(Clone, Copy, PartialEq, Eq)]
+#[non_exhaustive]
+pub struct LackingLibrary<'a> {
+    /// Its name.
+    pub name: &'a [u8],
+    /// Whether each of these fragments can be prepared without it.
+    pub weak: bool,
+}
+
+impl fmt::Debug for LackingLibrary<'_> {
+    fn fmt(&self, out: &mut fmt::Formatter<'_>) -> fmt::Result {
+        out.debug_struct("LackingLibrary").field("name", &Text(self.name)).field("weak", &self.weak).finish()
+    }
+}
+
+/// What the symbols of a stub are: numbers from F0000000 (hexadecimal) on, 16 apart, if nothing else is said.
+#[derive(Clone, Copy, Debug, PartialEq, Eq)]
+#[non_exhaustive]
+pub enum StubValues {
+    /// Absolute numbers: the first symbol is `first`, and each later one `step` more.
+    Numbers {
+        /// The first number.
+        first: u32,
+        /// How far one is from the next.
+        step: u32,
+    },
+    /// Memory: a symbol of code is a `word`, which an emulator catches, and a `blr`. A transition vector leads to such code. A symbol of data
+    /// or TOC is so many `zeros`.
+    Memory {
+        /// The word.
+        word: u32,
+        /// How many zeros.
+        zeros: u32,
+    },
+}
+
+impl Default for StubValues {
+    fn default() -> Self {
+        Self::Numbers { first: 0xF000_0000, step: 16 }
+    }
+}
+
+impl StubValues {
+    fn options(self) -> sys::pef_stub_options {
+        match self {
+            Self::Numbers { first, step } => sys::pef_stub_options { first, step, ..sys::PEF_NUMBERED_STUBS },
+            Self::Memory { word, zeros } => sys::pef_stub_options { word, zeros, ..sys::PEF_STUBS_IN_MEMORY },
+        }
+    }
+}
+
+/// The stub of a library: a container that stands for it.
+#[derive(Clone, PartialEq, Eq)]
+pub struct Stub {
+    library: Vec<u8>,
+    contents: Vec<u8>,
+    symbols: usize,
+}
+
+impl Stub {
+    /// The name of the library.
+    pub fn library(&self) -> &[u8] {
+        &self.library
+    }
+
+    /// The container. Its exports say which symbol has which value.
+    pub fn contents(&self) -> &[u8] {
+        &self.contents
+    }
+
+    /// How many symbols it exports.
+    pub fn symbol_count(&self) -> usize {
+        self.symbols
+    }
+}
+
+impl fmt::Debug for Stub {
+    fn fmt(&self, out: &mut fmt::Formatter<'_>) -> fmt::Result {
+        out.debug_struct("Stub").field("library", &Text(&self.library)).field("symbols", &self.symbols).finish()
+    }
+}
+
+/// Why there is no stub of a library.
+fn stub_error(number: u32, library: &[u8]) -> Error {
+    let nowhere = sys::pef_place { part: sys::PEF_NOWHERE, row: 0, field: 0, offset: sys::PEF_NO_OFFSET };
+    Error::of_preparation(number, &raw::Names { library, ..raw::Names::default() }, nowhere)
+}
+
+/// What the symbols of the next of several stubs are. The first number may be one that no symbol can have.
+struct NextValues {
+    values: StubValues,
+    first: u64,
+}
+
+impl NextValues {
+    fn new(values: StubValues) -> Self {
+        let first = match values {
+            StubValues::Numbers { first, .. } => first.into(),
+            StubValues::Memory { .. } => 0,
+        };
+        Self { values, first }
+    }
+
+    /// The next stub. Its numbers go on from those of the ones before.
+    fn stub(&mut self, context: &Context<'_>, library: &[u8]) -> Result<Stub, Error> {
+        let (step, first) = match self.values {
+            StubValues::Numbers { step, .. } => (step, u32::try_from(self.first)),
+            StubValues::Memory { .. } => return context.stub(library, self.values),
+        };
+        let stub =
+            context.stub(library, first.map_or(StubValues::Numbers { first: 0, step: 0 }, |first| StubValues::Numbers { first, step }))?;
+        if first.is_err() && stub.symbols > 0 {
+            return Err(stub_error(sys::PEF_PAST_LAST_NUMBER, library));
+        }
+        self.first += u64::from(step) * stub.symbols as u64;
+        Ok(stub)
     }
 }
 

@@ -19,14 +19,12 @@ use crate::tables::{Count, Entry, Export, Header, Section};
 /// the loader section.
 ///
 /// ```
-/// # #[cfg(feature = "native")] {
 /// let mut bytes = pef::link("section data data process 4 4\nbytes data 0000002A\n")?;
 /// bytes.pop();
 /// assert!(pef::Container::read(&bytes).is_err());
 /// let container = pef::Damaged::read(&bytes)?;
 /// assert_eq!(container.sections().count(), 2);
 /// assert_eq!(container.findings()?[0].code, pef::Code::SectionOutside);
-/// # }
 /// # Ok::<(), Box<dyn std::error::Error>>(())
 /// ```
 #[derive(Clone, Copy)]
@@ -44,7 +42,7 @@ impl<'a> Damaged<'a> {
     /// 1 or 2: nothing can be read of it.
     pub fn read(bytes: &'a [u8]) -> Result<Self, Error> {
         let header = raw::partial_header(bytes).map_err(|number| Error::of_container(number, bytes))?;
-        Ok(Self { bytes, header: Header::of(header), loader: raw::there(raw::partial_loader(bytes)) })
+        Ok(Self { bytes, header: Header::of(header), loader: raw::partial_loader(bytes).ok() })
     }
 
     /// The bytes that were read.

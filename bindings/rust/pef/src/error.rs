@@ -3,80 +3,71 @@
 use alloc::boxed::Box;
 use core::fmt;
 
-use crate::code::Code;
+use crate::code::{calls_of_code, Code};
 use crate::raw;
 
-/// A kind of part of a container or a script that an error can be about.
-///
-/// ```
-/// # #[cfg(feature = "native")] {
-/// let mut bytes = pef::link("section data data process 4 4\nbytes data 0000002A\n")?;
-/// bytes.pop();
-/// let place = pef::Container::read(&bytes).unwrap_err().place().unwrap();
-/// assert_eq!((place.part, place.to_string()), (pef::Part::Section, "section 1 at 0x58".to_string()));
-/// # }
-/// # Ok::<(), Box<dyn std::error::Error>>(())
-/// ```
-#[derive(Clone, Copy, Debug, PartialEq, Eq, Hash)]
-#[non_exhaustive]
-#[allow(missing_docs)]
-pub enum Part {
-    ContainerHeader,
-    Section,
-    LoaderHeader,
-    Library,
-    Import,
-    MainEntry,
-    InitEntry,
-    TermEntry,
-    RelocationHeader,
-    Export,
-    PackedData,
-    Program,
-    Line,
-    /// A number that this version of the crate doesn't know.
-    Other(u32),
+/// The parts, their numbers, the words for each, and whether there are several.
+macro_rules! parts {
+    ($($name:ident = $number:ident, $words:literal, $several:literal;)*) => {
+        /// A kind of part of a container or a script that an error can be about.
+        ///
+        /// ```
+        /// let mut bytes = pef::link("section data data process 4 4\nbytes data 0000002A\n")?;
+        /// bytes.pop();
+        /// let place = pef::Container::read(&bytes).unwrap_err().place().unwrap();
+        /// assert_eq!((place.part, place.to_string()), (pef::Part::Section, "section 1 at 0x58".to_string()));
+        /// # Ok::<(), Box<dyn std::error::Error>>(())
+        /// ```
+        #[derive(Clone, Copy, Debug, PartialEq, Eq, Hash)]
+        #[non_exhaustive]
+        #[allow(missing_docs)]
+        pub enum Part {
+            $($name,)*
+            /// A number that this version of the crate doesn't know.
+            Other(u32),
+        }
+
+        impl Part {
+            fn from_number(number: u32) -> Self {
+                match number {
+                    $(pef_sys::$number => Self::$name,)*
+                    _ => Self::Other(number),
+                }
+            }
+
+            pub(crate) fn number(self) -> u32 {
+                match self {
+                    $(Self::$name => pef_sys::$number,)*
+                    Self::Other(number) => number,
+                }
+            }
+
+            fn words(self) -> (&'static str, bool) {
+                match self {
+                    $(Self::$name => ($words, $several),)*
+                    Self::Other(_) => ("part of another kind", true),
+                }
+            }
+        }
+    };
 }
 
-impl Part {
-    fn from_number(number: u32) -> Self {
-        match number {
-            pef_sys::PEF_CONTAINER_HEADER_PART => Self::ContainerHeader,
-            pef_sys::PEF_SECTION_PART => Self::Section,
-            pef_sys::PEF_LOADER_HEADER_PART => Self::LoaderHeader,
-            pef_sys::PEF_LIBRARY_PART => Self::Library,
-            pef_sys::PEF_IMPORT_PART => Self::Import,
-            pef_sys::PEF_MAIN_PART => Self::MainEntry,
-            pef_sys::PEF_INIT_PART => Self::InitEntry,
-            pef_sys::PEF_TERM_PART => Self::TermEntry,
-            pef_sys::PEF_RELOCATION_PART => Self::RelocationHeader,
-            pef_sys::PEF_EXPORT_PART => Self::Export,
-            pef_sys::PEF_PACKED_DATA_PART => Self::PackedData,
-            pef_sys::PEF_PROGRAM_PART => Self::Program,
-            pef_sys::PEF_LINE_PART => Self::Line,
-            _ => Self::Other(number),
-        }
-    }
-
-    /// The words for it, and whether a container has several.
-    fn words(self) -> (&'static str, bool) {
-        match self {
-            Self::ContainerHeader => ("container header", false),
-            Self::Section => ("section", true),
-            Self::LoaderHeader => ("loader header", false),
-            Self::Library => ("library", true),
-            Self::Import => ("import", true),
-            Self::MainEntry => ("main entry point", false),
-            Self::InitEntry => ("initialization routine", false),
-            Self::TermEntry => ("termination routine", false),
-            Self::RelocationHeader => ("relocation header", true),
-            Self::Export => ("export", true),
-            Self::PackedData => ("packed data of section", true),
-            Self::Program => ("program of relocation header", true),
-            Self::Line => ("line", true),
-            Self::Other(_) => ("part of another kind", true),
-        }
-    }
+parts! {
+    // Part: written by tools/declarations from docs/codes.table
+    ContainerHeader = PEF_CONTAINER_HEADER_PART, "container header", false;
+    Section = PEF_SECTION_PART, "section", true;
+    LoaderHeader = PEF_LOADER_HEADER_PART, "loader header", false;
+    Library = PEF_LIBRARY_PART, "library", true;
+    Import = PEF_IMPORT_PART, "import", true;
+    MainEntry = PEF_MAIN_PART, "main entry point", false;
+    InitEntry = PEF_INIT_PART, "initialization routine", false;
+    TermEntry = PEF_TERM_PART, "termination routine", false;
+    RelocationHeader = PEF_RELOCATION_PART, "relocation header", true;
+    Export = PEF_EXPORT_PART, "export", true;
+    PackedData = PEF_PACKED_DATA_PART, "packed data of section", true;
+    Program = PEF_PROGRAM_PART, "program of relocation header", true;
+    Line = PEF_LINE_PART, "line", true;
+    // the end of what is written
 }
 
 /// Where an error is.
@@ -152,38 +143,18 @@ impl Error {
     pub(crate) fn of_container(number: u32, bytes: &[u8]) -> Self {
         Self { place: raw::container_place(bytes).and_then(Place::of), ..Self::new(number) }
     }
-
-    #[cfg(feature = "native")]
     pub(crate) fn at(number: u32, place: Option<Place>) -> Self {
         Self { place, ..Self::new(number) }
     }
 
-    #[cfg(all(feature = "native", feature = "std"))]
+    #[cfg(feature = "std")]
     pub(crate) fn of_preparation(number: u32, names: &raw::Names<'_>, place: pef_sys::pef_place) -> Self {
         let owned = |name: &[u8]| (!name.is_empty()).then(|| name.into());
         let (fragment, library, symbol) = (owned(names.fragment), owned(names.library), owned(names.symbol));
         Self { code: number.into(), place: Place::of(place), fragment, library, symbol }
     }
 
-    /// What it is.
-    pub fn code(&self) -> Code {
-        self.code
-    }
-
-    /// Its number, as `pef` prints it.
-    pub fn number(&self) -> u32 {
-        self.code.number()
-    }
-
-    /// Its name, as `pef` prints it.
-    pub fn name(&self) -> &'static str {
-        self.code.name()
-    }
-
-    /// One or two sentences: what it means, and what to do.
-    pub fn help(&self) -> &'static str {
-        self.code.help()
-    }
+    calls_of_code!();
 
     /// Where it is, if it is somewhere: in the container that was read, or in that of the [fragment](Self::fragment).
     pub fn place(&self) -> Option<Place> {

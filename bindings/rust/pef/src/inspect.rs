@@ -7,7 +7,24 @@ use pef_sys as sys;
 
 use crate::code::Code;
 use crate::error::{Error, Place};
+use crate::tables::codes;
 use crate::{raw, rows};
+
+codes! {
+    /// What the detail of an error or a note is.
+    ///
+    /// ```
+    /// assert_eq!(pef::DetailKind::Length.text(), Some("number of bytes"));
+    /// ```
+    DetailKind, text {
+        // DetailKind: written by tools/declarations from docs/codes.table
+        None = PEF_DETAIL_NONE "none" "nothing",
+        Word = PEF_DETAIL_WORD "word" "offset of a word in its section",
+        Length = PEF_DETAIL_LENGTH "length" "number of bytes",
+        Sections = PEF_DETAIL_SECTIONS "sections" "number of sections",
+        // the end of what is written
+    }
+}
 
 /// An error of a container, or a note on it: something odd that breaks no rule.
 ///
@@ -28,15 +45,17 @@ pub struct Finding {
     pub is_error: bool,
     /// Where it is.
     pub place: Option<Place>,
-    /// For 37 to 39, 107 and 114 the offset of a relocated word in its section; for 109, 112 and 113 a number of bytes; for 116 a number of
-    /// sections.
+    /// The number that it has beside its place, if it has one.
     pub detail: Option<u64>,
+    /// What that number is.
+    pub detail_kind: DetailKind,
 }
 
 impl Finding {
     fn of(row: &sys::pef_finding) -> Self {
-        let has_detail = matches!(row.number, 37..=39 | 107 | 109 | 112..=114 | 116);
-        Self { code: row.number.into(), is_error: row.is_error, place: Place::of(row.place), detail: has_detail.then_some(row.detail) }
+        let kind = row.detail_kind.into();
+        let detail = (kind != DetailKind::None).then_some(row.detail);
+        Self { code: row.number.into(), is_error: row.is_error, place: Place::of(row.place), detail, detail_kind: kind }
     }
 
     /// One or two sentences: what it means, and what to do.
@@ -64,13 +83,11 @@ impl fmt::Display for Finding {
 /// 99.
 ///
 /// ```
-/// # #[cfg(feature = "native")] {
 /// let mut bytes = pef::link("section data data process 4 4\nbytes data 0000002A\n")?;
 /// assert!(pef::findings(&bytes)?.is_empty());
 /// bytes[15] = 2;
 /// let found = pef::findings(&bytes)?;
 /// assert_eq!(found[0].to_string(), "4 BadFormatVersion in container header at 0xC");
-/// # }
 /// # Ok::<(), Box<dyn std::error::Error>>(())
 /// ```
 pub fn findings(bytes: &[u8]) -> Result<Vec<Finding>, Error> {
@@ -93,7 +110,7 @@ pub fn findings(bytes: &[u8]) -> Result<Vec<Finding>, Error> {
 /// # }
 /// # Ok::<(), Box<dyn std::error::Error>>(())
 /// ```
-pub struct Report(raw::Report);
+pub struct Report(pub(crate) raw::Report);
 
 impl Report {
     /// Makes the report on a file, whatever it is. `path` is what the report calls the file. Neither is kept.

@@ -6,23 +6,19 @@
 //! |---|---|
 //! | [`Container`] | the parts of a container: sections, libraries, imports, exports, relocations |
 //! | [`Damaged`], [`findings`], [`Report`] | a container that may be damaged, and all that is wrong with it |
-#![cfg_attr(feature = "native", doc = "| [`link`] | the container of a script |")]
-#![cfg_attr(feature = "native", doc = "| [`Listing`] | the lines of `pef list` |")]
-#![cfg_attr(
-    all(feature = "native", feature = "std"),
-    doc = "| [`Context`] | the memory that containers become, while fragments come and go |"
-)]
+//! | [`link`] | the container of a script |
+//! | [`distances`] | the certificates of a script |
+//! | [`Listing`] | the lines of `pef list` |
+#![cfg_attr(feature = "std", doc = "| [`Context`] | the memory that containers become, while fragments come and go |")]
 //! | [`MacFile`] | the forks, resources and containers of a file of the classic Mac OS |
 //!
 //! ```
-//! # #[cfg(feature = "native")] {
 //! let bytes = pef::link("section data data process 4 4\nbytes data 0000002A\nexport answer data data 0\n")?;
 //! let container = pef::Container::read(&bytes)?;
 //! for export in container.exports() {
 //!     println!("{}: {:?}", export.name.escape_ascii(), export.value);
 //! }
 //! assert_eq!(container.find("answer").unwrap().class, pef::SymbolClass::Data);
-//! # }
 //! # Ok::<(), Box<dyn std::error::Error>>(())
 //! ```
 //!
@@ -32,13 +28,12 @@
 //!
 //! # What it needs
 //!
-//! A C compiler: the crate brings its source in C, for all machines. With the feature `native` it uses the library libpef of this machine
-//! instead, which is made for x86-64 and Linux: `pef-sys` says how it is found. `Context`, `link` and `Listing` need this feature. The
-//! feature `std`, which is on by default, gives [`std::error::Error`], [`std::io::Read`] and contexts. Without it the crate needs
-//! `alloc` alone. The oldest compiler is 1.63.
+//! A C compiler and a machine with addresses of 64 bits whose low bytes come first: `pef-sys` compiles the library from its source in C, or
+//! links with one that is installed. The feature `std`, which is on by default, gives [`std::error::Error`], [`std::io::Read`] and
+//! contexts. Without it the crate needs `alloc` alone. The oldest compiler is 1.63.
 //!
-//! A call takes up to 96 KB of stack, and 256 KB without `native`. Each thread of std has more, unless it was made with less. Then a call
-//! ends the process with a stack overflow, as any function does.
+//! A call takes up to 160 KB of stack. Each thread of std has more, unless it was made with less. Then a call ends the process with a stack
+//! overflow, as any function does.
 #![cfg_attr(not(feature = "std"), no_std)]
 #![deny(unsafe_code)]
 #![warn(missing_docs)]
@@ -47,45 +42,43 @@ extern crate alloc;
 
 mod code;
 mod container;
-#[cfg(all(feature = "native", feature = "std"))]
+#[cfg(feature = "std")]
 mod context;
 mod damaged;
 mod error;
 mod inspect;
-#[cfg(feature = "native")]
 mod listing;
 mod mac;
+mod parts;
 #[allow(unsafe_code)]
 mod raw;
 mod rows;
-#[cfg(feature = "native")]
 mod script;
 mod tables;
 
 pub use code::Code;
 pub use container::{Container, Fixups, Sections};
-#[cfg(all(feature = "native", feature = "std"))]
+#[cfg(feature = "std")]
 pub use context::{
-    Connection, Context, ContextOptions, Entries, Fragment, Fragments, Location, MissingLibrary, NearestExport, NewSection, PlacedExport,
-    PlacedSection, PlacedSections, Target,
+    Connection, Context, ContextOptions, Entries, Fragment, Fragments, LackingLibrary, Location, MissingLibrary, NearestExport, NewSection,
+    PlacedExport, PlacedSection, PlacedSections, Stub, StubValues, Target,
 };
 pub use damaged::Damaged;
 pub use error::{Error, Part, Place};
-pub use inspect::{findings, Finding, Report};
-#[cfg(feature = "native")]
+pub use inspect::{findings, DetailKind, Finding, Report};
 pub use listing::Listing;
 #[cfg(feature = "std")]
 pub use mac::resource_files;
 pub use mac::{Damage, FileKind, Finder, FoundContainer, Locator, MacFile, MacPart, Member, Resource, Usage};
+pub use parts::{ReportContainer, ReportContainers, ReportParts};
 pub use rows::{Exports, Imports, Libraries, Relocations};
-#[cfg(feature = "native")]
-pub use script::{link, ScriptError};
+pub use script::{distances, link, ScriptError};
 pub use tables::{
     Entry, Export, ExportValue, Fixup, FixupTarget, Header, Import, Library, Relocation, Section, SectionKind, Share, SymbolClass,
 };
 
 /// The program of the page.
-#[cfg(all(doctest, feature = "native", feature = "std"))]
+#[cfg(all(doctest, feature = "std"))]
 #[doc = include_str!("../README.md")]
 struct Readme;
 

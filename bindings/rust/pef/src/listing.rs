@@ -5,8 +5,7 @@ use core::fmt;
 use crate::error::Error;
 use crate::raw;
 
-/// The lines that `pef list` prints of a container, read by [`std::io::Read`], or by [`read_part`](Self::read_part). It needs the feature
-/// `native`.
+/// The lines that `pef list` prints of a container, read by [`std::io::Read`], or by [`read_part`](Self::read_part).
 ///
 /// Each line is made once, whatever the size of the buffer, and no more of them are in memory than a few kilobytes. Buffers of 64 KB are
 /// the fastest.

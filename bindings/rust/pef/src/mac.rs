@@ -17,12 +17,14 @@ codes! {
     /// ```
     /// assert_eq!(pef::Usage::from(1), pef::Usage::Application);
     /// ```
-    Usage {
-        ImportLibrary = PEF_USAGE_IMPORT_LIBRARY "import library",
-        Application = PEF_USAGE_APPLICATION "application",
-        DropInAddition = PEF_USAGE_DROP_IN_ADDITION "drop-in addition",
-        StubLibrary = PEF_USAGE_STUB_LIBRARY "stub library",
-        WeakStubLibrary = PEF_USAGE_WEAK_STUB_LIBRARY "weak stub library",
+    Usage, text {
+        // Usage: written by tools/declarations from docs/codes.table
+        ImportLibrary = PEF_USAGE_IMPORT_LIBRARY "library" "import library",
+        Application = PEF_USAGE_APPLICATION "application" "application",
+        DropInAddition = PEF_USAGE_DROP_IN_ADDITION "addition" "drop-in addition",
+        StubLibrary = PEF_USAGE_STUB_LIBRARY "stub" "stub library",
+        WeakStubLibrary = PEF_USAGE_WEAK_STUB_LIBRARY "weak-stub" "weak stub library",
+        // the end of what is written
     }
 }
 
@@ -32,10 +34,12 @@ codes! {
     /// ```
     /// assert_eq!(pef::Locator::from(1), pef::Locator::DataFork);
     /// ```
-    Locator {
-        Memory = PEF_LOCATOR_MEMORY "memory",
-        DataFork = PEF_LOCATOR_DATA_FORK "data fork",
-        Resource = PEF_LOCATOR_RESOURCE "resource",
+    Locator, text {
+        // Locator: written by tools/declarations from docs/codes.table
+        Memory = PEF_LOCATOR_MEMORY "memory" "memory",
+        DataFork = PEF_LOCATOR_DATA_FORK "data" "data fork",
+        Resource = PEF_LOCATOR_RESOURCE "resource" "resource",
+        // the end of what is written
     }
 }
 
@@ -325,7 +329,6 @@ impl fmt::Debug for FoundContainer<'_> {
 /// damaged: [`errors`](Self::errors) has what is wrong, and the rest is read. All bytes that it gives are parts of the file.
 ///
 /// ```
-/// # #[cfg(feature = "native")] {
 /// let mut bytes = b"before ".to_vec();
 /// bytes.extend(pef::link("section data data process 4 4\nbytes data 0000002A\n")?);
 /// let file = pef::MacFile::read(&bytes);
@@ -334,7 +337,6 @@ impl fmt::Debug for FoundContainer<'_> {
 ///     assert_eq!((found.offset, container.sections().count()), (7, 2));
 /// }
 /// assert!(file.errors().is_empty());
-/// # }
 /// # Ok::<(), Box<dyn std::error::Error>>(())
 /// ```
 #[derive(Clone)]
@@ -356,9 +358,8 @@ impl<'a> MacFile<'a> {
         Self::read_both(file, None)
     }
 
-    /// Reads a file whose resource fork is in another file: as it is, or in AppleDouble, AppleSingle or MacBinary. [`resource_files`] has
-    /// the usual places of that.
-    #[cfg_attr(not(feature = "std"), doc = "\n[`resource_files`]: https://docs.rs/pef")]
+    /// Reads a file whose resource fork is in another file: as it is, or in AppleDouble, AppleSingle or MacBinary. With the feature `std`,
+    /// `resource_files` has the usual places of that.
     pub fn read_with_resources(file: &'a [u8], resources: &'a [u8]) -> Self {
         Self::read_both(file, Some(resources))
     }
@@ -442,10 +443,7 @@ impl<'a> MacFile<'a> {
         for member in &self.members {
             if let (Some(bytes), Some((part, offset))) = (member.container, member.place()) {
                 match found.iter_mut().find(|it| (it.part, it.offset) == (part, offset)) {
-                    Some(known) => {
-                        known.members.push(*member);
-                        known.bytes = if known.bytes.len() > bytes.len() { known.bytes } else { bytes };
-                    }
+                    Some(known) => known.members.push(*member),
                     None => found.push(FoundContainer { part, offset, members: [*member].into(), bytes }),
                 }
             }
@@ -543,7 +541,7 @@ impl<'a> MacFile<'a> {
         let rows = match raw::resource_map(fork) {
             Ok(map) => {
                 self.note(map.error, map.error_offset, MacPart::ResourceFork);
-                raw::there(all_rows(|from, most| raw::resources(fork, from, most))).unwrap_or_default()
+                all_rows(|from, most| raw::resources(fork, from, most)).unwrap_or_default()
             }
             Err(number) => return self.note(number, sys::PEF_NO_OFFSET, MacPart::ResourceFork),
         };
@@ -629,7 +627,7 @@ impl<'a> MacFile<'a> {
     /// The bytes of a resource that can be read.
     fn resource(&self, kind: u32, id: i16) -> Option<&'a [u8]> {
         let fork = self.resource_fork?;
-        let row = raw::there(raw::find_resource(fork, kind, id))?;
+        let row = raw::find_resource(fork, kind, id).ok()?;
         (row.error == sys::PEF_OK).then(|| raw::part_of(fork, row.bytes))
     }
 }
@@ -655,7 +653,7 @@ fn is_there(error: u32) -> bool {
 
 /// The places in some bytes where a container begins.
 fn containers_in(bytes: &[u8]) -> Vec<usize> {
-    raw::there(all_rows(|from, most| raw::find_containers(bytes, from, most))).unwrap_or_default()
+    all_rows(|from, most| raw::find_containers(bytes, from, most)).unwrap_or_default()
 }
 
 /// Where the resource fork of a file usually is, if it is a file of its own: the places of `pef inspect`, in its order.

@@ -1,4 +1,4 @@
-//! The calls of the library, made safe. This is the only module with unsafe code.
+//! The calls of the library, made safe. No other module has unsafe code.
 //!
 //! What the header asks of each call, and why it holds here:
 //!
@@ -12,10 +12,18 @@
 //! - What opens a handle is one type for each, which isn't copied and frees it once, when it is dropped.
 
 use alloc::vec::Vec;
+use core::marker::PhantomData;
 use core::mem::MaybeUninit;
+use core::ptr::addr_of_mut;
 
 use pef_sys as sys;
 use sys::{pef_bytes, PEF_OK, PEF_OUT_OF_MEMORY};
+
+#[cfg(feature = "std")]
+mod contexts;
+
+#[cfg(feature = "std")]
+pub(crate) use contexts::*;
 
 /// The answer of a call that isn't `PEF_OK`.
 pub(crate) type Number = u32;
@@ -27,8 +35,8 @@ fn done(answer: u32) -> Result<(), Number> {
     }
 }
 
-/// How much stack a call takes at most: 64 KB, 96 KB to open a report, and 256 KB in the portable source.
-const STACK: usize = if cfg!(feature = "native") { 96 << 10 } else { 256 << 10 };
+/// How much stack a call takes at most: 64 KB, and 160 KB to open a report.
+const STACK: usize = 160 << 10;
 
 /// Touches the stack that a call takes, page after page, as the compiler does for each large frame. The library's code doesn't: in a thread
 /// with less it could pass the guard page.
@@ -90,16 +98,6 @@ unsafe fn new_rows<T>(most: usize, call: impl FnOnce(*mut T, usize, *mut usize) 
     let count = filled(|count| call(made.as_mut_ptr(), most, count))?;
     made.set_len(count.min(most));
     Ok(made)
-}
-
-/// What a call gives, if there is such a thing. The portable source takes memory in each call, and where it gets none this is as bad as
-/// it is for a vector.
-pub(crate) fn there<T>(given: Result<T, Number>) -> Option<T> {
-    match given {
-        Ok(it) => Some(it),
-        Err(PEF_OUT_OF_MEMORY) => alloc::alloc::handle_alloc_error(core::alloc::Layout::new::<[u8; 1 << 16]>()),
-        Err(_) => None,
-    }
 }
 
 /// The part of some bytes that a call gave. No bytes may be anywhere.
@@ -208,7 +206,7 @@ reads_rows! {
 
 pub(crate) fn fixups(bytes: &[u8], header: usize, from: usize, most: usize) -> Result<Vec<sys::pef_fixup>, Number> {
     // SAFETY: the call fills as many rows as it counts.
-    unsafe { new_rows(most, |places, room, count| sys::pef_fixups(bytes.as_ptr(), bytes.len(), header, from, places, room, count)) }
+    unsafe { new_rows(most, |places, room, count| sys::pef_partial_fixups(bytes.as_ptr(), bytes.len(), header, from, places, room, count)) }
 }
 
 pub(crate) fn export_named(bytes: &[u8], name: &[u8]) -> Result<(usize, sys::pef_export), Number> {
@@ -288,6 +286,26 @@ fn next_of<T>(
     Ok(written.min(buffer.len()))
 }
 
+/// A container of a file, or the end of the file.
+type Found = Result<sys::pef_found_container, sys::pef_found_container>;
+
+pub(crate) fn first_container(file: &[u8]) -> Found {
+    touch_stack();
+    let mut found = MaybeUninit::uninit();
+    // SAFETY: the call fills the struct, whatever it returns.
+    let answer = unsafe { sys::pef_first_container(file.as_ptr(), file.len(), found.as_mut_ptr()) };
+    let found = unsafe { found.assume_init() };
+    done(answer).map(|()| found).map_err(|_| found)
+}
+
+/// The container after another one of the same file.
+pub(crate) fn next_container(file: &[u8], mut found: sys::pef_found_container) -> Found {
+    touch_stack();
+    // SAFETY: the call changes the struct alone.
+    let answer = unsafe { sys::pef_next_container(file.as_ptr(), file.len(), &mut found) };
+    done(answer).map(|()| found).map_err(|_| found)
+}
+
 /// An open report.
 pub(crate) struct Report(sys::pef_report);
 
@@ -297,20 +315,52 @@ unsafe impl Send for Report {}
 unsafe impl Sync for Report {}
 
 impl Report {
-    pub(crate) fn of_file(path: &[u8], file: &[u8]) -> Result<Self, Number> {
+    /// A report that a call opens. It begins as zero bytes.
+    fn opened(call: impl FnOnce(*mut sys::pef_report) -> u32) -> Result<Self, Number> {
         touch_stack();
         let mut it = Self(sys::PEF_NO_REPORT);
-        // SAFETY: the report begins as zero bytes. Neither the path nor the file is kept.
-        done(unsafe { sys::pef_report_open(&mut it.0, path.as_ptr(), path.len(), file.as_ptr(), file.len()) })?;
+        done(call(&mut it.0))?;
         Ok(it)
     }
 
+    pub(crate) fn of_file(path: &[u8], file: &[u8]) -> Result<Self, Number> {
+        // SAFETY: neither the path nor the file is kept.
+        Self::opened(|it| unsafe { sys::pef_report_open(it, path.as_ptr(), path.len(), file.as_ptr(), file.len()) })
+    }
+
     pub(crate) fn of_container(bytes: &[u8]) -> Result<Self, Number> {
-        touch_stack();
-        let mut it = Self(sys::PEF_NO_REPORT);
-        // SAFETY: the report begins as zero bytes. The bytes aren't kept.
-        done(unsafe { sys::pef_report_open_container(&mut it.0, bytes.as_ptr(), bytes.len()) })?;
-        Ok(it)
+        // SAFETY: the bytes aren't kept.
+        Self::opened(|it| unsafe { sys::pef_report_open_container(it, bytes.as_ptr(), bytes.len()) })
+    }
+
+    /// The report up to the containers.
+    pub(crate) fn head(path: &[u8], file: &[u8]) -> Result<Self, Number> {
+        // SAFETY: neither the path nor the file is kept.
+        Self::opened(|it| unsafe { sys::pef_report_open_head(it, path.as_ptr(), path.len(), file.as_ptr(), file.len()) })
+    }
+
+    /// A container of a file. Any struct will do: a place outside the file has no bytes.
+    pub(crate) fn found(file: &[u8], found: &sys::pef_found_container) -> Result<Self, Number> {
+        // SAFETY: the file isn't kept.
+        Self::opened(|it| unsafe { sys::pef_report_open_found(it, file.as_ptr(), file.len(), found) })
+    }
+
+    /// The report after the containers.
+    pub(crate) fn end(file: &[u8], end: &sys::pef_found_container) -> Result<Self, Number> {
+        // SAFETY: the file isn't kept.
+        Self::opened(|it| unsafe { sys::pef_report_open_end(it, file.as_ptr(), file.len(), end) })
+    }
+
+    /// The beginning of a container's object.
+    pub(crate) fn excerpt(file: &[u8], found: &sys::pef_found_container, most: u32) -> Result<Self, Number> {
+        // SAFETY: the file isn't kept.
+        Self::opened(|it| unsafe { sys::pef_report_open_excerpt(it, file.as_ptr(), file.len(), found, most) })
+    }
+
+    /// Rows of a container.
+    pub(crate) fn rows(file: &[u8], rows: &sys::pef_row_range) -> Result<Self, Number> {
+        // SAFETY: the file isn't kept.
+        Self::opened(|it| unsafe { sys::pef_report_open_rows(it, file.as_ptr(), file.len(), rows) })
     }
 
     pub(crate) fn next(&mut self, buffer: &mut [u8]) -> Result<usize, Number> {
@@ -326,379 +376,83 @@ impl Drop for Report {
     }
 }
 
-#[cfg(feature = "native")]
-pub(crate) use native::*;
+/// An open listing of a container, which it keeps: `'a` has to be there when it is dropped.
+pub(crate) struct Listing<'a>(sys::pef_listing, PhantomData<&'a [u8]>);
 
-/// Listings, scripts and contexts.
-#[cfg(feature = "native")]
-mod native {
-    use super::*;
-    use core::marker::PhantomData;
-    use core::ptr::addr_of_mut;
+// SAFETY: the library has no state outside of the listing, and asks only that one thread uses it at a time.
+unsafe impl Send for Listing<'_> {}
+// SAFETY: nothing can be done with a shared one.
+unsafe impl Sync for Listing<'_> {}
 
-    /// An open listing of a container, which it keeps: `'a` has to be there when it is dropped.
-    pub(crate) struct Listing<'a>(sys::pef_listing, PhantomData<&'a [u8]>);
-
-    // SAFETY: the library has no state outside of the listing, and asks only that one thread uses it at a time.
-    unsafe impl Send for Listing<'_> {}
-    // SAFETY: nothing can be done with a shared one.
-    unsafe impl Sync for Listing<'_> {}
-
-    impl<'a> Listing<'a> {
-        pub(crate) fn open(bytes: &'a [u8]) -> Result<Self, Number> {
-            touch_stack();
-            let mut it = Self(sys::PEF_NO_LISTING, PhantomData);
-            // SAFETY: the listing begins as zero bytes. The bytes stay, unchanged, until it is freed: it can't be opened again for others.
-            done(unsafe { sys::pef_list_open(&mut it.0, bytes.as_ptr(), bytes.len()) })?;
-            Ok(it)
-        }
-
-        pub(crate) fn next(&mut self, buffer: &mut [u8]) -> Result<usize, Number> {
-            next_of(&mut self.0, buffer, sys::pef_list_next)
-        }
-    }
-
-    impl Drop for Listing<'_> {
-        fn drop(&mut self) {
-            touch_stack();
-            // SAFETY: one that isn't open stays as it is.
-            unsafe { sys::pef_list_free(&mut self.0) }
-        }
-    }
-
-    pub(crate) enum Linked {
-        Container(Vec<u8>),
-        /// The container needs so many bytes.
-        Needs(usize),
-        /// The error, and the number of the line or 0.
-        Refused(Number, usize),
-    }
-
-    /// Links a script into a new vector of this length.
-    pub(crate) fn link(script: &[u8], length: usize) -> Linked {
-        let (mut needed, mut line) = (0, 0);
-        let call = |buffer, room, written: *mut usize| {
-            // SAFETY: the buffer has this room, and what was written is counted in the same place as what is needed.
-            let answer = unsafe { sys::pef_link(script.as_ptr(), script.len(), buffer, room, addr_of_mut!(needed), addr_of_mut!(line)) };
-            if answer == PEF_OK {
-                // SAFETY: new_vector hands a place on its stack.
-                unsafe { *written = needed };
-            }
-            answer
-        };
-        // SAFETY: the call fills as many bytes as it counts.
-        match unsafe { new_vector(length, call) } {
-            Ok(made) => Linked::Container(made),
-            Err(sys::PEF_ROOM_TOO_SMALL) => Linked::Needs(needed),
-            Err(number) => Linked::Refused(number, line),
-        }
-    }
-
-    /// The place of the first error of a script, and the earlier line that it is about, or 0.
-    pub(crate) fn script_place(script: &[u8]) -> Option<(sys::pef_place, usize)> {
+impl<'a> Listing<'a> {
+    pub(crate) fn open(bytes: &'a [u8]) -> Result<Self, Number> {
         touch_stack();
-        let (mut place, mut earlier) = (MaybeUninit::uninit(), 0);
-        // SAFETY: the call fills the place if it returns an error from 41 to 49.
-        match unsafe { sys::pef_script_place(script.as_ptr(), script.len(), place.as_mut_ptr(), &mut earlier) } {
-            sys::PEF_SCRIPT_BAD_LINE..=sys::PEF_SCRIPT_BAD_KIND => Some((unsafe { place.assume_init() }, earlier)),
-            _ => None,
-        }
+        let mut it = Self(sys::PEF_NO_LISTING, PhantomData);
+        // SAFETY: the listing begins as zero bytes. The bytes stay, unchanged, until it is freed: it can't be opened again for others.
+        done(unsafe { sys::pef_list_open(&mut it.0, bytes.as_ptr(), bytes.len()) })?;
+        Ok(it)
     }
 
-    #[cfg(feature = "std")]
-    pub(crate) use contexts::*;
+    pub(crate) fn next(&mut self, buffer: &mut [u8]) -> Result<usize, Number> {
+        next_of(&mut self.0, buffer, sys::pef_list_next)
+    }
+}
 
-    #[cfg(feature = "std")]
-    mod contexts {
-        use super::*;
+impl Drop for Listing<'_> {
+    fn drop(&mut self) {
+        touch_stack();
+        // SAFETY: one that isn't open stays as it is.
+        unsafe { sys::pef_list_free(&mut self.0) }
+    }
+}
 
-        /// An export of a fragment with its name.
-        pub(crate) type NamedExport<'a> = (&'a [u8], sys::pef_fragment_export);
+/// What a call makes of a script.
+pub(crate) enum Made {
+    Bytes(Vec<u8>),
+    /// The bytes are so many.
+    Needs(usize),
+    /// The error, and the number of the line or 0.
+    Refused(Number, usize),
+}
 
-        /// Missing libraries, each with its name.
-        type MissingRows<'a> = Vec<(&'a [u8], sys::pef_missing)>;
+type ScriptCall = unsafe extern "C" fn(*const u8, usize, *mut u8, usize, *mut usize, *mut usize) -> Number;
 
-        /// The names that come with an error.
-        #[derive(Default)]
-        pub(crate) struct Names<'a> {
-            pub(crate) fragment: &'a [u8],
-            pub(crate) library: &'a [u8],
-            pub(crate) symbol: &'a [u8],
+/// Links a script into a new vector of this length.
+pub(crate) fn link(script: &[u8], length: usize) -> Made {
+    made(sys::pef_link, script, length)
+}
+
+/// Writes the certificates of a script into a new vector of this length.
+pub(crate) fn distances(script: &[u8], length: usize) -> Made {
+    made(sys::pef_distances, script, length)
+}
+
+fn made(of_script: ScriptCall, script: &[u8], length: usize) -> Made {
+    let (mut needed, mut line) = (0, 0);
+    let call = |buffer, room, written: *mut usize| {
+        // SAFETY: the buffer has this room, and what was written is counted in the same place as what is needed.
+        let answer = unsafe { of_script(script.as_ptr(), script.len(), buffer, room, addr_of_mut!(needed), addr_of_mut!(line)) };
+        if answer == PEF_OK {
+            // SAFETY: new_vector hands a place on its stack.
+            unsafe { *written = needed };
         }
+        answer
+    };
+    // SAFETY: the call fills as many bytes as it counts.
+    match unsafe { new_vector(length, call) } {
+        Ok(made) => Made::Bytes(made),
+        Err(sys::PEF_ROOM_TOO_SMALL) => Made::Needs(needed),
+        Err(number) => Made::Refused(number, line),
+    }
+}
 
-        /// An open context over names and containers that stay for `'a`. What changes it takes `&mut`, and what reads it `&`.
-        ///
-        /// It is invariant in `'a`: what is added through a context has to stay as long as any other name of the same context.
-        pub(crate) struct Context<'a>(sys::pef_context, Invariant<'a>);
-
-        type Invariant<'a> = PhantomData<fn(&'a [u8]) -> &'a [u8]>;
-
-        // SAFETY: the library has no state outside of the context, and takes it from any thread, as long as it is one at a time.
-        unsafe impl Send for Context<'_> {}
-        // SAFETY: with a shared context only calls are made that read it, each with a copy of the struct: the header's `_const`, which any
-        // number of threads may be in at once. Calls that change it have it alone, by `&mut`.
-        unsafe impl Sync for Context<'_> {}
-
-        impl Drop for Context<'_> {
-            fn drop(&mut self) {
-                touch_stack();
-                // SAFETY: one that isn't open stays as it is. Then the library has nothing any more of what was added.
-                unsafe { sys::pef_free(&mut self.0) }
-            }
-        }
-
-        /// A slice of what was added.
-        ///
-        /// # Safety
-        ///
-        /// The bytes are a part of what was added to a context over `'a`, or none.
-        unsafe fn added<'a>(bytes: pef_bytes) -> &'a [u8] {
-            match bytes.length {
-                0 => &[],
-                length => core::slice::from_raw_parts(bytes.at, length),
-            }
-        }
-
-        /// An export with its name.
-        ///
-        /// # Safety
-        ///
-        /// The name is a part of what was added to a context over `'a`.
-        unsafe fn named<'a>(row: sys::pef_fragment_export) -> NamedExport<'a> {
-            (added(row.name), row)
-        }
-
-        impl<'a> Context<'a> {
-            pub(crate) fn open(options: &sys::pef_options) -> Result<Self, Number> {
-                touch_stack();
-                let mut it = Self(sys::PEF_NO_CONTEXT, PhantomData);
-                // SAFETY: the context begins as zero bytes.
-                done(unsafe { sys::pef_open_with(&mut it.0, options) })?;
-                Ok(it)
-            }
-
-            pub(crate) fn add(&mut self, name: &'a [u8], bytes: &'a [u8]) -> Result<(), Number> {
-                touch_stack();
-                // SAFETY: both stay, unchanged, for 'a, and so until the context is freed.
-                done(unsafe { sys::pef_add(&mut self.0, name.as_ptr(), name.len(), bytes.as_ptr(), bytes.len()) })
-            }
-
-            pub(crate) fn add_new(&mut self, name: &'a [u8], bytes: &'a [u8]) -> Result<(), Number> {
-                touch_stack();
-                // SAFETY: both stay, unchanged, for 'a, and so until the context is freed.
-                done(unsafe { sys::pef_add_new(&mut self.0, name.as_ptr(), name.len(), bytes.as_ptr(), bytes.len()) })
-            }
-
-            pub(crate) fn remove(&mut self, name: &[u8]) -> Result<(), Number> {
-                touch_stack();
-                // SAFETY: the context is borrowed alone.
-                done(unsafe { sys::pef_remove(&mut self.0, name.as_ptr(), name.len()) })
-            }
-
-            pub(crate) fn reserve(&mut self, address: u32, size: u32) -> Result<(), Number> {
-                touch_stack();
-                // SAFETY: the context is borrowed alone.
-                done(unsafe { sys::pef_reserve(&mut self.0, address, size) })
-            }
-
-            pub(crate) fn unreserve(&mut self, address: u32, size: u32) -> Result<(), Number> {
-                touch_stack();
-                // SAFETY: the context is borrowed alone.
-                done(unsafe { sys::pef_unreserve(&mut self.0, address, size) })
-            }
-
-            /// Missing libraries from a number on, at most so many, with their names. An error comes with its names.
-            pub(crate) fn missing(&mut self, name: &[u8], from: usize, most: usize) -> Result<MissingRows<'a>, (Number, Names<'a>)> {
-                let mut names = sys::PEF_NO_NAMES;
-                let context = &mut self.0;
-                // SAFETY: the context is borrowed alone. The call fills as many places as it counts.
-                let rows = unsafe {
-                    new_rows(most, |places, room, count| {
-                        sys::pef_missing(context, name.as_ptr(), name.len(), from, places, room, count, &mut names)
-                    })
-                };
-                // SAFETY: names are parts of what was added, and those that aren't reported are empty.
-                let names =
-                    unsafe { Names { fragment: added(names.fragment), library: added(names.library), symbol: added(names.symbol) } };
-                // SAFETY: the names of the rows, too.
-                rows.map(|rows| rows.into_iter().map(|row| (unsafe { added(row.name) }, row)).collect()).map_err(|answer| (answer, names))
-            }
-
-            /// Prepares a fragment. An error comes with its names and its place.
-            pub(crate) fn prepare(&mut self, name: &[u8]) -> Result<u32, (Number, Names<'a>, sys::pef_place)> {
-                touch_stack();
-                let mut names = sys::PEF_NO_NAMES;
-                let mut place = sys::pef_place { part: sys::PEF_NOWHERE, row: 0, field: 0, offset: sys::PEF_NO_OFFSET };
-                let mut number = 0;
-                // SAFETY: the context is borrowed alone.
-                let answer =
-                    unsafe { sys::pef_prepare_with_place(&mut self.0, name.as_ptr(), name.len(), &mut number, &mut names, &mut place) };
-                // SAFETY: names are parts of what was added, and those that aren't reported are empty.
-                let names =
-                    unsafe { Names { fragment: added(names.fragment), library: added(names.library), symbol: added(names.symbol) } };
-                done(answer).map(|()| number).map_err(|answer| (answer, names, place))
-            }
-
-            /// The sections that a preparation would place, from a number on, at most so many. An error comes with its names.
-            pub(crate) fn new_sections(
-                &mut self,
-                name: &[u8],
-                from: usize,
-                most: usize,
-            ) -> Result<Vec<sys::pef_new_section>, (Number, Names<'a>)> {
-                let mut names = sys::PEF_NO_NAMES;
-                let context = &mut self.0;
-                // SAFETY: the context is borrowed alone. The call fills as many places as it counts.
-                let rows = unsafe {
-                    new_rows(most, |places, room, count| {
-                        sys::pef_new_sections(context, name.as_ptr(), name.len(), from, places, room, count, &mut names)
-                    })
-                };
-                // SAFETY: names are parts of what was added, and those that aren't reported are empty.
-                let names =
-                    unsafe { Names { fragment: added(names.fragment), library: added(names.library), symbol: added(names.symbol) } };
-                rows.map_err(|answer| (answer, names))
-            }
-
-            /// Prepares a fragment at some addresses. An error comes with its names and its place.
-            pub(crate) fn prepare_at(&mut self, name: &[u8], addresses: &[u32]) -> Result<u32, (Number, Names<'a>, sys::pef_place)> {
-                touch_stack();
-                let mut names = sys::PEF_NO_NAMES;
-                let mut place = sys::pef_place { part: sys::PEF_NOWHERE, row: 0, field: 0, offset: sys::PEF_NO_OFFSET };
-                let mut number = 0;
-                let (given, count) = (addresses.as_ptr(), addresses.len());
-                // SAFETY: the context is borrowed alone.
-                let answer = unsafe {
-                    sys::pef_prepare_at(&mut self.0, name.as_ptr(), name.len(), given, count, &mut number, &mut names, &mut place)
-                };
-                // SAFETY: names are parts of what was added, and those that aren't reported are empty.
-                let names =
-                    unsafe { Names { fragment: added(names.fragment), library: added(names.library), symbol: added(names.symbol) } };
-                done(answer).map(|()| number).map_err(|answer| (answer, names, place))
-            }
-
-            pub(crate) fn close(&mut self, connection: u32) -> Result<(), Number> {
-                touch_stack();
-                // SAFETY: the context is borrowed alone.
-                done(unsafe { sys::pef_close(&mut self.0, connection) })
-            }
-
-            /// The fragments of a connection that a call stores: their numbers.
-            pub(crate) fn fragments(&self, which: Which, connection: u32) -> Result<Vec<usize>, Number> {
-                let call = match which {
-                    Which::All => sys::pef_fragments_const,
-                    Which::InitOrder => sys::pef_init_order_const,
-                    Which::New => sys::pef_new_fragments_const,
-                    Which::Released => sys::pef_released_by_const,
-                };
-                // SAFETY: so many places are enough. The call fills as many as it counts.
-                unsafe { new_rows(sys::PEF_MAX_FRAGMENTS, |places, room, count| call(&self.0, connection, places, room, count)) }
-            }
-
-            pub(crate) fn name(&self, fragment: usize) -> Option<&'a [u8]> {
-                // SAFETY: the call fills the place if it returns PEF_OK, with a name that was added.
-                unsafe { filled(|name| sys::pef_fragment_name_const(&self.0, fragment, name)).ok().map(|name| added(name)) }
-            }
-
-            pub(crate) fn is_present(&self, name: &[u8]) -> bool {
-                // SAFETY: the call fills the place if it returns PEF_OK.
-                unsafe { filled(|answer| sys::pef_is_present_const(&self.0, name.as_ptr(), name.len(), answer)) }.unwrap_or(false)
-            }
-
-            pub(crate) fn section_count(&self, fragment: usize) -> usize {
-                // SAFETY: the call fills the place if it returns PEF_OK.
-                unsafe { filled(|count| sys::pef_fragment_sections_const(&self.0, fragment, count)) }.unwrap_or(0)
-            }
-
-            pub(crate) fn section(&self, connection: u32, fragment: usize, number: usize) -> Option<sys::pef_fragment_section> {
-                // SAFETY: the call fills the struct if it returns PEF_OK.
-                unsafe { filled(|row| sys::pef_fragment_section_const(&self.0, connection, fragment, number, row)) }.ok()
-            }
-
-            pub(crate) fn copy_section(&self, fragment: usize, number: usize, buffer: &mut [u8]) -> Result<usize, Number> {
-                // SAFETY: the call writes to the buffer alone, and fills the count if it returns PEF_OK.
-                unsafe {
-                    filled(|written| sys::pef_fragment_bytes_const(&self.0, fragment, number, buffer.as_mut_ptr(), buffer.len(), written))
-                }
-            }
-
-            pub(crate) fn section_bytes(&self, fragment: usize, number: usize, size: usize) -> Result<Vec<u8>, Number> {
-                // SAFETY: the call fills as many bytes as it counts.
-                unsafe {
-                    new_vector(size, |buffer, room, count| sys::pef_fragment_bytes_const(&self.0, fragment, number, buffer, room, count))
-                }
-            }
-
-            pub(crate) fn entries(&self, connection: u32, fragment: usize) -> Option<sys::pef_entries> {
-                // SAFETY: the call fills the struct if it returns PEF_OK.
-                unsafe { filled(|row| sys::pef_fragment_entries_const(&self.0, connection, fragment, row)) }.ok()
-            }
-
-            pub(crate) fn symbol(&self, connection: u32, fragment: usize, name: &[u8]) -> Option<u32> {
-                let call = |address| {
-                    // SAFETY: the call fills the place if it returns PEF_OK.
-                    unsafe { sys::pef_fragment_symbol_const(&self.0, connection, fragment, name.as_ptr(), name.len(), address) }
-                };
-                unsafe { filled(call) }.ok()
-            }
-
-            pub(crate) fn import_target(&self, connection: u32, fragment: usize, number: usize) -> Option<sys::pef_target> {
-                // SAFETY: the call fills the struct if it returns PEF_OK.
-                unsafe { filled(|row| sys::pef_import_target_const(&self.0, connection, fragment, number, row)) }.ok()
-            }
-
-            pub(crate) fn export_address(&self, connection: u32, fragment: usize, number: usize) -> Option<u32> {
-                // SAFETY: the call fills the place if it returns PEF_OK.
-                unsafe { filled(|address| sys::pef_export_address_const(&self.0, connection, fragment, number, address)) }.ok()
-            }
-
-            pub(crate) fn export_count(&self, connection: u32, fragment: usize) -> usize {
-                // SAFETY: the call fills the place if it returns PEF_OK.
-                unsafe { filled(|count| sys::pef_fragment_exports_const(&self.0, connection, fragment, count)) }.unwrap_or(0)
-            }
-
-            pub(crate) fn export(&self, connection: u32, fragment: usize, number: usize) -> Option<NamedExport<'a>> {
-                // SAFETY: the call fills the struct if it returns PEF_OK, with a name in a container that was added.
-                unsafe {
-                    filled(|row| sys::pef_fragment_export_const(&self.0, connection, fragment, number, row)).ok().map(|row| named(row))
-                }
-            }
-
-            pub(crate) fn export_named(&self, connection: u32, fragment: usize, name: &[u8]) -> Option<NamedExport<'a>> {
-                let call = |row| {
-                    // SAFETY: the call fills the struct if it returns PEF_OK.
-                    unsafe { sys::pef_fragment_export_named_const(&self.0, connection, fragment, name.as_ptr(), name.len(), row) }
-                };
-                // SAFETY: the name that it is filled with is in a container that was added.
-                unsafe { filled(call).ok().map(|row| named(row)) }
-            }
-
-            pub(crate) fn import_named(&self, connection: u32, fragment: usize, name: &[u8]) -> Option<usize> {
-                let call = |number| {
-                    // SAFETY: the call fills the place if it returns PEF_OK.
-                    unsafe { sys::pef_fragment_import_named_const(&self.0, connection, fragment, name.as_ptr(), name.len(), number) }
-                };
-                unsafe { filled(call) }.ok()
-            }
-
-            /// Where an address is, and the name of the nearest export.
-            pub(crate) fn at(&self, address: u32) -> Option<(&'a [u8], sys::pef_location)> {
-                // SAFETY: the call fills the struct if it returns PEF_OK, with a name in a container that was added, or none.
-                unsafe {
-                    filled(|row: *mut sys::pef_location| sys::pef_at_const(&self.0, address, row))
-                        .ok()
-                        .map(|row| (added(row.nearest.name), row))
-                }
-            }
-        }
-
-        /// Which fragments of a connection are asked for.
-        #[derive(Clone, Copy)]
-        pub(crate) enum Which {
-            All,
-            InitOrder,
-            New,
-            Released,
-        }
+/// The place of the first error of a script, and the earlier line that it is about, or 0.
+pub(crate) fn script_place(script: &[u8]) -> Option<(sys::pef_place, usize)> {
+    touch_stack();
+    let (mut place, mut earlier) = (MaybeUninit::uninit(), 0);
+    // SAFETY: the call fills the place if it returns an error from 41 to 49.
+    match unsafe { sys::pef_script_place(script.as_ptr(), script.len(), place.as_mut_ptr(), &mut earlier) } {
+        sys::PEF_SCRIPT_BAD_LINE..=sys::PEF_SCRIPT_BAD_KIND => Some((unsafe { place.assume_init() }, earlier)),
+        _ => None,
     }
 }

@@ -43,7 +43,7 @@ impl<'a, Row> Rows<'a, Row> {
 
     /// What was read without an error once is read again, so an error means that there is no such table.
     fn read_more(&mut self) {
-        let rows = raw::there((self.call)(self.bytes, self.count, self.next)).unwrap_or_default();
+        let rows = (self.call)(self.bytes, self.count, self.next).unwrap_or_default();
         self.count += rows.len();
         self.next = match self.all {
             _ if rows.len() < self.next => 0,
@@ -104,47 +104,39 @@ iterators! {
     /// The libraries of a container.
     ///
     /// ```
-    /// # #[cfg(feature = "native")] {
     /// let bytes = pef::link("library Tools 1 0 -\nlibrary Sounds 1 0 weak\n")?;
     /// let names: Vec<_> = pef::Container::read(&bytes)?.libraries().map(|it| it.name).collect();
     /// assert_eq!(names, [b"Tools".as_slice(), b"Sounds"]);
-    /// # }
     /// # Ok::<(), Box<dyn std::error::Error>>(())
     /// ```
     Libraries: pef_library, Library, |bytes, _, row| Library::of(bytes, row);
     /// The imports of a container, by their numbers.
     ///
     /// ```
-    /// # #[cfg(feature = "native")] {
     /// let bytes = pef::link("library Tools 1 0 -\nimport answer data strong\nimport start code weak\n")?;
     /// let weak: Vec<_> = pef::Container::read(&bytes)?.imports().filter(|it| it.weak).map(|it| it.number).collect();
     /// assert_eq!(weak, [1]);
-    /// # }
     /// # Ok::<(), Box<dyn std::error::Error>>(())
     /// ```
     Imports: pef_import, Import, Import::of;
     /// The relocation headers of a container, by their numbers.
     ///
     /// ```
-    /// # #[cfg(feature = "native")] {
     /// let bytes = pef::link("section data data process 4 8\nfix data 4 section data\n")?;
     /// let sections: Vec<_> = pef::Container::read(&bytes)?.relocations().map(|it| it.section).collect();
     /// assert_eq!(sections, [0]);
-    /// # }
     /// # Ok::<(), Box<dyn std::error::Error>>(())
     /// ```
     Relocations: pef_relocation, Relocation, Relocation::of;
     /// The exports of a container, by their numbers.
     ///
     /// ```
-    /// # #[cfg(feature = "native")] {
     /// use std::collections::HashMap;
     ///
     /// let bytes = pef::link("section data data process 4 8\nexport answer data data 4\n")?;
     /// let container = pef::Container::read(&bytes)?;
     /// let by_name: HashMap<_, _> = container.exports().map(|it| (it.name, it.value)).collect();
     /// assert!(by_name.contains_key(b"answer".as_slice()));
-    /// # }
     /// # Ok::<(), Box<dyn std::error::Error>>(())
     /// ```
     Exports: pef_export, Export, Export::of;

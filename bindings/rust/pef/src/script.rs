@@ -1,15 +1,15 @@
-//! Containers of scripts.
+//! Containers and certificates of scripts.
 
 use alloc::string::String;
 use alloc::vec::Vec;
 use core::fmt;
 use core::ops::Range;
 
-use crate::code::Code;
+use crate::code::{calls_of_code, Code};
 use crate::error::{Error, Part, Place};
-use crate::raw::{self, Linked};
+use crate::raw::{self, Made};
 
-/// The container of a script (`docs/SCRIPTS.md` of the project). It needs the feature `native`.
+/// The container of a script (`docs/SCRIPTS.md` of the project).
 ///
 /// The container has a shortest relocation program without repeats for each section.
 ///
@@ -23,18 +23,39 @@ use crate::raw::{self, Linked};
 /// # Ok::<(), pef::ScriptError>(())
 /// ```
 pub fn link<S: AsRef<[u8]> + ?Sized>(script: &S) -> Result<Vec<u8>, ScriptError> {
-    let script = script.as_ref();
-    let mut length = 4096;
+    made(raw::link, script.as_ref(), 4096)
+}
+
+/// The certificates of a script, as `pef distances` prints them (`docs/CERTIFICATES.md` of the project).
+///
+/// Each has the relocation program that [`link`] writes for a section, and proves that no program without repeats is shorter.
+///
+/// # Errors
+///
+/// 41 to 49 with the line and the word, or 99.
+///
+/// ```
+/// let lines = pef::distances("section data data process 4 4\nbytes data 0000002A\n")?;
+/// assert!(lines.starts_with("pefcert 2\nsection 0\n") && lines.ends_with("end\n"));
+/// # Ok::<(), pef::ScriptError>(())
+/// ```
+pub fn distances<S: AsRef<[u8]> + ?Sized>(script: &S) -> Result<String, ScriptError> {
+    let lines = made(raw::distances, script.as_ref(), 65536)?;
+    // They are in ASCII.
+    Ok(String::from_utf8(lines).unwrap_or_default())
+}
+
+fn made(call: fn(&[u8], usize) -> Made, script: &[u8], mut length: usize) -> Result<Vec<u8>, ScriptError> {
     loop {
-        match raw::link(script, length) {
-            Linked::Container(made) => return Ok(made),
-            Linked::Needs(needed) => length = needed,
-            Linked::Refused(number, line) => return Err(ScriptError::new(number, line, script)),
+        match call(script, length) {
+            Made::Bytes(made) => return Ok(made),
+            Made::Needs(needed) => length = needed,
+            Made::Refused(number, line) => return Err(ScriptError::new(number, line, script)),
         }
     }
 }
 
-/// The first error of a script, and where it is. It needs the feature `native`.
+/// The first error of a script, and where it is.
 ///
 /// ```
 /// let error = pef::link("section data data shared 4 4\n").unwrap_err();
@@ -62,25 +83,7 @@ impl ScriptError {
         Self { code: number.into(), line, word: place.map(|it| it.field), range, earlier: (earlier != 0).then_some(earlier), mark }
     }
 
-    /// What it is.
-    pub fn code(&self) -> Code {
-        self.code
-    }
-
-    /// Its number, as `pef` prints it.
-    pub fn number(&self) -> u32 {
-        self.code.number()
-    }
-
-    /// Its name, as `pef` prints it.
-    pub fn name(&self) -> &'static str {
-        self.code.name()
-    }
-
-    /// One or two sentences: what it means, and what to do.
-    pub fn help(&self) -> &'static str {
-        self.code.help()
-    }
+    calls_of_code!();
 
     /// The number of the line, from 1; or 0 if the error is in no line.
     pub fn line(&self) -> usize {

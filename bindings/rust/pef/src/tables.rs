@@ -11,19 +11,19 @@ use crate::error::Error;
 use crate::raw;
 
 macro_rules! codes {
-    ($(#[$doc:meta])* $kind:ident { $($name:ident = $number:ident $words:literal,)* }) => {
+    ($(#[$doc:meta])* $kind:ident, $shown:ident { $($name:ident = $number:ident $word:literal $text:literal,)* }) => {
         $(#[$doc])*
         #[derive(Clone, Copy, Debug, PartialEq, Eq, Hash)]
         #[non_exhaustive]
         #[allow(missing_docs)]
         pub enum $kind {
             $($name,)*
-            /// A number that the format doesn't have.
+            /// A number that isn't known.
             Other(u8),
         }
 
         impl $kind {
-            /// The number in the container.
+            /// The number of the code.
             pub fn number(self) -> u8 {
                 match self {
                     $(Self::$name => sys::$number,)*
@@ -41,12 +41,30 @@ macro_rules! codes {
             }
         }
 
-        impl fmt::Display for $kind {
-            /// Writes the word that scripts have, or the number.
-            fn fmt(&self, out: &mut fmt::Formatter<'_>) -> fmt::Result {
+        impl $kind {
+            /// The word that scripts and reports have for it, if the number is known.
+            pub fn word(self) -> Option<&'static str> {
                 match self {
-                    $(Self::$name => out.pad($words),)*
-                    Self::Other(number) => write!(out, "{number}"),
+                    $(Self::$name => Some($word),)*
+                    Self::Other(_) => None,
+                }
+            }
+
+            /// What it is, for people, if the number is known.
+            pub fn text(self) -> Option<&'static str> {
+                match self {
+                    $(Self::$name => Some($text),)*
+                    Self::Other(_) => None,
+                }
+            }
+        }
+
+        impl fmt::Display for $kind {
+            #[doc = concat!("Writes the ", stringify!($shown), ", or the number.")]
+            fn fmt(&self, out: &mut fmt::Formatter<'_>) -> fmt::Result {
+                match self.$shown() {
+                    Some(shown) => out.pad(shown),
+                    None => write!(out, "{}", self.number()),
                 }
             }
         }
@@ -60,17 +78,20 @@ codes! {
     /// ```
     /// assert_eq!(pef::SectionKind::from(2), pef::SectionKind::Pattern);
     /// assert_eq!(pef::SectionKind::Pattern.to_string(), "pattern");
+    /// assert_eq!(pef::SectionKind::Pattern.text(), Some("pattern-initialized data"));
     /// ```
-    SectionKind {
-        Code = PEF_KIND_CODE "code",
-        Data = PEF_KIND_DATA "data",
-        Pattern = PEF_KIND_PACKED "pattern",
-        Constant = PEF_KIND_CONSTANT "const",
-        Loader = PEF_KIND_LOADER "loader",
-        Debug = PEF_KIND_DEBUG "debug",
-        ExecutableData = PEF_KIND_EXECUTABLE_DATA "exec",
-        Exception = PEF_KIND_EXCEPTION "exception",
-        Traceback = PEF_KIND_TRACEBACK "traceback",
+    SectionKind, word {
+        // SectionKind: written by tools/declarations from docs/codes.table
+        Code = PEF_KIND_CODE "code" "code",
+        Data = PEF_KIND_DATA "data" "unpacked data",
+        Pattern = PEF_KIND_PACKED "pattern" "pattern-initialized data",
+        Constant = PEF_KIND_CONSTANT "const" "constant",
+        Loader = PEF_KIND_LOADER "loader" "loader",
+        Debug = PEF_KIND_DEBUG "debug" "debug",
+        ExecutableData = PEF_KIND_EXECUTABLE_DATA "exec" "executable data",
+        Exception = PEF_KIND_EXCEPTION "exception" "exception",
+        Traceback = PEF_KIND_TRACEBACK "traceback" "traceback",
+        // the end of what is written
     }
 }
 
@@ -80,10 +101,12 @@ codes! {
     /// ```
     /// assert_eq!(pef::Share::from(4), pef::Share::Global);
     /// ```
-    Share {
-        Process = PEF_SHARE_PROCESS "process",
-        Global = PEF_SHARE_GLOBAL "global",
-        Protected = PEF_SHARE_PROTECTED "protected",
+    Share, word {
+        // Share: written by tools/declarations from docs/codes.table
+        Process = PEF_SHARE_PROCESS "process" "process",
+        Global = PEF_SHARE_GLOBAL "global" "global",
+        Protected = PEF_SHARE_PROTECTED "protected" "protected",
+        // the end of what is written
     }
 }
 
@@ -93,12 +116,14 @@ codes! {
     /// ```
     /// assert_eq!(pef::SymbolClass::from(2), pef::SymbolClass::TransitionVector);
     /// ```
-    SymbolClass {
-        Code = PEF_CLASS_CODE "code",
-        Data = PEF_CLASS_DATA "data",
-        TransitionVector = PEF_CLASS_TVECTOR "tvector",
-        Toc = PEF_CLASS_TOC "toc",
-        Glue = PEF_CLASS_GLUE "glue",
+    SymbolClass, word {
+        // SymbolClass: written by tools/declarations from docs/codes.table
+        Code = PEF_CLASS_CODE "code" "code",
+        Data = PEF_CLASS_DATA "data" "data",
+        TransitionVector = PEF_CLASS_TVECTOR "tvector" "transition vector",
+        Toc = PEF_CLASS_TOC "toc" "TOC",
+        Glue = PEF_CLASS_GLUE "glue" "glue",
+        // the end of what is written
     }
 }
 
@@ -123,11 +148,9 @@ impl fmt::Debug for Count<'_> {
 /// A container's header.
 ///
 /// ```
-/// # #[cfg(feature = "native")] {
 /// let bytes = pef::link("versions 3 2 1\n")?;
 /// let header = pef::Container::read(&bytes)?.header();
 /// assert_eq!((header.current_version, header.old_def_version, header.old_imp_version), (3, 2, 1));
-/// # }
 /// # Ok::<(), Box<dyn std::error::Error>>(())
 /// ```
 #[derive(Clone, Copy, Debug, PartialEq, Eq)]
@@ -145,6 +168,8 @@ pub struct Header {
     pub section_count: u16,
     /// How many of them are instantiated in memory: the first ones.
     pub instantiated_section_count: u16,
+    /// Four characters: `pwpc`, or in a container that [`Damaged`](crate::Damaged) reads also `m68k` or any other.
+    pub architecture: [u8; 4],
 }
 
 impl Header {
@@ -156,6 +181,7 @@ impl Header {
             old_imp_version: row.old_imp_version,
             section_count: row.section_count,
             instantiated_section_count: row.instantiated_section_count,
+            architecture: row.architecture.to_be_bytes(),
         }
     }
 }
@@ -163,12 +189,10 @@ impl Header {
 /// A section's header and raw bytes.
 ///
 /// ```
-/// # #[cfg(feature = "native")] {
 /// let bytes = pef::link("section data data process 4 8\nbytes data 0000002A\n")?;
 /// let section = pef::Container::read(&bytes)?.section(0).unwrap();
 /// assert_eq!((section.kind, section.total_size), (pef::SectionKind::Data, 8));
 /// assert_eq!(*section.expand()?, [0, 0, 0, 42]);
-/// # }
 /// # Ok::<(), Box<dyn std::error::Error>>(())
 /// ```
 #[derive(Clone, Copy, PartialEq, Eq)]
@@ -274,12 +298,10 @@ impl fmt::Debug for Section<'_> {
 /// An entry point: a place in a section.
 ///
 /// ```
-/// # #[cfg(feature = "native")] {
 /// let bytes = pef::link("section data data process 4 8\nmain data 4\n")?;
 /// let container = pef::Container::read(&bytes)?;
 /// assert_eq!(container.main().map(|it| (it.section, it.offset)), Some((0, 4)));
 /// assert_eq!(container.init(), None);
-/// # }
 /// # Ok::<(), Box<dyn std::error::Error>>(())
 /// ```
 #[derive(Clone, Copy, Debug, PartialEq, Eq, Hash)]
@@ -299,12 +321,10 @@ impl Entry {
 /// An imported library: the fragment that it names, and the versions that fit.
 ///
 /// ```
-/// # #[cfg(feature = "native")] {
 /// let bytes = pef::link("library Tools 5 4 weak\nimport start code strong\n")?;
 /// let container = pef::Container::read(&bytes)?;
 /// let library = container.libraries().next().unwrap();
 /// assert_eq!((library.name, library.weak, library.imports), (&b"Tools"[..], true, 0..1));
-/// # }
 /// # Ok::<(), Box<dyn std::error::Error>>(())
 /// ```
 #[derive(Clone, PartialEq, Eq)]
@@ -353,11 +373,9 @@ impl fmt::Debug for Library<'_> {
 /// An imported symbol.
 ///
 /// ```
-/// # #[cfg(feature = "native")] {
 /// let bytes = pef::link("library Tools 5 4 -\nimport start code weak\n")?;
 /// let import = pef::Container::read(&bytes)?.imports().next().unwrap();
 /// assert_eq!((import.name, import.library, import.weak), (&b"start"[..], Some(0), true));
-/// # }
 /// # Ok::<(), Box<dyn std::error::Error>>(())
 /// ```
 #[derive(Clone, Copy, PartialEq, Eq)]
@@ -402,7 +420,6 @@ impl fmt::Debug for Import<'_> {
 /// What an exported symbol is.
 ///
 /// ```
-/// # #[cfg(feature = "native")] {
 /// let bytes = pef::link("section data data process 4 8\nexport answer data data 4\nabsolute version data 3\n")?;
 /// for export in pef::Container::read(&bytes)?.exports() {
 ///     match export.value {
@@ -411,7 +428,6 @@ impl fmt::Debug for Import<'_> {
 ///         other => println!("{other:?}"),
 ///     }
 /// }
-/// # }
 /// # Ok::<(), Box<dyn std::error::Error>>(())
 /// ```
 #[derive(Clone, Copy, Debug, PartialEq, Eq, Hash)]
@@ -440,11 +456,9 @@ pub enum ExportValue {
 /// An exported symbol.
 ///
 /// ```
-/// # #[cfg(feature = "native")] {
 /// let bytes = pef::link("section data data process 4 8\nexport answer data data 4\n")?;
 /// let export = pef::Container::read(&bytes)?.find("answer").unwrap();
 /// assert_eq!(export.value, pef::ExportValue::InSection { section: 0, offset: 4 });
-/// # }
 /// # Ok::<(), Box<dyn std::error::Error>>(())
 /// ```
 #[derive(Clone, Copy, PartialEq, Eq)]
@@ -486,12 +500,10 @@ impl fmt::Debug for Export<'_> {
 /// A relocation header: the section that is relocated, and its program.
 ///
 /// ```
-/// # #[cfg(feature = "native")] {
 /// let bytes = pef::link("section data data process 4 8\nfix data 4 section data\n")?;
 /// let relocation = pef::Container::read(&bytes)?.relocations().next().unwrap();
 /// let fixups = relocation.fixups().collect::<Result<Vec<_>, _>>()?;
 /// assert_eq!((relocation.section, fixups[0].offset), (0, 4));
-/// # }
 /// # Ok::<(), Box<dyn std::error::Error>>(())
 /// ```
 #[derive(Clone, Copy)]
@@ -515,7 +527,7 @@ impl<'a> Relocation<'a> {
     ///
     /// Words, sections and imports needn't exist. A program can make up to 17,179,869,184 additions.
     ///
-    /// An error ends the iterator: 31 to 36 for a damaged program, or 1 to 20 for a damaged container.
+    /// An error ends the iterator: 31 to 36 for a damaged program, or 201 if its instructions extend past the loader section.
     pub fn fixups(&self) -> Fixups<'a> {
         Fixups::new(self.container, self.number)
     }
@@ -534,11 +546,9 @@ impl fmt::Debug for Relocation<'_> {
 /// What is added to a word: the address of the section or of the target of the import with this number.
 ///
 /// ```
-/// # #[cfg(feature = "native")] {
 /// let bytes = pef::link("library Tools 1 0 -\nimport answer data strong\nsection data data process 4 4\nfix data 0 import answer\n")?;
 /// let fixup = pef::Container::read(&bytes)?.relocations().next().unwrap().fixups().next().unwrap()?;
 /// assert_eq!(fixup.target, pef::FixupTarget::Import(0));
-/// # }
 /// # Ok::<(), Box<dyn std::error::Error>>(())
 /// ```
 #[derive(Clone, Copy, Debug, PartialEq, Eq, Hash)]
@@ -551,11 +561,9 @@ pub enum FixupTarget {
 /// An addition of a relocation program: the offset of a word in the section, and what is added to it.
 ///
 /// ```
-/// # #[cfg(feature = "native")] {
 /// let bytes = pef::link("section data data process 4 8\nfix data 4 section data\n")?;
 /// let fixup = pef::Container::read(&bytes)?.relocations().next().unwrap().fixups().next().unwrap()?;
 /// assert_eq!(fixup, pef::Fixup { offset: 4, target: pef::FixupTarget::Section(0) });
-/// # }
 /// # Ok::<(), Box<dyn std::error::Error>>(())
 /// ```
 #[derive(Clone, Copy, Debug, PartialEq, Eq, Hash)]

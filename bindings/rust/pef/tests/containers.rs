@@ -1,5 +1,4 @@
 //! Containers that are sound.
-#![cfg(feature = "native")]
 
 mod common;
 
@@ -8,47 +7,9 @@ use std::io::Read;
 use common::{hex, linked};
 use pef::{Code, Container, Entry, ExportValue, Fixup, FixupTarget, Listing, SectionKind, Share, SymbolClass};
 
-/// An offset, section or import, and the number.
-type Said = (u64, char, u64);
-
-/// Relocation programs, and the fixups that docs/FORMATS.md gives them.
-const PROGRAMS: &[(&str, &[Said])] = &[
-    ("0041", &[(4, 's', 1)]),
-    ("4001", &[(0, 's', 0), (4, 's', 0)]),
-    ("4401", &[(0, 's', 0), (4, 's', 1), (12, 's', 0), (16, 's', 1)]),
-    ("4601", &[(0, 's', 0), (4, 's', 1), (8, 's', 0), (12, 's', 1)]),
-    ("4801", &[(0, 's', 1), (8, 's', 1)]),
-    ("6005 4A00", &[(0, 'i', 5), (4, 'i', 6)]),
-    ("6203 6402 4600", &[(0, 's', 3), (4, 's', 2)]),
-    ("8002 6604", &[(3, 's', 4)]),
-    ("A000 0010 A400 0258 4A00", &[(16, 'i', 600), (20, 'i', 601)]),
-    ("4200 8003 9100", &[(0, 's', 1), (8, 's', 1)]),
-    ("A400 0007 B040 0002", &[(0, 'i', 7), (4, 'i', 7), (8, 'i', 7)]),
-    ("B440 0202 B480 0203 B400 0201", &[(0, 's', 513)]),
-];
-
 /// Where some bytes are in others.
 fn position(bytes: &[u8], wanted: &[u8]) -> usize {
     bytes.windows(wanted.len()).position(|it| it == wanted).unwrap()
-}
-
-/// A container with one relocation header, whose program is this one.
-fn with_program(program: &[u8]) -> Vec<u8> {
-    // six words are skipped before each: a long program
-    let lines: String = (0..4000).step_by(28).map(|at| format!("fix d {at} section d\n")).collect();
-    let mut bytes = pef::link(&format!("section d data process 4 4096\n{lines}")).unwrap();
-    let instructions = Container::read(&bytes).unwrap().relocations().next().unwrap().instructions.to_vec();
-    let at = position(&bytes, &instructions);
-    let mut header = vec![0; 4];
-    header.extend((instructions.len() as u32 / 2).to_be_bytes());
-    let header = position(&bytes, &header);
-    bytes[at..at + program.len()].copy_from_slice(program);
-    bytes[header + 4..header + 8].copy_from_slice(&(program.len() as u32 / 2).to_be_bytes());
-    bytes
-}
-
-fn fixups(bytes: &[u8]) -> Result<Vec<Fixup>, pef::Error> {
-    Container::read(bytes).unwrap().relocations().next().unwrap().fixups().collect()
 }
 
 #[test]
@@ -56,6 +17,7 @@ fn imports_and_exports() {
     let bytes = linked("imports-and-exports");
     let it = Container::read(&bytes).unwrap();
     assert_eq!((it.header().current_version, it.header().section_count, it.header().instantiated_section_count), (3, 3, 2));
+    assert_eq!(&it.header().architecture, b"pwpc");
     let libraries: Vec<_> = it.libraries().collect();
     let said: Vec<_> = libraries.iter().map(|it| (it.name, it.weak, it.init_before)).collect();
     assert_eq!(said, [(&b"Tools"[..], false, true), (b"Extras", true, false), (b"Idle", true, true)]);
@@ -93,30 +55,24 @@ fn relocations() {
     let rows: Vec<_> = Container::read(&bytes).unwrap().relocations().collect();
     assert_eq!((rows.len(), rows[0].number, rows[0].section, rows[0].instructions), (1, 0, 1, &[0x46, 1][..]));
     assert_eq!(Container::read(&linked("stub-library")).unwrap().relocations().count(), 0);
-    // The first program moves on by a word and adds section 0: no instruction of one halfword does both.
-    let bytes = pef::link("section a data process 4 8\nsection b data process 4 4\nfix a 4 section a\nfix b 0 section a\n").unwrap();
-    let rows: Vec<_> = Container::read(&bytes).unwrap().relocations().collect();
-    assert_eq!(rows.iter().map(|it| (it.section, it.instructions.len())).collect::<Vec<_>>(), [(0, 4), (1, 2)]);
-    assert!([[0x40, 0], [0x66, 0]].iter().any(|it| it == rows[1].instructions));
 }
 
+/// More additions than are read at once, and a program with an error.
 #[test]
-fn additions_of_programs() {
-    for (program, wanted) in PROGRAMS {
-        let found: Vec<_> = fixups(&with_program(&hex(program))).unwrap();
-        let said: Vec<_> = found
-            .iter()
-            .map(|it| match it.target {
-                FixupTarget::Section(number) => (it.offset, 's', number),
-                FixupTarget::Import(number) => (it.offset, 'i', number),
-            })
-            .collect();
-        assert_eq!(said, *wanted, "{program}");
-    }
-    let many = fixups(&with_program(&hex("43FF 9009"))).unwrap(); // more than are read at once
-    assert!(many.iter().map(|it| it.offset).eq((0..4 * 512 * 11).step_by(4)));
-    assert!(many.iter().all(|it| it.target == FixupTarget::Section(1)));
-    assert_eq!(fixups(&with_program(&hex("9000"))).unwrap_err().code(), Code::RelocRepeatTooFar);
+fn additions() {
+    let lines: String = (0..3000).map(|at| format!("fix d {} import v\n", 8 * at)).collect();
+    let script = format!("library L 1 0 -\nimport v data strong\nsection d data process 4 24000\n{lines}fix d 4 section d\n");
+    let mut bytes = pef::link(&script).unwrap();
+    let relocation = Container::read(&bytes).unwrap().relocations().next().unwrap();
+    let at = relocation.instructions.as_ptr() as usize - bytes.as_ptr() as usize;
+    let mut found: Vec<Fixup> = relocation.fixups().map(Result::unwrap).collect();
+    found.sort_by_key(|it| it.offset);
+    assert_eq!((found.len(), found[0].offset, found[0].target), (3001, 0, FixupTarget::Import(0)));
+    assert_eq!((found.remove(1).offset, found[1].offset), (4, 8));
+    assert!(found.iter().enumerate().all(|(number, it)| it.offset == 8 * number as u64 && it.target == FixupTarget::Import(0)));
+    bytes[at..at + 2].copy_from_slice(&[0x90, 0]); // a repeat of what isn't there
+    let error = Container::read(&bytes).unwrap().relocations().next().unwrap().fixups().next().unwrap().unwrap_err();
+    assert_eq!(error.code(), Code::RelocRepeatTooFar);
 }
 
 #[test]

@@ -1,15 +1,11 @@
 //! Contexts: what is prepared, and what the errors are.
-#![cfg(feature = "native")]
 
 mod common;
 
 use std::sync::atomic::{AtomicBool, Ordering};
 
 use common::linked;
-use pef::{Code, Connection, Context, ContextOptions, Entries, Error, Fragments, MissingLibrary, SectionKind, Share, SymbolClass, Target};
-
-/// The fragments that weak libraries need: `Late` isn't there.
-const WEAK: &str = "library Late 1 0 weak\nimport v data strong\nsection w data process 4 4\nfix w 0 import v\n";
+use pef::{Code, Connection, Context, ContextOptions, Entries, Error, Fragments, SectionKind, Share, StubValues, SymbolClass, Target};
 
 fn names(fragments: Fragments<'_, '_>) -> Vec<String> {
     fragments.map(|it| it.name().escape_ascii().to_string()).collect()
@@ -50,24 +46,62 @@ fn a_library_and_what_uses_it() {
 
 #[test]
 fn missing_libraries() {
-    let [app, library, other] =
-        ["library W 1 0 weak\nlibrary L 1 0 -\nlibrary S 7 5 -\n", "versions 1 0 0\nlibrary W 2 1 -\n", "versions 3 2 0\n"]
-            .map(|script| pef::link(script).unwrap());
+    let app = pef::link("library W 1 0 weak\nlibrary S 7 5 -\n").unwrap();
+    let other = pef::link("versions 3 2 0\n").unwrap();
     let context = Context::new().unwrap();
-    refuses(60, context.missing("App"));
+    assert_eq!(named(&refuses(60, context.missing("App"))), [""; 0]);
     context.add("App", &app).unwrap();
-    let rows = |missing: Vec<MissingLibrary<'_>>| {
-        missing.iter().map(|it| (it.name[0], it.fragment, it.current_version, it.old_imp_version, it.weak, it.found)).collect::<Vec<_>>()
-    };
-    let asked = [(b'W', 0, 1, 0, true, None), (b'L', 0, 1, 0, false, None), (b'S', 0, 7, 5, false, None)];
-    assert_eq!(rows(context.missing("App").unwrap()), asked);
-    context.add("L", &library).unwrap();
     context.add("S", &other).unwrap();
-    let asked = [(b'W', 1, 2, 1, false, None), (b'S', 0, 7, 5, false, Some((3, 2)))];
-    assert_eq!(rows(context.missing("App").unwrap()), asked);
-    assert_eq!(context.missing("S").unwrap(), []);
+    let rows = context.missing("App").unwrap();
+    let said: Vec<_> = rows.iter().map(|it| (it.name[0], it.fragment, it.current_version, it.old_imp_version, it.weak, it.found)).collect();
+    assert_eq!(said, [(b'W', 0, 1, 0, true, None), (b'S', 0, 7, 5, false, Some((3, 2)))]);
     context.add("W", b"no container").unwrap();
     assert_eq!(named(&refuses(1, context.missing("App"))), ["W"]);
+}
+
+/// More than one call has places for.
+#[test]
+fn many_missing_libraries() {
+    let app = pef::link(&(0..300).map(|it| format!("library L{it} 0 0 weak\n")).collect::<String>()).unwrap();
+    let context = Context::new().unwrap();
+    context.add("App", &app).unwrap();
+    let missing = context.missing("App").unwrap();
+    assert!(missing.len() == 300 && missing.iter().enumerate().all(|(at, it)| it.name == format!("L{at}").as_bytes()));
+}
+
+/// Stubs of what nobody has, and who owns them. What they have is tried in cases/library.
+#[test]
+fn stubs_of_what_is_lacking() {
+    let script = "library S 7 5 -\nimport f tvector strong\nlibrary W 1 0 weak\nimport g data weak\nsection d data process 4 8\n";
+    let app = pef::link(&format!("{script}fix d 0 import f\nfix d 4 import g\n")).unwrap();
+    let (mut few, mut kept) = (Vec::new(), Vec::new());
+    let context = Context::new().unwrap();
+    context.add("App", &app).unwrap();
+    let lacking: Vec<_> = context.lacking().unwrap().iter().map(|it| (it.name[0], it.weak)).collect();
+    assert_eq!(lacking, [(b'S', false), (b'W', true)]);
+    let past = StubValues::Numbers { first: u32::MAX - 7, step: 16 };
+    assert_eq!(named(&refuses(214, context.add_stubs(past, true, &mut few))), ["W"]);
+    assert_eq!((context.lacking().unwrap().len(), context.stub("S", past).unwrap().symbol_count()), (2, 1));
+    let stubs = context.add_stubs(StubValues::default(), true, &mut kept).unwrap();
+    assert_eq!(stubs.iter().map(|it| it.library()[0]).collect::<Vec<_>>(), b"SW");
+    let connection = context.prepare("App").unwrap();
+    assert_eq!(connection.root().section(0).unwrap().to_vec().unwrap(), [0xF0, 0, 0, 0, 0xF0, 0, 0, 0x10]);
+    assert_eq!(connection.fragments().next().unwrap().name().as_ptr(), stubs[0].library().as_ptr());
+}
+
+/// A library that each fragment can do without gets no stub if that is asked, and memory takes the place of numbers.
+#[test]
+fn stubs_in_memory() {
+    let app =
+        pef::link("library S 7 5 -\nimport f data strong\nlibrary W 1 0 weak\nsection d data process 4 4\nfix d 0 import f\n").unwrap();
+    let mut kept = Vec::new();
+    let context = Context::new().unwrap();
+    context.add("App", &app).unwrap();
+    let stubs = context.add_stubs(StubValues::Memory { word: 0x4400_0002, zeros: 32 }, false, &mut kept).unwrap();
+    assert_eq!((stubs.len(), context.lacking().unwrap().len()), (1, 1));
+    let connection = context.prepare("App").unwrap();
+    let stub = connection.fragments().next().unwrap();
+    assert_eq!((stub.symbol("f"), stub.sections().last().unwrap().to_vec().unwrap()), (Some(0x10010), vec![0; 32]));
 }
 
 #[test]
@@ -75,17 +109,62 @@ fn sections_at_given_addresses() {
     let app = pef::link("section s data process 4 20\nsection t data global 6 16\n").unwrap();
     let context = Context::new().unwrap();
     refuses(60, context.new_sections("App"));
-    refuses(60, context.prepare_at("App", &[]));
     context.add("App", &app).unwrap();
     let sections = context.new_sections("App").unwrap();
     let rows: Vec<_> = sections.iter().map(|it| (it.fragment, it.number, it.kind, it.share, it.size, it.alignment)).collect();
     assert_eq!(rows, [(0, 0, SectionKind::Data, Share::Process, 32, 16), (0, 1, SectionKind::Data, Share::Global, 16, 64)]);
-    refuses(210, context.prepare_at("App", &[0x20000]));
+    refuses(210, context.prepare_at("App", &[]));
     assert_eq!(named(&refuses(67, context.prepare_at("App", &[0x20000, 0x20020]))), ["App"]);
     let connection = context.prepare_at("App", &[0x20000, 0x10040]).unwrap();
     let addresses: Vec<_> = connection.root().sections().map(|it| it.address()).collect();
     assert_eq!(addresses, [0x20000, 0x10040]);
-    assert_eq!(context.new_sections("App").unwrap(), []);
+}
+
+/// Each option, and the error of what it forbids.
+#[test]
+fn options() {
+    let two = pef::link("versions 1 0 0\nsection a data process 4 17\nsection b data process 4 4\nfix a 0 section a\nfix b 0 section a\n")
+        .unwrap();
+    let prepared = |options: ContextOptions| {
+        let context = Context::with(options)?;
+        context.add("A", &two)?;
+        context.prepare("A")?.close()?;
+        let connection = context.prepare("A")?;
+        let addresses: Vec<_> = connection.root().sections().map(|it| it.address()).collect();
+        Ok(addresses)
+    };
+    let usual = ContextOptions::default;
+    assert_eq!(prepared(usual()).unwrap(), [0x10000, 0x10020]);
+    assert_eq!(prepared(usual().granule(4096)).unwrap(), [0x10000, 0x11000]);
+    for (number, options) in [
+        (67, usual().limit(0x10020)),
+        (69, usual().connections(1)),
+        (70, usual().steps(1)),
+        (75, usual().bytes(47)),
+        (205, usual().granule(24)),
+    ] {
+        refuses(number, prepared(options));
+    }
+}
+
+/// Ranges that are out of use, and fragments that are added and removed.
+#[test]
+fn ranges_and_removals() {
+    let tools = linked("shared-library");
+    let context = Context::new().unwrap();
+    context.reserve(0x10000, 0x20).unwrap();
+    refuses(67, context.reserve(0x10010, 1));
+    refuses(201, context.unreserve(0x10000, 0x10));
+    context.add("Tools", &tools).unwrap();
+    refuses(209, context.add_new("Tools", &tools));
+    let connection = context.prepare("Tools").unwrap();
+    assert_eq!(connection.root().section(0).unwrap().address(), 0x10020);
+    refuses(207, context.remove("Tools"));
+    connection.close().unwrap();
+    context.remove("Tools").unwrap();
+    context.unreserve(0x10000, 0x20).unwrap();
+    context.add_new(b"Tools", &tools).unwrap();
+    assert_eq!(context.prepare("Tools").unwrap().root().section(0).unwrap().address(), 0x10000);
 }
 
 #[test]
@@ -168,22 +247,6 @@ fn what_changes_with_a_connection() {
 }
 
 #[test]
-fn what_is_present() {
-    let (user, tools) = (linked("uses-library"), linked("shared-library"));
-    let context = Context::new().unwrap();
-    context.add("user", &user).unwrap();
-    context.add("Tools", &tools).unwrap();
-    let present = || ["user", "Tools", "Late", ""].iter().filter(|it| context.is_present(**it)).count();
-    assert_eq!(present(), 0);
-    let (first, second) = (context.prepare("user").unwrap(), context.prepare("Tools").unwrap());
-    assert_eq!((present(), context.is_present("user"), context.is_present(b"Tools")), (2, true, true));
-    first.close().unwrap();
-    assert_eq!((present(), context.is_present("Tools")), (1, true));
-    second.close().unwrap();
-    assert_eq!(present(), 0);
-}
-
-#[test]
 fn what_imports_and_exports_mean() {
     let (user, tools) = (linked("uses-library"), linked("shared-library"));
     let context = Context::new().unwrap();
@@ -199,15 +262,6 @@ fn what_imports_and_exports_mean() {
     assert!(connection.root().import_target(1).is_none());
     let tools = connection.fragments().next().unwrap();
     assert_eq!((tools.export_address(0), tools.export_address(1)), (Some(0x10000), None));
-
-    let number = pef::link("versions 1 0 0\nabsolute v data 77\n").unwrap();
-    let user = pef::link("library L 1 0 -\nimport v data strong\n").unwrap();
-    let context = Context::new().unwrap();
-    context.add("L", &number).unwrap();
-    context.add("user", &user).unwrap();
-    let connection = context.prepare("user").unwrap();
-    let target = connection.root().import_target(0).unwrap();
-    assert!(matches!(target, Target::Absolute(77)) && target.address() == 77);
 }
 
 /// N: k at 10000, l at 10010. The section of A is after them, at 10020.
@@ -250,47 +304,12 @@ fn exports_and_where_an_address_is() {
     }
     assert!(root.export_named("hig").is_none() && root.export(6).is_none());
 
-    let at = |address| {
-        let it = context.at(address)?;
-        Some((it.fragment, it.section, it.offset, it.nearest.map(|it| (it.name, it.offset))))
-    };
-    let (v, low, high) = (Some((&b"v"[..], 4)), Some((&b"low"[..], 4)), Some((&b"high"[..], 12)));
-    assert_eq!([at(0x10003), at(0x10004), at(0x10014)], [Some((1, 0, 3, None)), None, Some((1, 1, 4, v))]);
-    assert_eq!([at(0x10023), at(0x10024), at(0x1002B)], [Some((0, 0, 3, None)), Some((0, 0, 4, low)), Some((0, 0, 11, low))]);
-    assert_eq!([at(0x1002F), at(0x10030), at(0xFFFF)], [Some((0, 0, 15, high)), None, None]);
-    connection.close().unwrap();
-    assert!(context.at(0x10014).is_none());
-}
-
-#[test]
-fn reserved() {
-    let tools = linked("shared-library");
-    let context = Context::new().unwrap();
-    context.add("Tools", &tools).unwrap();
-    context.reserve(0x10001, 0xF).unwrap();
-    context.reserve(0x10000, 0).unwrap();
-    refuses(67, context.reserve(0x1000F, 1));
-    refuses(67, context.reserve(0xFFFF_FFF0, 17));
-    let connection = context.prepare("Tools").unwrap();
-    assert_eq!(connection.root().section(0).unwrap().address(), 0x10010);
-    refuses(67, context.reserve(0x10010, 1));
-}
-
-#[test]
-fn given_back() {
-    let tools = linked("shared-library");
-    let context = Context::new().unwrap();
-    context.add("Tools", &tools).unwrap();
-    context.reserve(0x10000, 0x20).unwrap();
-    context.reserve(0x10020, 0x10).unwrap();
-    for (address, size) in [(0x10000, 0x10), (0x10000, 0x30), (0x10030, 1)] {
-        refuses(201, context.unreserve(address, size));
-    }
-    context.unreserve(0x10030, 0).unwrap();
-    context.unreserve(0x1000F, 0x11).unwrap();
-    refuses(201, context.unreserve(0x10000, 0x20));
-    let connection = context.prepare("Tools").unwrap();
-    assert_eq!(connection.root().section(0).unwrap().address(), 0x10000);
+    let at = |address| context.at(address).map(|it| (it.fragment, it.section, it.offset, it.nearest));
+    assert!(at(0x10004).is_none() && at(0x10003) == Some((1, 0, 3, None)));
+    let (fragment, section, offset, nearest) = at(0x1002B).unwrap();
+    let low = nearest.unwrap();
+    assert_eq!((fragment, section, offset, low.number, low.name), (0, 0, 11, root.export_named("low").unwrap().number, &b"low"[..]));
+    assert_eq!((low.class, low.offset), (SymbolClass::TransitionVector, 4));
 }
 
 #[test]
@@ -321,85 +340,6 @@ fn errors_own_their_names() {
         context.prepare("user").unwrap_err()
     };
     assert_eq!(named(&error), ["user", "Tools"]);
-}
-
-#[test]
-fn added_too_late() {
-    let (tools, weak) = (linked("shared-library"), pef::link(WEAK).unwrap());
-    let context = Context::new().unwrap();
-    context.add("Tools", &tools).unwrap();
-    let _tools = context.prepare("Tools").unwrap();
-    context.add("more", b"").unwrap();
-    context.add("weak", &weak).unwrap();
-    let without = context.prepare("weak").unwrap();
-    refuses(203, context.add("Late", b""));
-    let target = without.root().import_target(0).unwrap();
-    assert!(matches!(target, Target::Missing) && target.address() == 0);
-    without.close().unwrap();
-    context.add("Late", b"").unwrap();
-}
-
-#[test]
-fn as_many_fragments_as_there_may_be() {
-    let names: Vec<String> = (0..257).map(|it| it.to_string()).collect();
-    let context = Context::new().unwrap();
-    for name in &names[..256] {
-        context.add(name, b"").unwrap();
-    }
-    refuses(204, context.add(&names[256], b""));
-    assert_eq!(context.fragment_name(255), Some(&b"255"[..]));
-}
-
-#[test]
-fn no_room() {
-    let it = pef::link("section d data process 4 17\n").unwrap();
-    let context = Context::with(ContextOptions::new().limit(0x10010)).unwrap();
-    context.add("it", &it).unwrap();
-    assert_eq!(named(&refuses(67, context.prepare("it"))), ["it"]);
-}
-
-#[test]
-fn pages() {
-    let it = pef::link("versions 1 0 0\nsection a data process 4 4\nsection b data process 4 4\n").unwrap();
-    let context = Context::with(ContextOptions::new().granule(4096)).unwrap();
-    context.add("A", &it).unwrap();
-    let connection = context.prepare("A").unwrap();
-    let mut sections = connection.root().sections();
-    assert_eq!(sections.len(), 2);
-    assert!([0x10000, 0x11000].iter().all(|address| sections.next().unwrap().address() == *address));
-}
-
-#[test]
-fn as_many_connections_as_asked_for() {
-    let it = pef::link("versions 1 0 0\nsection a data process 4 4\n").unwrap();
-    let context = Context::with(ContextOptions::new().connections(2)).unwrap();
-    context.add("A", &it).unwrap();
-    context.prepare("A").unwrap().close().unwrap();
-    let _second = context.prepare("A").unwrap();
-    assert_eq!(named(&refuses(69, context.prepare("A"))), [""; 0]);
-}
-
-#[test]
-fn bounds() {
-    let two = pef::link("versions 1 0 0\nsection a data process 4 17\nsection b data process 4 4\nfix a 0 section a\nfix b 0 section a\n")
-        .unwrap();
-    let prepared = |options: ContextOptions| {
-        let context = Context::with(options).unwrap();
-        context.add("A", &two).unwrap();
-        context.prepare("A").map(drop)
-    };
-    let usual = ContextOptions::default;
-    assert!(prepared(usual().bytes(48)).is_ok() && prepared(usual().steps(2)).is_ok());
-    assert_eq!(named(&refuses(75, prepared(usual().bytes(47)))), ["A"]);
-    assert_eq!(named(&refuses(70, prepared(usual().steps(1)))), ["A"]);
-}
-
-#[test]
-fn options_that_are_none() {
-    for granule in [8, 24] {
-        refuses(205, Context::with(ContextOptions::new().granule(granule)));
-    }
-    assert!(Context::with(ContextOptions::new().granule(0).limit(0)).is_ok());
 }
 
 /// What a thread reads of a connection.

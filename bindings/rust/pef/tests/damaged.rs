@@ -1,10 +1,9 @@
 //! Containers that may be damaged.
-#![cfg(feature = "native")]
 
 mod common;
 
-use common::{all_linked, damaged, damaged_rows, Random, ROWS};
-use pef::{findings, Container, Damaged, Entry, Listing, SectionKind, SymbolClass};
+use common::{all_linked, damaged, damaged_rows, examples, ROWS};
+use pef::{findings, Code, Container, Damaged, Entry, Listing, SectionKind, SymbolClass};
 
 #[test]
 fn a_header_that_is_refused() {
@@ -12,6 +11,9 @@ fn a_header_that_is_refused() {
     assert_eq!(Container::read(&bytes).unwrap_err().number(), 4);
     let it = Damaged::read(&bytes).unwrap();
     assert_eq!((it.header().section_count, it.header().instantiated_section_count), (1, 0));
+    let mut other = damaged();
+    other[8..12].copy_from_slice(b"m68k");
+    assert_eq!((&it.header().architecture, &Damaged::read(&other).unwrap().header().architecture), (b"pwpc", b"m68k"));
     let sections: Vec<_> = it.sections().collect();
     assert_eq!(sections.len(), 1);
     let section = sections[0];
@@ -50,7 +52,7 @@ fn a_damaged_row_hides_no_other() {
     assert_eq!(*it.section(0).unwrap().expand().unwrap(), [0, 0, 0, 0x2A]);
     assert_eq!(Listing::open(&bytes).unwrap_err().number(), 13);
     let mut fixups = relocations[0].fixups();
-    assert!(fixups.next().unwrap().is_err());
+    assert_eq!(fixups.next().unwrap().unwrap_err().code(), Code::NotThere);
     assert!(fixups.next().is_none());
 }
 
@@ -98,13 +100,11 @@ fn a_sound_container_is_read_as_ever() {
 
 /// What is found in a damaged container never contradicts the other calls, and the iterators give as many rows as the container says.
 #[test]
-fn random_damage() {
-    let mut random = Random(1904);
-    for sound in all_linked().iter().take(12) {
-        for _ in 0..40 {
-            check(&random.damage(sound));
-        }
-    }
+fn containers_of_all_kinds() {
+    let cases = std::fs::read_dir(examples().join("../conformance/cases")).unwrap().map(|it| it.unwrap().path());
+    let containers: Vec<_> = cases.filter(|it| it.extension().map_or(false, |end| end == "pef")).collect();
+    assert!(containers.len() > 250);
+    containers.iter().for_each(|it| check(&std::fs::read(it).unwrap()));
 }
 
 fn check(bytes: &[u8]) {

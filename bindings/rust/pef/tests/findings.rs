@@ -1,19 +1,18 @@
 //! All errors of a container and notes on it, and reports.
-#![cfg(feature = "native")]
 
 mod common;
 
 use std::io::Read;
 
-use common::{all_linked, damaged, damaged_rows, linked};
-use pef::{findings, Code, Container, Damaged, Finding, Part, Report};
+use common::{all_linked, damaged};
+use pef::{findings, Code, Container, Damaged, DetailKind, Finding, Part, Report};
 
-/// The number, whether it is an error, the place, and the detail.
-type Fields = (u32, bool, Part, usize, usize, Option<usize>, Option<u64>);
+/// The number, whether it is an error, the place, and the detail with its kind.
+type Fields = (u32, bool, Part, usize, usize, Option<usize>, Option<(DetailKind, u64)>);
 
 fn fields(it: &Finding) -> Fields {
     let place = it.place.unwrap();
-    (it.code.number(), it.is_error, place.part, place.row, place.field, place.offset, it.detail)
+    (it.code.number(), it.is_error, place.part, place.row, place.field, place.offset, it.detail.map(|detail| (it.detail_kind, detail)))
 }
 
 fn found(bytes: &[u8]) -> Vec<Fields> {
@@ -42,35 +41,12 @@ fn errors_and_then_notes() {
 }
 
 #[test]
-fn each_row() {
-    let wanted = [
-        (13, true, Part::Library, 0, 0, Some(200), None),
-        (15, true, Part::Import, 0, 0, Some(224), None),
-        (18, true, Part::RelocationHeader, 0, 4, Some(232), None),
-    ];
-    assert_eq!(found(&damaged_rows()), wanted);
-}
-
-#[test]
 fn a_word_past_its_section() {
     // The headers have 96 bytes, the section's are at 96, and the loader section at 112: the program is at 112 + 56 + 12.
     let mut bytes = pef::link("section d data process 4 8\nbytes d 0102030405060708\nfix d 0 section d\nfix d 4 section d\n").unwrap();
     assert_eq!(bytes[180..182], [0x40, 1]); // a run of two words
     bytes[181] = 2;
-    assert_eq!(found(&bytes), [(37, true, Part::Program, 0, 0, Some(180), Some(8))]);
-}
-
-#[test]
-fn bytes_that_belong_to_no_part() {
-    // six bytes after the loader section, which ends at 124
-    let mut longer = damaged();
-    longer.extend(b"abcdef");
-    assert_eq!(found(&longer).last(), Some(&(109, false, Part::ContainerHeader, 0, 124, Some(124), Some(6))));
-    // the loader section begins 4 bytes later, after bytes that aren't 0
-    let mut moved = damaged();
-    moved[63] = 72;
-    moved.splice(68..68, *b"abcd");
-    assert_eq!(found(&moved).last(), Some(&(113, false, Part::ContainerHeader, 0, 68, Some(68), Some(4))));
+    assert_eq!(found(&bytes), [(37, true, Part::Program, 0, 0, Some(180), Some((DetailKind::Word, 8)))]);
 }
 
 #[test]
@@ -111,9 +87,6 @@ fn a_sound_container_has_no_errors() {
     for bytes in all_linked() {
         assert!(Container::read(&bytes).unwrap().findings().unwrap().iter().all(|it| !it.is_error));
     }
-    // Its section 1 has no image. The first instruction of its program is 160 bytes into the loader section, at 144.
-    let notes = findings(&linked("imports-and-exports")).unwrap();
-    assert_eq!(notes.iter().map(|it| (it.code, it.place.unwrap().offset)).collect::<Vec<_>>(), [(Code::NoteWordOutsideImage, Some(304))]);
 }
 
 fn text(mut report: Report) -> String {
@@ -160,6 +133,37 @@ fn a_report_in_parts() {
         assert_eq!(report.read_part(&mut buffer).unwrap(), 0);
         assert_eq!(report.read_part(&mut []).unwrap(), 0);
     }
+}
+
+/// The parts of the report on a file are its text, one after the other.
+#[test]
+fn parts_of_a_report() {
+    let two = [damaged(), vec![0; 4], damaged()].concat();
+    for file in [&b""[..], &damaged(), &two] {
+        let parts: Vec<String> = Report::parts_of_file("two of them", file).map(|it| text(it.unwrap())).collect();
+        assert_eq!(parts.concat(), text(Report::of_file("two of them", file).unwrap()));
+        let containers: Vec<_> = Report::containers_of_file(file).collect();
+        assert_eq!(parts.len(), 2 + containers.len());
+        for (it, part) in containers.iter().zip(&parts[1..]) {
+            assert_eq!(text(it.report().unwrap()), *part);
+            assert_eq!(it.bytes(), &file[it.offset()..]);
+        }
+        assert!(containers.iter().map(|it| it.number()).eq(0..containers.len() as u64));
+    }
+}
+
+/// Rows of a container are in its report as they are given.
+#[test]
+fn rows_of_a_report() {
+    let script: String = (0..5).map(|it| format!("absolute n{it} data {it}\n")).collect();
+    let bytes = pef::link(&format!("versions 1 0 0\n{script}")).unwrap();
+    let it = Report::containers_of_file(&bytes).next().unwrap();
+    let rows = |range| text(it.rows(Part::Export, range).unwrap());
+    let (whole, excerpt) = (text(it.report().unwrap()), text(it.excerpt(2).unwrap()));
+    assert!(whole.contains(&(rows(0..2) + &rows(2..9))) && rows(2..9).starts_with(','));
+    assert!(excerpt.contains(&rows(0..2)) && !excerpt.contains(&rows(2..3)));
+    assert_eq!((rows(5..6), rows(3..3)), (String::new(), String::new()));
+    assert_eq!(it.rows(Part::Line, 0..1).unwrap_err().code(), Code::NotThere);
 }
 
 /// A report may be read by another thread than the one that made it.

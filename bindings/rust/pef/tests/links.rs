@@ -1,5 +1,4 @@
 //! Scripts, and the errors of scripts and containers with their places.
-#![cfg(feature = "native")]
 
 mod common;
 
@@ -17,6 +16,23 @@ fn a_script_of_text_or_bytes() {
 fn a_container_longer_than_the_first_buffer() {
     let script = format!("section d data process 4 100000\nbytes d {}\n", "01".repeat(100_000));
     assert!(pef::link(&script).unwrap().len() > 100_000);
+}
+
+#[test]
+fn the_certificates_of_a_script() {
+    let printed = "pefcert 2\nsection 0\nfixups 0\nlength 0\nprogram -\nregisters *\nat 0 0 0\nend\n";
+    assert_eq!(pef::distances("section d data process 4 4\n").unwrap(), printed);
+    let error = pef::distances("section d data process 4 8\nfix d 0 section d\nfix d 2 section d\n").unwrap_err();
+    assert_eq!((error.code(), error.line(), error.word()), (Code::ScriptOverlap, 3, Some(2)));
+}
+
+/// 129 rows of 289 labels, all different, are more.
+#[test]
+fn certificates_longer_than_the_first_buffer() {
+    let sections: String = (1..16).map(|it| format!("section s{it} data process 0 0\n")).collect();
+    let fixups: String = (0..128).map(|it| format!("fix s0 {} section s{}\n", 512 * it, it % 16)).collect();
+    let lines = pef::distances(&format!("section s0 data process 0 65536\n{sections}{fixups}")).unwrap();
+    assert!(lines.len() > 65536 && lines.ends_with("\nend\n"), "{}", lines.len());
 }
 
 #[test]

@@ -59,8 +59,7 @@ include!("places.rs");
 #[test]
 fn as_the_c_compiler_has_it() {
     let here = PathBuf::from(env!("CARGO_MANIFEST_DIR"));
-    // the crate with the portable source has a header of its own
-    let header = [here.join("portable/pef.h"), here.join("../../../include/pef.h")].into_iter().find(|it| it.is_file()).unwrap();
+    let header = here.join("../../../include/pef.h");
     let mut compared = Compared::default();
     compare_structs(&mut compared);
     compare_constants(&mut compared);

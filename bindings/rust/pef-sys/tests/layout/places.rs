@@ -1,12 +1,14 @@
-// Written by tools/rust-declarations from include/pef.h. Change that, and run it again.
+// Written by tools/declarations from include/pef.h. Change that, and run it again.
 
 places! {
     pef_bytes { at length }
     pef_listing { handle is_open }
     pef_place { part row field offset }
-    pef_finding { place detail number is_error }
+    pef_finding { place detail number is_error detail_kind }
     pef_report { handle is_open }
-    pef_header { date_time_stamp old_def_version old_imp_version current_version section_count instantiated_section_count }
+    pef_found_container { offset length number skipped budget program_bytes steps packed_bytes words }
+    pef_row_range { offset part from count }
+    pef_header { date_time_stamp old_def_version old_imp_version current_version section_count instantiated_section_count architecture }
     pef_section { default_address total_size unpacked_size packed_size container_offset kind share alignment }
     pef_loader { main_section main_offset init_section init_offset term_section term_offset library_count import_count relocation_count export_count }
     pef_library { name current_version old_imp_version import_count first_import options }
@@ -24,6 +26,8 @@ places! {
     pef_options { size limit granule connections steps bytes }
     pef_names { fragment library symbol }
     pef_missing { name fragment current_version old_imp_version found_version found_old_def_version is_weak is_found }
+    pef_lacking { name is_weak }
+    pef_stub_options { size values first step word zeros }
     pef_new_section { fragment section kind share size alignment }
     pef_fragment_section { address size kind share }
     pef_entries { init main term has_init has_main has_term }
@@ -130,8 +134,15 @@ constants! {
     PEF_NOTE_OVERLAP
     PEF_NOTE_UNOWNED_BYTES
     PEF_NOTE_WORD_RELOCATED_TWICE
+    PEF_NOTE_CONTAINERS_UNVERIFIED
     PEF_NOTE_SECTIONS_OUT_OF_ORDER
+    PEF_NOTE_BYTES_AFTER_FORKS
+    PEF_NOTE_FRAGMENT_SHORT
+    PEF_NOTE_DATA_FORK_ELSEWHERE
+    PEF_NOTE_NOT_UNPACKED
     PEF_NOTE_NAME_OUTSIDE
+    PEF_NOTE_FRAGMENT_ARCHITECTURE
+    PEF_NOTE_FRAGMENT_USAGE
     PEF_ROOM_TOO_SMALL
     PEF_NOT_THERE
     PEF_NOT_OPEN
@@ -143,6 +154,12 @@ constants! {
     PEF_STILL_NAMED
     PEF_NAME_TAKEN
     PEF_WRONG_ADDRESS_COUNT
+    PEF_TOO_MANY_SYMBOLS
+    PEF_LONG_NAME
+    PEF_TOO_MANY_NAME_BYTES
+    PEF_PAST_LAST_NUMBER
+    PEF_UNSPELLABLE_NAME
+    PEF_TOO_MANY_STUB_BYTES
     PEF_MAX_FRAGMENTS
     PEF_MAX_CONNECTIONS
     PEF_KIND_CODE
@@ -182,6 +199,12 @@ constants! {
     PEF_PROGRAM_PART
     PEF_LINE_PART
     PEF_NO_OFFSET
+    PEF_DETAIL_NONE
+    PEF_DETAIL_WORD
+    PEF_DETAIL_LENGTH
+    PEF_DETAIL_SECTIONS
+    PEF_ARCHITECTURE_POWERPC
+    PEF_ARCHITECTURE_68K
     PEF_FIXUP_SECTION
     PEF_FIXUP_IMPORT
     PEF_NO_LIBRARY
@@ -201,6 +224,8 @@ constants! {
     PEF_LOCATOR_MEMORY
     PEF_LOCATOR_DATA_FORK
     PEF_LOCATOR_RESOURCE
+    PEF_STUB_NUMBERS
+    PEF_STUB_MEMORY
     PEF_TARGET_MISSING
     PEF_TARGET_ABSOLUTE
     PEF_TARGET_IN_SECTION
