@@ -1,16 +1,23 @@
 // The page: files that are dropped or chosen, and what is in them.
+import { certificatesView } from "./certificates.js";
 import { Client } from "./client.js";
 import { groupsOf, join } from "./companion.js";
 import { ContainerView, uninspectedView } from "./container.js";
-import { save } from "./dom.js";
+import { button, hint, save } from "./dom.js";
+import { askedFor, exampleFiles } from "./examples.js";
 import { Container, OpenFile } from "./files.js";
 import { fileView, unreadableView } from "./fileview.js";
 import { chosenFiles, droppedFiles } from "./given.js";
+import { LinkView } from "./linkview.js";
 import { FileList } from "./list.js";
+import { Preparing } from "./preparing.js";
 import * as text from "./text.js";
 import { brokenView, welcomeView } from "./welcome.js";
+import { Work } from "./work.js";
 
-const page = Object.fromEntries(["files", "filter", "list", "view", "save", "saveAll", "status", "pick"].map((it) => [it, document.getElementById(it)]));
+const IDS = ["files", "filter", "order", "list", "view", "prepare", "linkScript", "save", "saveAll", "status", "work", "pick", "lastMemory"];
+
+const page = Object.fromEntries(IDS.map((it) => [it, document.getElementById(it)]));
 
 /** After how many files the page says how far it is. */
 const SOME = 50;
@@ -20,6 +27,9 @@ const files = new Set();
 
 /** The file that is shown, and which of its containers, by its offset. */
 let chosen = null;
+
+/** The view of the container that was shown last. */
+let shownContainer = null;
 
 /** How many choices the user has made. An answer to an older one isn't wanted. */
 let choices = 0;
@@ -38,11 +48,31 @@ function say(message) {
     page.status.textContent = message;
 }
 
-const client = new Client((name) => {
-    page.status.textContent = name === null ? said : `Reading ${name}`;
-});
+/** Returns a worker. `wordsOf` returns what is said of a request by its name. */
+function workerOf(script, wordsOf) {
+    const client = new Client(script, (name) => tell(name === null ? null : wordsOf(name), client), (step) => work.take(step));
+    return client;
+}
 
-const list = new FileList({ panel: page.files, filter: page.filter, list: page.list }, { choose, remove });
+/** The worker that is heard, and what is said of it. */
+let busy = null;
+
+const work = new Work(page.work, () => busy?.stop());
+
+/** Says what a worker does. */
+function tell(words, client) {
+    busy = words === null ? null : client;
+    work.set(words);
+    page.status.textContent = words ?? said;
+}
+
+const client = workerOf("worker.js", (name) => `Reading ${name}`);
+
+const loader = workerOf("loader.js", (name) => name);
+
+const list = new FileList({ panel: page.files, filter: page.filter, order: page.order, list: page.list }, { choose, remove });
+
+const preparing = new Preparing(loader, { files: () => files, newChoice, display, say, choose, showByte, openExample: () => openExample("memory") });
 
 function always() {
     return true;
@@ -59,9 +89,9 @@ function newChoice() {
 /** Adds files. The first one that can be read is shown at once, unless something else was chosen in the meantime. */
 async function add(given) {
     const isWanted = newChoice();
-    const added = given.map(({ path, file, why }) => {
+    const added = given.map(({ path, file, why, script }) => {
         opened += 1;
-        return Object.assign(new OpenFile(opened, path), { why: why ?? null, given: file });
+        return Object.assign(new OpenFile(opened, path), { why: why ?? null, given: file, script: script ?? null });
     });
     let shown = null;
     for (const [i, group] of groupsOf(added).entries()) {
@@ -119,12 +149,13 @@ async function read(file) {
 async function count(file) {
     while (file.why === null && !file.isClosed && !file.isCounted()) {
         try {
-            file.takeCount(await client.ask(file, always, "count", file.count.next));
+            file.takeCount(await client.ask(file, always, "count", file.counted.length));
         } catch {
-            // There is too little memory to look into a container. What is shown of it says so.
-            file.takeCount({ errors: 0, notes: 0, isCut: true, next: file.places.length });
+            // There is too little memory to look into a container, or it was stopped.
+            file.giveUpCounting();
         }
         list.update(file);
+        page.view.firstElementChild?.dispatchEvent(new CustomEvent("counted", { detail: file }));
     }
 }
 
@@ -146,6 +177,26 @@ function choose(file, place) {
     return show(file, newChoice(), place);
 }
 
+/** Shows a view that is of no file. */
+function display(view) {
+    chosen = null;
+    list.mark(null, null);
+    page.save.disabled = true;
+    page.lastMemory.hidden = preparing.last === null;
+    page.lastMemory.textContent = preparing.last?.label ?? "";
+    page.view.replaceChildren(view);
+    page.view.focus({ preventScroll: true });
+    window.scrollTo(0, 0);
+}
+
+/** Shows the byte at an offset of a file in the view of a container. */
+async function showByte(file, place, offset) {
+    const isWanted = newChoice();
+    if ((await show(file, isWanted, place)) && isWanted()) {
+        shownContainer?.goTo(offset);
+    }
+}
+
 /** Shows a file, or one of its containers by its offset. Returns whether it can be shown. */
 async function show(file, isWanted, place = file.mainPlace()) {
     chosen = { file, place };
@@ -163,7 +214,7 @@ async function viewOf(file, place, isWanted) {
     if (file.why !== null) {
         return unreadableView(file);
     }
-    return place === null ? fileView(file, { choose, helps }) : containerView(file, place, isWanted);
+    return place === null ? fileView(file, { choose, prepare: () => preparing.showOffers(), helps }) : containerView(file, place, isWanted);
 }
 
 /** Returns the view of a container, or null if it can't be read. */
@@ -181,14 +232,35 @@ async function containerView(file, place, isWanted) {
     if (answer === null) {
         return null;
     }
-    const up = () => choose(file, null);
-    const saveAs = (bytes) => save(`${file.name}-${text.at(place)}.pef`, new Blob([bytes]));
     if (answer.container === null) {
         const bytes = file.bytes.subarray(place, place + answer.rest);
-        return uninspectedView({ offset: place, bytes }, title(file, place), { up, save: () => saveAs(bytes) });
+        return uninspectedView({ offset: place, bytes }, title(file, place), toolsOf(file, place, () => bytes));
     }
     const container = new Container(file, k, answer, ask);
-    return new ContainerView(container, title(file, place), { helps, up, save: () => saveAs(container.ownBytes()) }).element;
+    const tools = toolsOf(file, place, () => container.ownBytes());
+    const certificates = file.script === null ? null : () => certificatesOf(file, isWanted);
+    shownContainer = new ContainerView(container, title(file, place), { helps, tools, certificates });
+    return shownContainer.element;
+}
+
+/** Returns the view of the certificates of the script that a file was linked from. */
+async function certificatesOf(file, isWanted) {
+    try {
+        const made = await loader.ask({ name: `Making the certificates of ${file.name}` }, isWanted, "certify", file.script);
+        return certificatesView(made, file.name);
+    } catch (error) {
+        return [hint(`The certificates can't be made: ${error.message}.`)];
+    }
+}
+
+/** Returns what can be done with a container. */
+function toolsOf(file, place, bytesOf) {
+    const saveAs = () => save(`${file.name}-${text.at(place)}.pef`, new Blob([bytesOf()]));
+    return [
+        button("Prepare", () => preparing.prepareAt(file, place), { class: "main", title: "Show the memory that it becomes" }),
+        button("Show the file", () => choose(file, null)),
+        button("Save the container", saveAs, { class: "saveContainer" }),
+    ];
 }
 
 /** Returns the title of a container: the name of the fragment in it, if one is, and where it is. */
@@ -217,8 +289,40 @@ function remove(file) {
     newChoice();
     chosen = null;
     page.save.disabled = true;
-    page.view.replaceChildren(welcomeView(add));
+    page.view.replaceChildren(welcomeView(openExample));
     page.pick.focus();
+}
+
+/** Opens the files of an example. That with memory is prepared. */
+async function openExample(name) {
+    try {
+        const given = await exampleFiles(name, async (script) => (await loader.ask({ name: "Linking the example" }, always, "link", script)).container);
+        await add(given);
+        const [first] = [...files].slice(-given.length);
+        if (name !== "damaged") {
+            preparing.prepareAt(first, 0);
+        }
+    } catch (error) {
+        say(`The example can't be opened: ${error.message}.`);
+    }
+}
+
+/** Shows the text field for scripts, with one of the examples if it is named. */
+function showLink(script = null) {
+    newChoice();
+    const view = new LinkView(loader, { open: (path, bytes, script) => add([{ path, file: new File([bytes], path), script }]), say });
+    display(view.element);
+    view.take(script);
+}
+
+/** Opens what the page's address asks for. */
+function followAddress() {
+    const { example, script } = askedFor(window.location.hash);
+    if (example !== null) {
+        openExample(example);
+    } else if (script !== null) {
+        showLink(script);
+    }
 }
 
 /** Saves what is known of the chosen file. */
@@ -283,9 +387,11 @@ async function start() {
         return;
     }
     if (chosen === null) {
-        page.view.replaceChildren(welcomeView(add));
+        page.view.replaceChildren(welcomeView(openExample));
     }
     page.pick.disabled = false;
+    page.prepare.disabled = false;
+    page.linkScript.disabled = false;
     page.pick.addEventListener("change", () => {
         if (page.pick.files.length > 0) {
             add(chosenFiles(page.pick.files));
@@ -294,7 +400,12 @@ async function start() {
     });
     page.save.addEventListener("click", saveJson);
     page.saveAll.addEventListener("click", saveAll);
+    page.prepare.addEventListener("click", () => preparing.showOffers());
+    page.linkScript.addEventListener("click", () => showLink());
+    page.lastMemory.addEventListener("click", () => preparing.showLast());
+    window.addEventListener("hashchange", followAddress);
     document.body.dataset.ready = "true";
+    followAddress();
 }
 
 start();

@@ -1,56 +1,108 @@
-// Bytes in hexadecimal: of a file from a container on, or of a section's image with the words that are relocated.
+// A view of bytes: which ones are shown, ways to go to a place or to find some bytes, and what is known of the byte that is marked.
+import { Additions } from "./additions.js";
 import { button, el } from "./dom.js";
-import { PACKED } from "./files.js";
+import { HexLines } from "./hex.js";
 import { counted, hex } from "./text.js";
-
-const LINE = 16;
-
-/** How many lines are shown at first, and how many more each time. */
-const PART = 128;
-
-/** How many additions to the same word are shown. */
-const MOST_ADDED = 8;
 
 /** An offset as people write it. */
 const OFFSET = /^\s*(?:0x|\$)?([0-9a-f]{1,12})\s*$/i;
 
-/** A view of bytes. `open` shows a source from an offset on: 0 is the file, and the others are the sections. */
+/** Bytes as people write them: in hexadecimal, or a text in quotes. */
+const DIGITS = /^(?:0x|\$)?((?:[0-9a-f]{2})+)$/i;
+
+const QUOTED = /^"(.+)"$/;
+
+const NONE = { image: new Uint8Array(0), size: 0, first: 0, added: new Additions(), isCut: false };
+
+/** Returns the bytes that a text means, or null. */
+export function bytesOf(typed) {
+    const quoted = QUOTED.exec(typed.trim());
+    if (quoted !== null) {
+        return Uint8Array.from(quoted[1], (it) => it.charCodeAt(0));
+    }
+    const digits = DIGITS.exec(typed.replace(/\s/g, ""));
+    return digits === null ? null : Uint8Array.from(digits[1].match(/../g), (it) => parseInt(it, 16));
+}
+
+/** Returns where some bytes are in others from an offset on, or -1. */
+export function findBytes(bytes, wanted, from) {
+    for (let at = bytes.indexOf(wanted[0], from); at >= 0; at = bytes.indexOf(wanted[0], at + 1)) {
+        if (wanted.every((it, i) => bytes[at + i] === it)) {
+            return at;
+        }
+    }
+    return -1;
+}
+
+/** A view of bytes of several sources. */
 export class BytesView {
     /**
-     * The bytes of a container or of a file. `offset` is where they begin in the file. `imageOf` gives the image of a section by its
-     * number, how many bytes it has with the zeros after these, and what is added to its words, in a promise. `addedText` gives the text
-     * of an addition.
+     * `sources` returns the sources: each has a label, and `load` gives its bytes, in a promise: the `image`, the `size` with the zeros after
+     * it, the number of the `first` byte, and what is `added` to its words, of which some may be missing if it `isCut`. The image is
+     * null if it can't be shown. `textOf` and `goOf` are those of the lines. Of the marked byte `longOf` is said of an addition, and `explain`
+     * returns what else is said. All four are also given what the bytes are `of`, as the source has it. If bytes are at addresses, `sourceAt` returns which source has one, or
+     * null.
      */
-    constructor({ bytes, offset, sections }, imageOf = null, addedText = null) {
-        this.bytes = bytes;
-        this.offset = offset;
-        this.sections = sections;
-        this.imageOf = imageOf;
-        this.addedText = addedText;
-        this.select = el("select", { "aria-label": "Bytes of" }, el("option", { value: "0" }, offset === 0 ? "the file" : "the file from the container on"));
+    constructor({ sources, textOf = () => "", longOf = textOf, goOf = () => null, explain = () => [], sourceAt = null, first = 0 }) {
+        this.sources = sources;
+        this.sourceAt = sourceAt;
+        this.place = sourceAt === null ? "offset" : "address";
+        this.longOf = (it) => longOf(it, this.of);
+        this.goOf = (it) => goOf(it, this.of);
+        this.explain = (offset) => explain(offset, this.of);
+        this.lines = new HexLines({ textOf: (it) => textOf(it, this.of), goOf: this.goOf, onMark: (offset) => this.tell(offset) });
+        this.select = el("select", { "aria-label": "Bytes of" });
         this.select.addEventListener("change", () => this.open(Number(this.select.value), null));
-        this.goal = el("input", { type: "text", "aria-label": "Offset in hexadecimal", placeholder: "Offset", size: "10", spellcheck: "false", autocomplete: "off" });
+        this.goal = field(`Go to an ${this.place} in hexadecimal`, sourceAt === null ? "Offset" : "Address", 10);
+        this.wanted = field("Find bytes: hexadecimal digits, or a text in quotes", "4E800020 or \"text\"", 18);
         this.note = el("p", { class: "hint", role: "status" });
         this.warning = el("p", { class: "warning", role: "alert", hidden: true });
-        this.lines = el("div", { class: "hex", role: "region", tabindex: "0", "aria-label": "Bytes in hexadecimal" });
-        this.before = button("Show earlier bytes", () => this.showBefore(), { class: "more" });
-        this.after = button("Show more bytes", () => this.showAfter(), { class: "more" });
-        const form = el("form", { class: "tools" }, el("label", {}, "Bytes of ", this.select), el("label", {}, "Go to ", this.goal), el("button", { type: "submit" }, "Go"));
-        form.addEventListener("submit", (event) => {
-            event.preventDefault();
-            this.goTo(this.goal.value);
-        });
-        this.element = el("section", { class: "bytes" }, form, this.warning, this.note, this.before, this.lines, this.after);
-        this.open(0, null);
+        this.told = el("div", { class: "told", role: "status" });
+        this.words = [button("Previous word", () => this.step("last"), { title: "The relocated word before the mark" }), button("Next word", () => this.step("next"), { title: "The next relocated word" })];
+        const tools = el("div", { class: "tools" }, el("label", {}, "Bytes of ", this.select), form("Go to ", this.goal, "Go", () => this.goTo(this.goal.value)), form("Find ", this.wanted, "Find next", () => this.find(this.wanted.value)), ...this.words);
+        this.element = el("section", { class: "bytes" }, tools, this.warning, this.note, this.lines.element, this.told);
+        this.open(first, null);
     }
 
     /** Shows the place that the user typed. */
     goTo(typed) {
         const found = OFFSET.exec(typed);
         if (found === null) {
-            this.warn(typed.trim() === "" ? "Type an offset in hexadecimal, such as 1A0." : `“${typed}” isn't an offset in hexadecimal, such as 1A0.`);
+            this.warn(typed.trim() === "" ? `Type an ${this.place} in hexadecimal, such as 1A0.` : `“${typed}” isn't an ${this.place} in hexadecimal, such as 1A0.`);
+            return;
+        }
+        const at = parseInt(found[1], 16);
+        const source = this.sourceAt?.(at) ?? null;
+        if (source !== null && source !== Number(this.select.value)) {
+            this.open(source, at);
         } else {
-            this.open(this.source, parseInt(found[1], 16));
+            this.markAt(at);
+        }
+    }
+
+    /** Finds the next bytes after the mark that the user typed, from the beginning on if there are none. */
+    find(typed) {
+        const wanted = bytesOf(typed);
+        if (wanted === null) {
+            this.warn("Type bytes as hexadecimal digits, two for each, or a text in quotes.");
+            return;
+        }
+        const { image, mark } = this.lines;
+        const after = findBytes(image, wanted, mark === null ? 0 : mark + 1);
+        const found = after < 0 ? findBytes(image, wanted, 0) : after;
+        this.warn(found < 0 ? "These bytes aren't here." : "");
+        if (found >= 0) {
+            this.lines.markAt(found);
+        }
+    }
+
+    /** Marks the next or the last word that is relocated. */
+    step(way) {
+        const { added, mark } = this.lines;
+        const from = mark === null ? -1 : (added.wordOf(mark) ?? mark);
+        const found = added[way](from);
+        if (found !== null) {
+            this.lines.markAt(found);
         }
     }
 
@@ -60,152 +112,125 @@ export class BytesView {
         this.warning.hidden = words === "";
     }
 
-    /** Shows a source, from a line before an offset on, and marks the byte there. */
-    async open(source, offset) {
-        for (let i = this.select.length - 1; i < this.sections.length; i += 1) {
-            this.select.append(el("option", { value: String(i + 1) }, `section ${i}${this.sections[i].kind === PACKED ? ", expanded" : ""}`));
+    /** Lists the sources: there may be more of them than before. */
+    listSources() {
+        const sources = this.sources();
+        for (let i = this.select.length; i < sources.length; i += 1) {
+            this.select.append(el("option", { value: String(i) }, sources[i].label));
         }
-        this.source = source;
-        this.select.value = String(source);
+        return sources;
+    }
+
+    /** Shows a source, and marks the byte with a number, which counts as those of the source do. */
+    async open(number, at) {
+        const source = this.listSources()[number];
+        this.select.value = String(number);
         this.warn("");
-        this.first = source === 0 ? this.offset : 0;
         const opening = {};
         this.opening = opening;
-        if (source === 0) {
-            this.show({ image: this.bytes, size: this.bytes.length, added: new Map(), isCut: false }, offset);
-            return;
+        this.of = source?.of;
+        const promised = source === undefined ? NONE : source.load();
+        if (promised instanceof Promise) {
+            this.show(NONE, null);
+            this.note.textContent = "";
+            this.element.setAttribute("aria-busy", "true");
         }
-        this.show({ image: new Uint8Array(0), size: 0, added: new Map(), isCut: false }, null);
-        this.note.textContent = "";
-        this.element.setAttribute("aria-busy", "true");
-        const shown = await this.imageOf(source - 1);
+        const shown = promised instanceof Promise ? await promised : promised;
         if (this.opening === opening) {
-            this.show(shown, offset);
+            this.show(shown, at);
         }
     }
 
     /** Shows bytes, or says why there are none. */
-    show({ image, size, added, isCut }, offset) {
+    show(shown, at) {
         this.element.removeAttribute("aria-busy");
-        this.image = image;
-        this.size = size;
-        this.added = added;
-        this.isCut = isCut;
-        this.mark = offset === null ? null : offset - this.first;
-        this.note.textContent = this.hint();
-        if (offset !== null) {
-            this.warn(this.outside(offset));
-        }
-        this.from = this.mark === null ? 0 : Math.max(0, (Math.floor(Math.min(this.mark, size - 1) / LINE) - 4) * LINE);
-        this.to = this.from;
-        this.lines.replaceChildren();
-        this.showAfter();
-        this.before.hidden = this.from === 0;
-        const marked = this.lines.querySelector(".mark");
-        if (marked !== null) {
-            marked.scrollIntoView({ block: "nearest" });
+        const { image, isCut } = shown;
+        this.lines.show({ ...shown, image: image ?? NONE.image });
+        this.told.replaceChildren();
+        this.words.forEach((it) => {
+            it.hidden = shown.added.words === 0;
+        });
+        this.note.textContent = image === null ? "The bytes aren't all there, can't be expanded, or are too many to be shown." : this.hint(isCut);
+        if (at !== null) {
+            this.markAt(at);
         }
     }
 
-    /** Returns why an offset isn't shown. The text is empty if it is. */
-    outside(offset) {
-        const last = this.first + this.size - 1;
-        if (this.size === 0 || (offset >= this.first && offset <= last)) {
+    /** Marks the byte with a number, or says why it isn't here. */
+    markAt(at) {
+        const { first, size } = this.lines;
+        this.warn(this.outside(at));
+        if (size > 0) {
+            this.lines.markAt(Math.min(Math.max(at - first, 0), size - 1));
+        }
+    }
+
+    /** Returns why a byte isn't shown. The text is empty if it is. */
+    outside(at) {
+        const { first, size } = this.lines;
+        const last = first + size - 1;
+        if (size === 0 || (at >= first && at <= last)) {
             return "";
         }
-        const where = offset < this.first ? `before the first byte, which is at ${hex(this.first, 8)}` : `past the end: the last byte is at ${hex(last, 8)}`;
-        return `${hex(offset, 8)} is ${where}.`;
+        const where = at < first ? `before the first byte, which is at ${hex(first, 8)}` : `past the end: the last byte is at ${hex(last, 8)}`;
+        return `${hex(at, 8)} is ${where}.`;
+    }
+
+    /** Says what is known of the marked byte. */
+    tell(offset) {
+        const { first, image, added } = this.lines;
+        const word = added.wordOf(offset);
+        const parts = [`${hex(first + offset, 8)}: byte ${hex(image[offset] ?? 0, 2)}.`];
+        if (word !== null) {
+            parts.push(` The word at ${hex(first + word, 8)} is relocated:`);
+            for (const it of added.between(word, word + 1, 8)) {
+                const go = this.goOf(it);
+                parts.push(" + ", go === null ? this.longOf(it) : button(this.longOf(it), go, { class: "link" }));
+            }
+            parts.push(".");
+        }
+        this.told.replaceChildren(...parts, ...this.explain(offset));
     }
 
     /** Returns what is said of the bytes. */
-    hint() {
-        if (this.image === null) {
-            return "The bytes aren't all there, can't be expanded, or are too many to be shown.";
-        }
-        if (this.size === 0) {
-            return "There are no bytes.";
-        }
-        return [this.zeros(), this.relocated()].filter((it) => it !== "").join(" ");
+    hint(isCut) {
+        return this.lines.size === 0 ? "There are no bytes." : [this.zeros(), this.relocated(isCut)].filter((it) => it !== "").join(" ");
     }
 
     /** Returns what is said of the words that are relocated. */
-    relocated() {
-        if (this.added.size === 0) {
+    relocated(isCut) {
+        const { words } = this.lines.added;
+        if (words === 0) {
             return "";
         }
-        const words = `${counted(this.added.size, "word")} ${this.added.size === 1 ? "is" : "are"} relocated.`;
-        const cut = this.isCut ? " There are more additions, which aren't shown." : "";
-        return `${words} What is added is at the end of a line, after the word's offset.${cut}`;
+        const cut = isCut ? " There are more additions, which aren't shown." : "";
+        return `${counted(words, "word")} ${words === 1 ? "is" : "are"} relocated. What is added is at the end of a line, after the word's ${this.place}.${cut}`;
     }
 
     /** Returns what is said of the bytes that the file doesn't have. */
     zeros() {
-        const count = this.size - this.image.length;
+        const { size, image } = this.lines;
+        const count = size - image.length;
         if (count === 0) {
             return "";
         }
-        if (this.image.length === 0) {
+        if (image.length === 0) {
             return `The file has no bytes of this section. Its ${counted(count, "byte")} begin as zeros.`;
         }
-        return `The last ${counted(count, "byte")}, from ${hex(this.image.length, 8)} on, aren't in the file. They begin as zeros.`;
+        return `The last ${counted(count, "byte")}, from ${hex(image.length, 8)} on, aren't in the file. They begin as zeros.`;
     }
+}
 
-    showBefore() {
-        const from = Math.max(0, this.from - PART * LINE);
-        this.lines.prepend(...this.linesOf(from, this.from));
-        this.from = from;
-        this.before.hidden = from === 0;
-    }
+function field(label, placeholder, size) {
+    return el("input", { type: "text", "aria-label": label, title: label, placeholder, size: String(size), spellcheck: "false", autocomplete: "off" });
+}
 
-    showAfter() {
-        const from = Math.min(this.to, this.size);
-        this.to = Math.min(this.size, from + PART * LINE);
-        this.lines.append(...this.linesOf(from, this.to));
-        this.after.hidden = this.to >= this.size;
-    }
-
-    linesOf(from, to) {
-        const lines = [];
-        for (let at = from; at < to; at += LINE) {
-            lines.push(this.line(at, this.bytesAt(at, Math.min(at + LINE, this.size))));
-        }
-        return lines;
-    }
-
-    /** Returns bytes: those of the image, and zeros after these. */
-    bytesAt(from, to) {
-        const bytes = new Uint8Array(to - from);
-        bytes.set(this.image.subarray(from, to));
-        return bytes;
-    }
-
-    line(at, bytes) {
-        const cells = el("span", { class: "cells" });
-        const additions = [];
-        for (let i = 0; i < LINE; i += 1) {
-            const text = i < bytes.length ? hex(bytes[i], 2) : "  ";
-            const kind = i < bytes.length ? this.kindAt(at + i) : null;
-            cells.append(kind === null ? text : el("span", { class: kind }, text), i % 4 === 3 ? "  " : " ");
-            const added = this.added.get(at + i);
-            if (added !== undefined && i < bytes.length) {
-                const words = added.slice(0, MOST_ADDED).map(this.addedText);
-                additions.push([hex(this.first + at + i, 8), ...words, ...(added.length > MOST_ADDED ? ["…"] : [])].join(" + "));
-            }
-        }
-        const text = String.fromCharCode(...bytes).replace(/[^ -~]/g, ".");
-        const end = additions.length === 0 ? null : el("span", { class: "added" }, ...additions.map((it) => el("span", {}, it)));
-        return el("div", {}, el("span", { class: "at" }, `${hex(this.first + at, 8)}  `), cells, el("span", { class: "text" }, text.padEnd(LINE)), end);
-    }
-
-    kindAt(offset) {
-        if (offset === this.mark) {
-            return "mark";
-        }
-        for (let back = 0; back < 4; back += 1) {
-            if (this.added.has(offset - back)) {
-                return "relocated";
-            }
-        }
-        return offset >= this.image.length ? "zero" : null;
-    }
+/** Returns a field with its button. */
+function form(label, input, action, submit) {
+    const made = el("form", { class: "tools" }, el("label", {}, label, input), el("button", { type: "submit" }, action));
+    made.addEventListener("submit", (event) => {
+        event.preventDefault();
+        submit();
+    });
+    return made;
 }

@@ -1,22 +1,56 @@
-// What the page asks of the worker.
+// What the page asks of a worker.
 
-/** After how many milliseconds the page says that the worker works. */
+/** After how many milliseconds the page says that a worker works. */
 const SOON = 200;
 
+/** What the promise of a request that was stopped is rejected with. */
+export const STOPPED = "it was stopped";
+
+const BROKEN = "the worker can't be loaded";
+
 /**
- * The worker, as the page sees it. It works on one request at a time, in their order. Each is about a file, and has a test that says
- * whether its answer is still wanted. If not, there is none, so that no older answer overtakes a newer choice of the user.
+ * A worker, as the page sees it. It works on one request at a time, in their order. A request may be about a file, and has a test that
+ * says whether its answer is still wanted. If not, there is none, so that no older answer overtakes a newer choice of the user.
  */
 export class Client {
-    /** `onBusy` is called with the name of a file if a request about it takes long, and with `null` when that ends. */
-    constructor(onBusy) {
+    /**
+     * `script` is the worker's. `onBusy` is called with what a request is about if it takes long, and with `null` when that ends. `onStep`
+     * is called with how far the request is, if the worker says so.
+     */
+    constructor(script, onBusy, onStep) {
+        this.script = script;
         this.onBusy = onBusy;
+        this.onStep = onStep;
         this.busy = null;
         this.waiting = [];
         this.current = null;
-        this.worker = new Worker(new URL("worker.js", import.meta.url), { type: "module" });
-        this.worker.addEventListener("message", ({ data }) => (data.list === undefined ? this.take(data) : this.takePiece(data)));
-        this.worker.addEventListener("error", () => this.take({ error: "the worker can't be loaded" }));
+        this.begin();
+    }
+
+    /** Starts the worker. */
+    begin() {
+        this.isBroken = false;
+        this.worker = new Worker(new URL(this.script, import.meta.url), { type: "module" });
+        this.worker.addEventListener("message", ({ data }) => this.hear(data));
+        this.worker.addEventListener("error", () => {
+            this.isBroken = true;
+            this.take({ error: BROKEN });
+        });
+    }
+
+    /** Ends what the worker does, with the worker. The next request starts in a new one. */
+    stop() {
+        if (this.current !== null) {
+            this.worker.terminate();
+            this.begin();
+            this.take({ error: STOPPED });
+        }
+    }
+
+    /** Ends what the worker does, and drops all that waits: only the last request counts. */
+    stopAll() {
+        this.waiting = [];
+        this.stop();
     }
 
     /**
@@ -46,13 +80,28 @@ export class Client {
     /** Sends the current request, with the bytes of the file if the worker can't read them again. */
     send(bytes) {
         const { file, call, words } = this.current;
-        this.worker.postMessage({ number: file?.number, bytes, call, words });
+        if (this.isBroken) {
+            this.take({ error: BROKEN });
+            return;
+        }
+        this.worker.postMessage({ number: file?.number, path: file?.path, bytes, call, words });
     }
 
     setBusy(name) {
         if (this.busy !== name) {
             this.busy = name;
             this.onBusy(name);
+        }
+    }
+
+    /** Takes a message of the worker: how far it is, some rows, or its answer. */
+    hear(data) {
+        if (data.step !== undefined) {
+            this.onStep(data.step);
+        } else if (data.list !== undefined) {
+            this.takePiece(data);
+        } else {
+            this.take(data);
         }
     }
 

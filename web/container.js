@@ -1,18 +1,15 @@
 // The views of a container.
 import { BytesView } from "./bytes.js";
-import { button, el, terms } from "./dom.js";
-import { MOST_BESIDE, MOST_LISTED } from "./files.js";
+import { coded, libraryOptions } from "./codes.js";
+import { el, head, hint, later, terms } from "./dom.js";
+import { fileSource } from "./files.js";
 import { findingColumns } from "./findings.js";
 import { mapOf } from "./map.js";
-import { Stop } from "./rove.js";
+import { PEF_FIXUP_SECTION, PEF_KIND_PACKED } from "./pef.js";
 import { DataTable } from "./table.js";
+import { Tabs } from "./tabs.js";
 import * as text from "./text.js";
-
-const KINDS = ["code", "unpacked data", "pattern-initialized data", "constant", "loader", "debug", "executable data", "exception", "traceback"];
-
-const SHARES = { 1: "process", 4: "global", 5: "protected" };
-
-const CLASSES = ["code", "data", "transition vector", "TOC", "glue"];
+import { CLASSES, KINDS, SHARES } from "./words.js";
 
 /** The tables of rows, by their tabs. */
 const TABLES = { Sections: "sections", Libraries: "libraries", Imports: "imports", Exports: "exports", Relocations: "relocations" };
@@ -20,45 +17,35 @@ const TABLES = { Sections: "sections", Libraries: "libraries", Imports: "imports
 /** The tab that has the row of a part. */
 const TABS = { section: "Sections", packed: "Sections", library: "Libraries", import: "Imports", relocation: "Relocations", program: "Relocations", export: "Exports" };
 
-function coded(words, code) {
-    return words[code] === undefined ? String(code) : `${code} ${words[code]}`;
-}
-
 /** What the overview shows of a header in its own way. */
 const HEADER = [
     "architecture", "format_version", "current", "current_text", "olddef", "olddef_text", "oldimp", "oldimp_text", "date", "date_text",
     "sections", "instantiated", "reserved",
 ];
 
-/** The tab that was chosen last. It stays when the file changes. */
-let lastTab = "Overview";
-
 /**
- * The tabs of a container, each drawn when it is first shown. `helps` has what errors and notes mean, by their numbers. `up` shows the
- * file, and `save` saves the container.
+ * The tabs of a container. `helps` has what errors and notes mean, by their numbers. `tools` are the buttons beside the title.
+ * `certificates` promises the view of its certificates, if it was linked on the page.
  */
 export class ContainerView {
-    constructor(container, title, { helps, up, save }) {
+    constructor(container, title, { helps, tools, certificates }) {
         this.container = container;
         this.helps = helps;
-        this.drawn = new Set();
         this.tables = new Map();
-        this.tabs = [
-            ["Overview", () => this.overview()],
-            ["Findings", () => this.findings()],
-            ["Sections", () => this.table("Sections", this.sections())],
-            ["Libraries", () => this.table("Libraries", this.libraries())],
-            ["Imports", () => this.table("Imports", this.imports())],
-            ["Exports", () => this.table("Exports", this.exports())],
-            ["Relocations", () => this.relocations()],
-            ["Bytes", () => this.bytes()],
-        ];
-        this.buttons = this.tabs.map(([key]) => button(this.label(key), () => this.show(key), { role: "tab", tabindex: "-1", id: `tab-${key}`, "aria-controls": `panel-${key}`, "data-tab": key }));
-        this.panels = this.tabs.map(([key]) => el("div", { role: "tabpanel", id: `panel-${key}`, "aria-labelledby": `tab-${key}`, hidden: true }));
-        const list = el("div", { role: "tablist", "aria-label": "Views of the container", class: "tabs" }, ...this.buttons);
-        this.stop = new Stop(list, "[role=tab]", (it) => this.show(it.dataset.tab));
-        this.element = el("article", {}, headOf(title, up, save), verdict(container), list, ...this.panels);
-        this.show(lastTab);
+        const draw = {
+            Overview: () => this.overview(),
+            Findings: () => this.findings(),
+            Sections: () => this.table("Sections", this.sections()),
+            Libraries: () => this.table("Libraries", this.libraries()),
+            Imports: () => this.table("Imports", this.imports()),
+            Exports: () => this.table("Exports", this.exports()),
+            Relocations: () => this.relocations(),
+            ...(certificates === null ? {} : { Certificates: () => later(certificates()) }),
+            Bytes: () => this.bytes(),
+        };
+        this.tabs = new Tabs("Views of the container", Object.entries(draw).map(([key, it]) => ({ key, label: this.label(key), draw: it })));
+        this.element = el("article", {}, head(title, tools), verdict(container), ...this.tabs.elements);
+        this.tabs.start();
     }
 
     /** Returns the label of a tab: how many rows it has, with `+` if there may be more. */
@@ -72,17 +59,7 @@ export class ContainerView {
     }
 
     show(key) {
-        lastTab = key;
-        this.tabs.forEach(([it, draw], i) => {
-            const isShown = it === key;
-            this.buttons[i].setAttribute("aria-selected", String(isShown));
-            this.panels[i].hidden = !isShown;
-            if (isShown && !this.drawn.has(key)) {
-                this.drawn.add(key);
-                this.panels[i].append(...[draw()].flat());
-            }
-        });
-        this.stop.rest(this.buttons.find((it) => it.dataset.tab === key));
+        this.tabs.show(key);
     }
 
     /** Shows the bytes of the file at an offset. */
@@ -98,7 +75,7 @@ export class ContainerView {
     showBytes(source, offset) {
         this.show("Bytes");
         this.bytesView.open(source, offset);
-        this.bytesView.lines.focus();
+        this.bytesView.lines.element.focus();
     }
 
     /** Shows a row of a table. */
@@ -165,7 +142,7 @@ export class ContainerView {
         const list = TABLES[key];
         const read = async () => {
             await container.readMore(list);
-            this.buttons[this.tabs.findIndex(([it]) => it === key)].textContent = this.label(key);
+            this.tabs.relabel(key, this.label(key));
         };
         return new DataTable({ caption, columns, rows: container[list], more: { has: () => container.more.has(list), read } });
     }
@@ -274,7 +251,7 @@ export class ContainerView {
 
     /** Returns the table of the words that the programs relocate, with what is added. */
     async words() {
-        const { rows, cut } = await this.container.additions(MOST_LISTED);
+        const { rows, cut } = await this.container.additions();
         const columns = [
             { title: "Section", text: (it) => String(it.section), value: (it) => it.section, class: "number" },
             { title: "Word at", text: (it) => text.hex(it.offset, 8), value: (it) => it.offset, class: "number", go: (it) => (it.section < this.container.sections.length ? () => this.showSection(it.section, it.offset) : null) },
@@ -286,56 +263,37 @@ export class ContainerView {
 
     addedText({ kind, number }) {
         const found = this.container.imports[number];
-        return kind === "section" ? `section ${number}` : `import ${number} ${found === undefined ? "" : text.nameOf(found)}`;
+        return kind === PEF_FIXUP_SECTION ? `section ${number}` : `import ${number} ${found === undefined ? "" : text.nameOf(found)}`;
     }
 
     bytes() {
-        this.bytesView = new BytesView(this.container, (i) => this.imageOf(i), (it) => text.shortened(this.addedText(it)));
+        this.bytesView = new BytesView({ sources: () => this.sources(), textOf: (it) => text.shortened(this.addedText(it)) });
         return this.bytesView.element;
     }
 
-    /** Returns the image of a section, how many bytes it has in memory, and what is added to each word, by the offset of the word. */
+    /** Returns what the bytes are shown of: the file from the container on, and each section. */
+    sources() {
+        const { container } = this;
+        const image = (section) => (section.kind === PEF_KIND_PACKED ? ", expanded" : "");
+        return [fileSource(container), ...container.sections.map((it, i) => ({ label: `section ${i}${image(it)}`, load: () => this.imageOf(i) }))];
+    }
+
+    /** Returns the image of a section, how many bytes it has in memory, and what is added to its words. */
     async imageOf(i) {
-        const [image, { rows, cut }] = await Promise.all([this.container.image(this.container.sections[i]), this.container.additions(MOST_BESIDE, i)]);
-        const added = new Map();
-        for (const it of rows) {
-            const all = added.get(it.offset) ?? [];
-            all.push(it);
-            added.set(it.offset, all);
-        }
-        return { image, size: image === null ? 0 : this.container.sizeOf(i, image), added, isCut: cut };
+        const [image, { added, cut }] = await Promise.all([this.container.image(this.container.sections[i]), this.container.additionsTo(i)]);
+        return { image, size: image === null ? 0 : this.container.sizeOf(i, image), first: 0, added, isCut: cut };
     }
 }
 
 /** Returns the view of a container that isn't inspected, because the ones before take what a file may. */
-export function uninspectedView({ offset, bytes }, title, { up, save }) {
+export function uninspectedView({ offset, bytes }, title, tools) {
     const why = "This container isn't inspected: those before it in the file pass a limit.";
-    return el("article", {}, headOf(title, up, save), hint(why), new BytesView({ offset, bytes, sections: [] }).element);
-}
-
-/** Returns the title of a container, with the way to its file. */
-function headOf(title, up, save) {
-    const tools = el("div", { class: "tools" }, button("Show the file", up), button("Save the container", save));
-    return el("div", { class: "head" }, el("h2", {}, title), tools);
+    return el("article", {}, head(title, tools), hint(why), new BytesView({ sources: () => [fileSource({ offset, bytes })] }).element);
 }
 
 function versionTerm(title, header, field) {
     const { text: words, hint: raw } = text.versionColumn(field);
     return [title, el("span", { title: raw(header) }, words(header))];
-}
-
-/** Returns an element for parts that are promised. It is busy until they are there. */
-function later(promised) {
-    const place = el("div", { "aria-busy": "true" });
-    promised.then((parts) => {
-        place.removeAttribute("aria-busy");
-        place.append(...parts);
-    });
-    return place;
-}
-
-function hint(words) {
-    return el("p", { class: "hint" }, words);
 }
 
 function firstOnes(rows) {
@@ -354,23 +312,32 @@ function plain(title, value) {
     return { title, text: (it) => String(value(it)), value, class: "number" };
 }
 
-function libraryOptions(options) {
-    const words = [];
-    if (options & 0x80) {
-        words.push("initialized first");
-    }
-    if (options & 0x40) {
-        words.push("weak");
-    }
-    return words.length === 0 ? String(options) : `${options} ${words.join(", ")}`;
+/** The parts of a container whose damage its verdict tells. */
+const VERDICT_PARTS = ["sections", "imports", "exports", "relocations"];
+
+/** Returns the verdict on a container, and how many errors and notes there are, if that is known. */
+function verdict({ errors, notes, isCut, others }) {
+    const found = others.verdict;
+    const badge = (kind, rows) => el("span", { class: `badge ${rows.length === 0 ? "none" : kind}` }, rows.length === 0 ? `no ${kind}s` : text.counted(rows.length, kind));
+    const comma = () => el("span", { class: "hidden" }, ", ");
+    const isSound = errors.length + notes.length === 0;
+    const state = found === null ? [] : [el("span", { class: `badge ${found.state === "whole" ? "sound" : found.state}` }, found.state), comma()];
+    const counts = isSound ? [el("span", { class: "badge sound" }, "no errors, no notes")] : [badge("error", errors), comma(), badge("note", notes), isCut ? " of those that were read" : null];
+    return el("div", {}, el("p", { class: "verdict" }, ...state, ...counts), verdictHint(found));
 }
 
-/** Returns how many errors and notes there are, if that is known. */
-function verdict({ errors, notes, isCut }) {
-    const badge = (kind, rows) => el("span", { class: `badge ${rows.length === 0 ? "none" : kind}` }, rows.length === 0 ? `no ${kind}s` : text.counted(rows.length, kind));
-    if (errors.length + notes.length === 0) {
-        return el("p", { class: "verdict" }, el("span", { class: "badge sound" }, "No errors, no notes"));
+/** Returns what a verdict says besides its word, or null. */
+function verdictHint(found) {
+    if (found === null || found.state === "whole") {
+        return null;
     }
-    const comma = el("span", { class: "hidden" }, ", ");
-    return el("p", { class: "verdict" }, badge("error", errors), comma, badge("note", notes), isCut ? " of those that were read" : null);
+    const damaged = VERDICT_PARTS.filter((it) => found[it] === "damaged");
+    const whole = VERDICT_PARTS.filter((it) => found[it] === "whole");
+    const said = [
+        found.state === "cut" ? `It needs ${text.counted(found.needs, "byte")} and has ${found.has.toLocaleString("en")}.` : "",
+        damaged.length === 0 ? "" : `Damaged: ${damaged.join(", ")}.`,
+        whole.length === 0 ? "" : `Whole: ${whole.join(", ")}.`,
+        found.as_text ? "It seems to have been transferred as text: transfer it again, as binary." : "",
+    ];
+    return hint(said.filter((it) => it !== "").join(" "));
 }

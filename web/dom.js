@@ -44,6 +44,25 @@ export function terms(pairs) {
     return list;
 }
 
+/** Returns the title of a view, with the buttons beside it. */
+export function head(title, tools) {
+    return el("div", { class: "head" }, el("h2", {}, title), el("div", { class: "tools" }, ...tools));
+}
+
+export function hint(...words) {
+    return el("p", { class: "hint" }, ...words);
+}
+
+/** Returns an element for parts that are promised. It is busy until they are there. */
+export function later(promised) {
+    const place = el("div", { "aria-busy": "true" });
+    promised.then((parts) => {
+        place.removeAttribute("aria-busy");
+        place.append(...parts);
+    });
+    return place;
+}
+
 /** Offers a blob as a file to be saved. */
 export function save(name, blob) {
     const url = URL.createObjectURL(blob);

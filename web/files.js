@@ -1,10 +1,9 @@
 // What the page has of a file and of a container: parts of the report that the module gives, and ways to ask for more.
+import { Additions } from "./additions.js";
+import { PEF_KIND_PACKED, PEF_LOCATOR_DATA_FORK } from "./pef.js";
 
 /** The tables of a container, by the names of their lists. */
 const TABLES = ["sections", "libraries", "imports", "relocations", "exports"];
-
-/** The kind of a section with packed data. */
-export const PACKED = 2;
 
 /** The last of the errors of a container's header and its sections. */
 const LAST_OF_PARTS = 10;
@@ -12,13 +11,19 @@ const LAST_OF_PARTS = 10;
 /** The largest image that the page expands. */
 const MOST_EXPANDED = 0x10000000;
 
+/** The verdicts on a container, the worst one first. */
+export const VERDICTS = ["cut", "damaged", "unlikely", "stub", "m68k", "whole"];
+
 /** How many additions are listed, and how many are shown beside the bytes of a section. */
-export const MOST_LISTED = 20000;
+const MOST_LISTED = 20000;
 
-export const MOST_BESIDE = 100000;
+const MOST_BESIDE = 100000;
 
-/** The place of a member that is in the data fork. */
-const IN_DATA_FORK = 1;
+/** Returns the bytes of a file from an offset on, as a source of a view of bytes. */
+export function fileSource({ bytes, offset }) {
+    const label = offset === 0 ? "the file" : "the file from the container on";
+    return { label, load: () => ({ image: bytes, size: bytes.length, first: offset, added: new Additions(), isCut: false }) };
+}
 
 /** A file that the user gave. */
 export class OpenFile {
@@ -28,9 +33,13 @@ export class OpenFile {
         this.name = path.slice(path.lastIndexOf("/") + 1);
         /** Why it can't be read, if so. */
         this.why = null;
+        /** The script that it was linked from on the page, or null. */
+        this.script = null;
         this.isClosed = false;
-        /** How many errors and notes were found so far, whether there may be more, and in how many of the containers they were counted. */
-        this.count = { errors: 0, notes: 0, isCut: false, next: 0 };
+        /** How many errors and notes were found so far, and whether there may be more. */
+        this.count = { errors: 0, notes: 0, isCut: false };
+        /** What was counted of each container, those that were counted so far: its errors and notes, and its verdict. */
+        this.counted = [];
         this.format = null;
         /** The file that has its resource fork, and the file whose resource fork this one has. */
         this.companion = null;
@@ -39,7 +48,7 @@ export class OpenFile {
     }
 
     /** Takes what the worker says of the file. */
-    take({ bytes, report, forks, resources, hasMoreResources, places }) {
+    take({ bytes, report, forks, resources, hasMoreResources, places, rests }) {
         this.bytes = bytes;
         this.report = report;
         this.format = report.format;
@@ -49,6 +58,7 @@ export class OpenFile {
         this.resources = resources;
         this.hasMoreResources = hasMoreResources;
         this.places = places;
+        this.rests = rests;
         this.count.errors = report.errors.length;
         this.count.notes = report.notes.length;
         /** The fragments by the offsets of their containers, the first of each. */
@@ -57,14 +67,29 @@ export class OpenFile {
         this.errorAt = new Map([...report.errors].reverse().filter(({ part }) => part === "fragment").map((it) => [it.row, it]));
     }
 
-    /** Takes further errors and notes that were counted. */
-    takeCount({ errors, notes, isCut, next }) {
-        const { count } = this;
-        this.count = { errors: count.errors + errors, notes: count.notes + notes, isCut: count.isCut || isCut, next };
+    /** Takes what was counted of the next containers. */
+    takeCount(found) {
+        for (const it of found) {
+            this.counted.push(it);
+            this.count.errors += it.errors;
+            this.count.notes += it.notes;
+            this.count.isCut ||= it.isCut;
+        }
+    }
+
+    /** Says that the other containers can't be counted. */
+    giveUpCounting() {
+        const lacking = { errors: 0, notes: 0, isCut: true, state: null };
+        this.takeCount(Array.from({ length: this.places.length - this.counted.length }, () => lacking));
     }
 
     isCounted() {
-        return this.count.next >= this.places.length;
+        return this.counted.length >= this.places.length;
+    }
+
+    /** Returns the verdict of the file: the worst of those of its containers that were counted, or null if there is none. */
+    verdict() {
+        return VERDICTS.find((it) => this.counted.some(({ state }) => state === it)) ?? null;
     }
 
     hasResourceFork() {
@@ -87,12 +112,18 @@ export class OpenFile {
         }
     }
 
+    /** Returns a blob with bytes of the file. Several share what the browser keeps of them. */
+    part(from, length) {
+        this.blob ??= new Blob([this.bytes]);
+        return this.blob.slice(from, from + length);
+    }
+
     /** Returns the file and the place of the container that a fragment of this file names, or null. */
     containerOf({ offset, where, place }) {
         if (this.containerAt(offset) >= 0) {
             return { file: this, place: offset };
         }
-        const isInOwner = this.owner !== null && where === IN_DATA_FORK && this.owner.containerAt(place) >= 0;
+        const isInOwner = this.owner !== null && where === PEF_LOCATOR_DATA_FORK && this.owner.containerAt(place) >= 0;
         return isInOwner ? { file: this.owner, place } : null;
     }
 
@@ -154,16 +185,26 @@ export class Container {
         return this.ask("instructions", this.k, this.relocations.map(({ halfwords }) => halfwords));
     }
 
-    /** Returns the first additions of the relocation programs, of all or of those for a section. */
-    async additions(most, section = null) {
-        const wanted = [...this.relocations.keys()].filter((i) => section === null || this.relocations[i].section === section);
-        const { numbers, cut } = (await this.ask("additions", this.k, wanted, most)) ?? { numbers: [], cut: false };
-        const rows = [];
-        for (let i = 0; i < numbers.length; i += 4) {
-            const [relocation, offset, kind, number] = numbers.slice(i, i + 4);
-            rows.push({ section: this.relocations[relocation].section, offset, kind: kind === 1 ? "section" : "import", number });
-        }
+    /** Returns the first additions of the relocation programs, as rows of a table. */
+    async additions() {
+        const { numbers, cut } = await this.askAdditions(this.relocations.map((_, i) => i), MOST_LISTED);
+        const rows = Array.from({ length: numbers.length / 4 }, (_, i) => {
+            const [relocation, offset, kind, number] = numbers.subarray(4 * i, 4 * i + 4);
+            return { section: this.relocations[relocation].section, offset, kind, number };
+        });
         return { rows, cut };
+    }
+
+    /** Returns the first additions to the words of a section. */
+    async additionsTo(section) {
+        const wanted = [...this.relocations.keys()].filter((i) => this.relocations[i].section === section);
+        const { numbers, cut } = await this.askAdditions(wanted, MOST_BESIDE);
+        return { added: new Additions(numbers.filter((_, i) => i % 4 !== 0)), cut };
+    }
+
+    /** Returns the first additions of some programs, four numbers each. */
+    async askAdditions(wanted, most) {
+        return (await this.ask("additions", this.k, wanted, most)) ?? { numbers: new Float64Array(0), cut: false };
     }
 
     /** Returns the bytes of the container alone, as `pef extract` writes them: a note says where it ends, unless its parts are damaged. */
@@ -184,7 +225,7 @@ export class Container {
         if (raw + packed > this.offset + this.rest) {
             return null;
         }
-        if (kind !== PACKED) {
+        if (kind !== PEF_KIND_PACKED) {
             return this.file.bytes.subarray(raw, raw + packed);
         }
         return unpacked <= MOST_EXPANDED ? this.ask("image", raw, packed, unpacked) : null;

@@ -1,23 +1,11 @@
 // The view of a file: what is known of it beside its containers.
 import { BytesView } from "./bytes.js";
-import { button, el, terms } from "./dom.js";
+import { button, el, head, terms } from "./dom.js";
+import { fileSource } from "./files.js";
 import { findingColumns } from "./findings.js";
 import { DataTable } from "./table.js";
 import * as text from "./text.js";
-
-const FORMATS = {
-    container: "a bare container",
-    macbinary: "MacBinary",
-    applesingle: "AppleSingle",
-    appledouble: "AppleDouble",
-    damaged: "AppleSingle or AppleDouble, damaged",
-    resources: "a resource fork",
-    other: "unknown; containers are found by a search",
-};
-
-const USAGES = ["import library", "application", "drop-in addition", "stub library", "weak stub library"];
-
-const LOCATORS = ["in memory", "data fork", "resource"];
+import { FORMATS, LOCATORS, USAGES } from "./words.js";
 
 /** What the view shows of a report in its own way. */
 const SHOWN = ["file", "file_bytes", "data", "data_bytes", "size", "format"];
@@ -27,15 +15,20 @@ export function unreadableView({ path, name, why }) {
     return el("article", {}, el("h2", {}, name), el("p", { class: "verdict damaged" }, `${path} can't be read: ${why}.`));
 }
 
-/** Returns the view of a file. `choose` is called with a file and the place of a container or null. `helps` has what errors mean. */
-export function fileView(file, { choose, helps }) {
-    const bytes = new BytesView({ bytes: file.bytes, offset: 0, sections: [] });
-    const parts = [el("h2", {}, file.name), terms(factsOf(file, choose))];
+/**
+ * Returns the view of a file. `choose` is called with a file and the place of a container or null, and `prepare` to choose a fragment.
+ * `helps` has what errors mean.
+ */
+export function fileView(file, { choose, prepare, helps }) {
+    const bytes = new BytesView({ sources: () => [fileSource({ bytes: file.bytes, offset: 0 })] });
+    const tools = file.places.length === 0 && (file.companion?.places.length ?? 0) === 0 ? [] : [button("Prepare", prepare, { class: "main", title: "Show the memory that a fragment becomes" })];
+    const parts = [head(file.name, tools), terms(factsOf(file, choose))];
     const add = (title, table) => parts.push(el("h3", {}, title), table.element);
     if (file.findings.length > 0) {
         add("Errors and notes of the file", findingsTable(file, bytes, helps));
     }
-    add("Containers", containersTable(file, choose));
+    const containers = containersTable(file, choose);
+    add("Containers", containers);
     const inside = partsOf(file);
     if (inside.length > 1 || inside.some((it) => it.error !== 0)) {
         add("Parts of the file", forksTable(inside, helps));
@@ -53,7 +46,9 @@ export function fileView(file, { choose, helps }) {
         }
     }
     parts.push(el("h3", {}, "Bytes"), bytes.element);
-    return el("article", {}, ...parts);
+    const shown = el("article", {}, ...parts);
+    shown.addEventListener("counted", ({ detail }) => detail === file && containers.refresh());
+    return shown;
 }
 
 /** Returns the terms that say what a file is. */
@@ -80,7 +75,7 @@ function factsOf(file, choose) {
 function findingsTable(file, bytes, helps) {
     const show = (offset) => {
         bytes.open(0, offset);
-        bytes.lines.focus();
+        bytes.lines.element.focus();
     };
     return new DataTable({ caption: "Errors and notes of the file", columns: findingColumns(helps, { show }), rows: file.findings });
 }
@@ -95,12 +90,27 @@ function numeric(heading, value, shown = (it) => String(value(it))) {
 
 function containersTable(file, choose) {
     const fragment = (place) => file.fragmentAt.get(place);
+    const counted = (i) => file.counted[i];
     const columns = [
         { title: "#", text: (it, i) => String(i), value: (it, i) => i, class: "number" },
         { title: "Offset", text: (it) => text.at(it), value: (it) => it, class: "number", go: (it) => () => choose(file, it) },
         { title: "Fragment", text: (it) => (fragment(it) === undefined ? "" : text.nameOf(fragment(it))) },
+        { title: "Verdict", text: (it, i) => counted(i)?.state ?? "–", value: (it, i) => counted(i)?.state ?? null, badge: (it, i) => stateClass(counted(i)?.state) },
+        { title: "Errors", ...countColumn(counted, "errors") },
+        { title: "Notes", ...countColumn(counted, "notes") },
     ];
     return new DataTable({ caption: "Containers in the file", columns, rows: file.places, empty: "No container is in the file." });
+}
+
+/** Returns what a column shows of the containers that were counted: nothing if one isn't inspected. */
+function countColumn(counted, kind) {
+    const value = (it, i) => (counted(i) === undefined || counted(i).state === null ? null : counted(i)[kind]);
+    return { text: (it, i) => (counted(i) === undefined ? "…" : String(value(it, i) ?? "–")), value, class: "number" };
+}
+
+/** Returns the kind of the badge of a verdict. */
+function stateClass(state) {
+    return state === "whole" ? "sound" : (state ?? "empty");
 }
 
 /** Returns the parts that a file has, or their errors. Names and comments without a character are left out. */

@@ -1,5 +1,6 @@
 // The list of the files: one row each, with the errors and notes that were counted in it.
 import { button, el } from "./dom.js";
+import { VERDICTS } from "./files.js";
 import { Stop } from "./rove.js";
 import * as text from "./text.js";
 
@@ -14,15 +15,34 @@ const FILTERS = {
     all: () => true,
     errors: ({ why, count }) => why !== null || count.errors > 0,
     findings: ({ why, count }) => why !== null || count.errors + count.notes > 0,
+    whole: (file) => file.verdict() === "whole",
+    damaged: (file) => file.verdict() === "damaged",
+    cut: (file) => file.verdict() === "cut",
+    stub: (file) => file.verdict() === "stub",
+    m68k: (file) => file.verdict() === "m68k",
+    unlikely: (file) => file.verdict() === "unlikely",
+    none: ({ why, owner, places, companion }) => why === null && owner === null && places.length + (companion?.places.length ?? 0) === 0,
 };
 
-const FILTER_LABELS = { all: "All files", errors: "With errors", findings: "With errors or notes" };
+const FILTER_LABELS = {
+    all: "All files", errors: "With errors", findings: "With errors or notes", whole: "Whole", damaged: "Damaged", cut: "Cut",
+    stub: "Stub libraries", m68k: "For CFM-68K", unlikely: "Unlikely", none: "Without a container",
+};
+
+/** The orders of the list, each with what files are sorted by. Files with the same value stay in the order in which they were opened. */
+const ORDERS = {
+    opened: { label: "As they were opened", value: () => 0 },
+    name: { label: "By name", value: ({ path }) => path },
+    verdict: { label: "By verdict, the worst first", value: rankOf },
+    errors: { label: "By errors, the most first", value: ({ why, count }) => (why === null ? -count.errors : -Infinity) },
+};
 
 /** The list. `choose` is called with a file and the place of a container or null, and `remove` with a file. */
 export class FileList {
-    constructor({ panel, filter, list }, { choose, remove }) {
+    constructor({ panel, filter, order, list }, { choose, remove }) {
         this.panel = panel;
         this.filter = filter;
+        this.order = order;
         this.list = list;
         this.choose = choose;
         this.remove = remove;
@@ -30,6 +50,8 @@ export class FileList {
         this.timer = null;
         this.filter.append(...Object.keys(FILTERS).map((value) => el("option", { value })));
         this.filter.addEventListener("change", () => this.draw());
+        this.order.append(...Object.entries(ORDERS).map(([value, { label }]) => el("option", { value }, label)));
+        this.order.addEventListener("change", () => this.draw());
         this.stop = new Stop(list, "button.file");
         list.addEventListener("keydown", (event) => this.press(event));
     }
@@ -91,16 +113,33 @@ export class FileList {
         for (const [file, { item }] of this.rows) {
             item.hidden = !hasAny(file, FILTERS[this.filter.value]);
         }
+        this.sort();
         this.panel.hidden = files.length === 0;
         this.stop.rest();
     }
 
-    /** Marks what was chosen, and shows what is below its row. */
+    /** Puts the rows in the order that is chosen. */
+    sort() {
+        const { value } = ORDERS[this.order.value];
+        const values = new Map([...this.rows.keys()].map((it) => [it, value(it)]));
+        const sorted = [...values.keys()].sort((a, b) => (values.get(a) < values.get(b) ? -1 : values.get(a) > values.get(b) ? 1 : 0));
+        const items = sorted.map((it) => this.rows.get(it).item);
+        if (items.some((it, i) => it !== this.list.children[i])) {
+            const focused = this.list.contains(document.activeElement) ? document.activeElement : null;
+            this.list.append(...items);
+            focused?.focus();
+        }
+    }
+
+    /** Marks what was chosen, and shows what is below its row. Nothing is chosen if the file is null. */
     mark(file, place) {
-        const top = file.owner ?? file;
+        const top = file?.owner ?? file;
         for (const [it, { label, inner, links }] of this.rows) {
             [label, ...links.values()].forEach((link) => link.removeAttribute("aria-current"));
             inner.hidden = it !== top || inner.children.length === 0;
+        }
+        if (file === null) {
+            return;
         }
         const { label, links } = this.rows.get(top);
         const link = links.get(file === top ? place : file) ?? label;
@@ -110,7 +149,8 @@ export class FileList {
 
     /** Takes a file out. Returns the one beside it, or null. */
     drop(file) {
-        const shown = [...this.rows].filter(([, { item }]) => !item.hidden).map(([it]) => it);
+        const fileOf = new Map([...this.rows].map(([it, { item }]) => [item, it]));
+        const shown = [...this.list.children].filter((it) => !it.hidden).map((it) => fileOf.get(it));
         const here = shown.indexOf(file);
         const { item } = this.rows.get(file);
         const hadFocus = item.contains(document.activeElement);
@@ -143,23 +183,30 @@ function hasAny(file, takes) {
     return takes(file) || (file.companion !== null && takes(file.companion));
 }
 
-/** Returns what the row of a file says of it. */
+/** Returns the place of a file among others in the order of verdicts. */
+function rankOf(file) {
+    const verdicts = [file, file.companion].map((it) => it?.verdict() ?? null);
+    const worst = VERDICTS.findIndex((it) => verdicts.includes(it));
+    return file.why !== null ? -1 : worst < 0 ? VERDICTS.length : worst;
+}
+
+/** Returns what the row of a file says of it: its verdict, and how many errors and notes it has. */
 function badgesOf(file) {
     if (file.why !== null) {
         return [badge("error", "unreadable")];
     }
     const files = [file, file.companion].filter((it) => it !== null);
     const sum = (of) => files.reduce((all, { count }) => all + count[of], 0);
-    const more = files.every((it) => it.isCounted()) ? "" : "…";
+    const isCounted = files.every((it) => it.isCounted());
     const isCut = files.some(({ count }) => count.isCut);
+    const state = VERDICTS[rankOf(file)] ?? null;
     const marks = ["error", "note"].filter((it) => sum(`${it}s`) > 0).map((it) => countBadge(it, sum(`${it}s`), isCut));
-    if (marks.length === 0 && isCut) {
-        return [badge("empty", "not counted")];
-    }
-    if (marks.length === 0 && more === "") {
-        return [files.some(({ places }) => places.length > 0) ? badge("sound", "") : badge("empty", "no container")];
-    }
-    return more === "" ? marks : [...marks, more];
+    const none = marks.length > 0 || !isCounted ? [] : isCut ? [badge("empty", "not counted")] : nothingFound(files);
+    return [state === null ? null : stateBadge(state), ...marks, ...none, isCounted ? null : "…"].filter((it) => it !== null);
+}
+
+function nothingFound(files) {
+    return [files.some(({ places }) => places.length > 0) ? el("span", { class: "hidden" }, "no errors, no notes") : badge("empty", "no container")];
 }
 
 function countBadge(kind, count, isCut) {
@@ -170,9 +217,10 @@ function countBadge(kind, count, isCut) {
 }
 
 function badge(kind, words) {
-    const shown = el("span", { class: `badge ${kind}` }, words);
-    if (words === "") {
-        shown.append(el("span", { class: "hidden" }, "no errors, no notes"));
-    }
-    return shown;
+    return el("span", { class: `badge ${kind}` }, words);
+}
+
+/** Returns what says the verdict on a file. Only what isn't whole takes words. */
+function stateBadge(state) {
+    return state === "whole" ? el("span", { class: "badge sound", title: "whole" }, el("span", { class: "hidden" }, "whole")) : badge(state, state);
 }

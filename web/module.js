@@ -1,111 +1,63 @@
-// The calls of pef.wasm. The module keeps nothing between two calls. Its memory has the file, and after it room for what a call
-// writes, and memory that is lent to the call.
-
-/** The bytes of a row: two slices, each an address and a length, 24 numbers, and two flags. */
-const ROW = 232;
-
-const ROW_WORDS = ROW / 8;
-
-const FIRST_NUMBER = 4;
-
-/** The number that stands for none. */
-const NO_NUMBER = 0xFFFFFFFFFFFFFFFFn;
-
-const PAGE = 65536;
-
-/** The text is longer than the room, a part isn't there, and more memory has to be lent. */
-const ROOM_TOO_SMALL = 200;
-
-const NOT_THERE = 201;
-
-const OUT_OF_MEMORY = 99;
-
-/** What the object of a container says if the lent memory was too small to look into it. Such an object is short. */
-const LACKING = '{"number":99,"name":"OutOfMemory"';
-
-const MOST_LACKING = 600;
-
-/** How many rows one call is asked for. */
-const ROWS_AT_ONCE = 8192;
-
-/**
- * Where things are in the memory: the count that a call stores, the structs whose addresses calls take, and rows. Nothing else is ever
- * where the rows are, since a call takes that for rows.
- */
-const COUNT = 0;
-
-const LENT = 16;
-
-const STATE = 64;
-
-const RANGE = 128;
-
-const PROGRAM = 160;
-
-const ROWS = 192;
-
-const PATH = ROWS + ROWS_AT_ONCE * ROW;
-
-/** The bytes of what containers leave to the next one. Only the module knows what is in them. */
-const STATE_SIZE = 64;
-
-/**
- * The room at first, and the memory that is lent at first besides the length of the file. That is enough for almost all calls: one
- * that is made twice can take seconds twice, and memory that isn't touched costs nothing.
- */
-const FIRST_ROOM = 32 << 20;
-
-const FIRST_LENT = 128 << 20;
+// What the page asks of the library. The library keeps nothing of a file from one call to the next but a text that is being read.
+import {
+    PEF_COMMENT_CUT, PEF_DATA_FORK_CUT, PEF_EXPORT_PART, PEF_IMPORT_PART, PEF_LIBRARY_PART, PEF_NOT_THERE, PEF_OK, PEF_RELOCATION_PART, PEF_RESOURCE_FORK_CUT, PEF_SECTION_PART, STRUCTS,
+} from "./pef.js";
+import { Library } from "./library.js";
 
 /** Of a name or a comment with more bytes the text isn't shown. */
 const MOST_TEXT = 255;
 
 /** The kinds of rows that `rows` gives, by the names of their lists in JSON. */
-const KINDS = { sections: 1, libraries: 2, imports: 3, relocations: 4, exports: 5 };
+const KINDS = {
+    sections: PEF_SECTION_PART,
+    libraries: PEF_LIBRARY_PART,
+    imports: PEF_IMPORT_PART,
+    relocations: PEF_RELOCATION_PART,
+    exports: PEF_EXPORT_PART,
+};
 
-const FORKS = ["data fork", "resource fork", "name", "comment"];
+/** The parts of a file, by the members of `struct pef_forks`, and which of them are texts. */
+const FORKS = [
+    { member: "data_fork", kind: "data fork", isText: false },
+    { member: "resource_fork", kind: "resource fork", isText: false },
+    { member: "name", kind: "name", isText: true },
+    { member: "comment", kind: "comment", isText: true },
+];
+
+/** The errors of parts whose first bytes are there. */
+const CUTS = [PEF_DATA_FORK_CUT, PEF_RESOURCE_FORK_CUT, PEF_COMMENT_CUT];
+
+const FOUND_SIZE = STRUCTS.pef_found_container.size;
 
 const MAC_ROMAN = new TextDecoder("macintosh");
 
-const UTF_8 = new TextDecoder();
-
-function aligned(address) {
-    return Math.ceil(address / 64) * 64;
+/** Returns pieces of bytes as one. */
+function joined(pieces) {
+    const all = new Uint8Array(pieces.reduce((sum, it) => sum + it.length, 0));
+    let at = 0;
+    for (const piece of pieces) {
+        all.set(piece, at);
+        at += piece.length;
+    }
+    return all;
 }
 
-function numberOrNull(word) {
-    return word === NO_NUMBER ? null : Number(word);
-}
-
-function lacksMemory(text) {
-    return text.length < MOST_LACKING && UTF_8.decode(text).includes(LACKING);
-}
-
-/** The browser doesn't give enough memory. */
-export class LowMemory extends Error {}
-
-/** The module, with one file in its memory. */
+/** The library, with one file in its memory. */
 export class Reader {
-    constructor(instance) {
-        this.calls = instance.exports;
-        this.memory = instance.exports.memory;
-        this.base = aligned(Number(instance.exports.__heap_base.value));
-        this.room = FIRST_ROOM;
-        this.open(new Uint8Array(0), "");
+    constructor(library) {
+        this.library = library;
+        this.calls = library.calls;
+        this.report = library.copy(new Uint8Array(STRUCTS.pef_report.size));
+        this.found = library.allocate(FOUND_SIZE);
+        this.range = library.allocate(STRUCTS.pef_row_range.size);
+        this.path = [0, 0];
+        this.file = [0, 0];
+        this.containers = this.findContainers();
     }
 
     /** Loads the module from its bytes, or from a URL. */
     static async load(source) {
-        let bytes = source;
-        if (typeof source === "string") {
-            const answer = await fetch(source);
-            if (!answer.ok) {
-                throw new Error(`${source}: ${answer.status}`);
-            }
-            bytes = await answer.arrayBuffer();
-        }
-        const { instance } = await WebAssembly.instantiate(bytes, {});
-        return new Reader(instance);
+        return new Reader(await Library.load(source));
     }
 
     /**
@@ -113,285 +65,173 @@ export class Reader {
      * had as its own `containers` when it had this file open before: they take time to find.
      */
     open(bytes, path, containers = null) {
-        const name = new TextEncoder().encode(path);
-        this.path = { address: this.base + PATH, length: name.length };
-        this.file = { address: aligned(this.path.address + name.length), length: bytes.length };
-        this.free = aligned(this.file.address + bytes.length + 16);
-        this.need(this.free);
-        this.bytes(this.path.address, name.length).set(name);
-        this.bytes(this.file.address, bytes.length).set(bytes);
+        this.file = this.replace(this.file, bytes);
+        this.path = this.replace(this.path, new TextEncoder().encode(path));
         this.containers = containers ?? this.findContainers();
     }
 
-    // The report, in parts. A text is valid until the next call.
+    /** Frees bytes in the memory, and puts others there. Returns their address and their length. */
+    replace(old, bytes) {
+        this.calls.free(old[0]);
+        old.fill(0);
+        return [this.library.copy(bytes), bytes.length];
+    }
 
-    /** Gives the texts that together are what `pef inspect --json` prints of the file. */
-    *report() {
-        yield this.head();
+    // The report, in parts.
+
+    /**
+     * Gives pieces of bytes that together are what `pef inspect --json` prints of the file. Each is valid until the next one. `onContainer` is
+     * called with the number of each container before its pieces.
+     */
+    *whole(onContainer = () => {}) {
+        yield* this.pieces("pef_report_open_head", ...this.path, ...this.file);
         for (let k = 0; k < this.containers.places.length; k += 1) {
-            yield this.container(k);
+            onContainer(k);
+            yield* this.pieces("pef_report_open_found", ...this.file, this.putFound(k));
         }
-        yield this.end();
+        yield* this.pieces("pef_report_open_end", ...this.file, this.putFound(this.containers.places.length));
     }
 
     /** Returns the text before the containers. */
     head() {
-        return this.text("page_head", ...this.slice(this.path), ...this.slice(this.file));
+        return this.text("pef_report_open_head", ...this.path, ...this.file);
     }
 
     /** Returns the text after the containers. */
     end() {
-        return this.text("page_end", ...this.slice(this.file), this.putState(this.containers.places.length));
-    }
-
-    /** Returns the text of container `k`, with a comma if it isn't the first. It is empty if the container isn't inspected. */
-    container(k) {
-        return this.text("page_container", ...this.slice(this.file), this.putState(k));
+        return this.text("pef_report_open_end", ...this.file, this.putFound(this.containers.places.length));
     }
 
     /** Returns container `k` as an object: no instructions, and at most `most` rows of each table and errors and notes together. */
     excerpt(k, most) {
-        return this.text("page_excerpt", ...this.slice(this.file), this.putState(k), most);
+        return this.text("pef_report_open_excerpt", ...this.file, this.putFound(k), most);
     }
 
     /** Returns the objects of up to `count` rows of a list of container `k`, with a comma before each but row 0. */
     rows(k, list, from, count) {
-        const view = new DataView(this.memory.buffer, this.base + RANGE);
-        view.setBigUint64(0, BigInt(this.containers.places[k]), true);
-        [KINDS[list], from, count].forEach((it, i) => view.setUint32(8 + 4 * i, it, true));
-        return this.text("page_rows", ...this.slice(this.file), BigInt(this.base + RANGE));
+        this.library.write("pef_row_range", this.range, { offset: this.containers.places[k], part: KINDS[list], from, count });
+        return this.text("pef_report_open_rows", ...this.file, this.range);
     }
 
-    /**
-     * Returns the text that a call gives. If the room or the lent memory is too small, it is made larger, and the call is made again.
-     * If the memory can't grow any more, a container may have error 99 as its only one.
-     */
+    /** Returns the text that a call opens. */
     text(call, ...words) {
-        let least = FIRST_LENT + this.file.length;
-        for (;;) {
-            const lent = this.lend(least);
-            const answer = this.calls[call](this.at(LENT), ...words, BigInt(this.free), BigInt(this.room), this.at(COUNT));
-            if (answer === ROOM_TOO_SMALL) {
-                this.room = this.count();
-                this.grow(aligned(this.free + this.room) + lent);
-                continue;
+        return joined(Array.from(this.pieces(call, ...words), (it) => it.slice()));
+    }
+
+    /** Gives the text that a call opens in pieces. Each is valid until the next one. */
+    *pieces(call, ...words) {
+        const { room, roomLength, count } = this.library;
+        this.library.check(call, this.calls[call](this.report, ...words));
+        try {
+            for (let length = roomLength; length === roomLength; ) {
+                this.library.check("pef_report_next", this.calls.pef_report_next(this.report, room, roomLength, count));
+                length = this.library.number(count);
+                yield this.library.bytes(room, length);
             }
-            const text = answer === 0 ? this.bytes(this.free, this.count()) : null;
-            if (text !== null && !lacksMemory(text)) {
-                return text;
-            }
-            if (text === null && answer !== OUT_OF_MEMORY) {
-                throw new Error(`${call} returned ${answer}`);
-            }
-            least = 4 * lent;
-            if (!this.grow(aligned(this.free + this.room) + least)) {
-                return text ?? fail();
-            }
+        } finally {
+            this.calls.pef_report_free(this.report);
         }
     }
 
     // Containers.
 
-    /** Finds where containers begin, and what each leaves to the next one, as the bytes that the module gives. */
-    findContainers() {
-        const places = this.findPlaces();
-        const states = new Uint8Array(STATE_SIZE * (places.length + 1));
-        const state = this.bytes(this.base + STATE, STATE_SIZE);
-        for (let k = 0; k <= places.length; k += 1) {
-            const call = k === 0 ? "page_first" : "page_next";
-            this.calls[call](...this.slice(this.file), BigInt(places[k] ?? this.file.length), this.at(STATE));
-            states.set(state, STATE_SIZE * k);
-        }
-        return { places, states };
-    }
-
-    /** Returns the offsets of all containers in the file. Each search begins after the last place of the one before. */
-    findPlaces() {
-        const places = [];
-        let from = 0;
-        for (;;) {
-            const rest = { address: this.file.address + from, length: this.file.length - from };
-            const { count, words } = this.fill("page_containers", this.slice(rest), 0, ROWS_AT_ONCE);
-            for (let i = 0; i < count; i += 1) {
-                places.push(from + Number(words[ROW_WORDS * i + FIRST_NUMBER]));
-            }
-            if (count < ROWS_AT_ONCE) {
-                return Float64Array.from(places);
-            }
-            from = places[places.length - 1] + 1;
-        }
-    }
-
-    /** Puts what the containers before number `k` leave into the memory, and returns its address. */
-    putState(k) {
-        this.bytes(this.base + STATE, STATE_SIZE).set(this.containers.states.subarray(STATE_SIZE * k, STATE_SIZE * (k + 1)));
-        return this.at(STATE);
-    }
-
-    /** Returns how many bytes container `k` can have: those up to the end of its fork. */
-    rest(k) {
-        return Number(this.calls.page_rest(...this.slice(this.file), BigInt(this.containers.places[k])));
-    }
-
     /**
-     * Returns up to `most` additions of the program of a relocation header of container `k`, three numbers for each: the offset of
-     * the word, 1 if the address of a section is added or 2 for an import, and the number of that.
+     * Finds where containers begin, how many bytes each can have, and what each leaves to the next one, as the bytes that the library
+     * gives. The last of these are for the end of the report.
      */
-    additions(k, relocation, most) {
-        const view = new DataView(this.memory.buffer, this.base + PROGRAM);
-        view.setBigUint64(0, BigInt(this.containers.places[k]), true);
-        view.setBigUint64(8, BigInt(relocation), true);
-        const numbers = [];
-        for (const row of this.rowsOf("page_fixups", [...this.slice(this.file), this.at(PROGRAM)], most)) {
-            numbers.push(Number(row[FIRST_NUMBER]), Number(row[FIRST_NUMBER + 1]), Number(row[FIRST_NUMBER + 2]));
+    findContainers() {
+        const places = [];
+        const rests = [];
+        const found = [];
+        let answer = this.calls.pef_first_container(...this.file, this.found);
+        for (;;) {
+            found.push(this.library.bytes(this.found, FOUND_SIZE).slice());
+            if (answer === PEF_NOT_THERE) {
+                return { places: Float64Array.from(places), rests: Float64Array.from(rests), found: joined(found) };
+            }
+            const { offset, length } = this.library.read("pef_found_container", this.found);
+            places.push(offset);
+            rests.push(length);
+            answer = this.calls.pef_next_container(...this.file, this.found);
         }
-        return numbers;
+    }
+
+    /** Puts what was found of container `k` into the memory, and returns its address. */
+    putFound(k) {
+        this.library.bytes(this.found, FOUND_SIZE).set(this.containers.found.subarray(FOUND_SIZE * k, FOUND_SIZE * (k + 1)));
+        return this.found;
+    }
+
+    /** Returns how many bytes container `k` can have: those up to the end of its member, its resource or its fork. */
+    rest(k) {
+        return this.containers.rests[k];
+    }
+
+    /** Returns up to `most` additions of the program of a relocation header of container `k`. They have the members of `struct pef_fixup`. */
+    additions(k, relocation, most) {
+        const container = [this.file[0] + this.containers.places[k], this.rest(k)];
+        return this.table("pef_partial_fixups", "pef_fixup", [...container, relocation], most);
     }
 
     /** Expands packed bytes at an offset of the file up to a length. Returns null if they aren't sound. */
     expand(offset, packed, length) {
-        this.need(this.free + length);
-        const error = this.calls.page_expand(BigInt(this.file.address + offset), BigInt(packed), BigInt(this.free), BigInt(length));
-        return error === 0 ? this.bytes(this.free, length).slice() : null;
+        const image = this.library.allocate(length);
+        try {
+            const answer = this.calls.pef_expand(this.file[0] + offset, packed, image, length);
+            return answer === PEF_OK ? this.library.bytes(image, length).slice() : null;
+        } finally {
+            this.calls.free(image);
+        }
     }
 
     // Files of the classic Mac OS.
 
     /** Returns the parts that the file has: what they are, where, the text of a name or a comment, and 0 or the number of the error. */
     forks() {
-        return this.table("page_forks", this.slice(this.file), FORKS.length)
-            .map(({ bytes, numbers: [error, , offset] }, i) => ({
-                kind: FORKS[i],
+        const { room } = this.library;
+        if (this.calls.pef_forks(...this.file, room) !== PEF_OK) {
+            return [];
+        }
+        const forks = this.library.read("pef_forks", room);
+        return FORKS.map(({ member, kind, isText }) => {
+            const { bytes, offset, error } = forks[member];
+            const isThere = error === PEF_OK || CUTS.includes(error);
+            return {
+                kind,
                 offset,
-                length: bytes === null ? null : bytes.length,
-                text: bytes !== null && i >= 2 && bytes.length <= MOST_TEXT ? MAC_ROMAN.decode(bytes) : "",
+                length: isThere ? bytes.length : null,
+                text: isThere && isText && bytes.length <= MOST_TEXT ? MAC_ROMAN.decode(this.library.bytesOf(bytes)) : "",
                 error,
-            }))
-            .filter(({ error }) => error !== NOT_THERE);
+            };
+        }).filter(({ error }) => error !== PEF_NOT_THERE);
     }
 
     /** Returns up to `most` resources of the resource fork that is one of the parts. */
     resources(forks, most) {
-        const fork = forks.find(({ kind }) => kind === FORKS[1]);
-        if (fork === undefined || fork.error !== 0 || fork.length === 0) {
+        const fork = forks.find(({ kind }) => kind === "resource fork");
+        if (fork === undefined || fork.length === null || fork.length === 0) {
             return [];
         }
-        const slice = { address: this.file.address + fork.offset, length: fork.length };
-        return this.table("page_resources", this.slice(slice), most).map(({ name, bytes, numbers: [error, , type, id, , offset] }) => ({
-            type: MAC_ROMAN.decode(Uint8Array.of(type >>> 24, type >>> 16, type >>> 8, type)),
-            id: (id << 16) >> 16,
-            name: name === null ? null : MAC_ROMAN.decode(name),
-            offset: fork.offset + offset,
-            length: bytes === null ? null : bytes.length,
-            error,
-        }));
+        return this.table("pef_resources", "pef_resource", [this.file[0] + fork.offset, fork.length], most).map((it) => {
+            const isThere = it.error === PEF_OK;
+            return {
+                type: MAC_ROMAN.decode(Uint8Array.of(it.type >>> 24, it.type >>> 16, it.type >>> 8, it.type)),
+                id: it.id,
+                name: it.name_error === PEF_OK ? MAC_ROMAN.decode(this.library.bytesOf(it.name)) : null,
+                offset: fork.offset + it.offset,
+                length: isThere ? it.bytes.length : null,
+                error: it.error,
+            };
+        });
     }
 
     /** Returns the name of an error or a note and what it means. The name is null if there is none with this number. */
     error(number) {
-        const [{ name, bytes }] = this.table("page_error", [number], 1);
-        return { name: name === null ? null : UTF_8.decode(name), help: bytes === null ? "" : UTF_8.decode(bytes) };
+        return this.library.error(number);
     }
 
-    // Memory and tables.
-
-    /** Lets the memory reach up to an address. Returns whether it does. */
-    grow(end) {
-        const pages = Math.ceil((end - this.memory.buffer.byteLength) / PAGE);
-        try {
-            if (pages > 0) {
-                growBy(this.memory, pages);
-            }
-            return true;
-        } catch (error) {
-            if (error instanceof RangeError) {
-                return false;
-            }
-            throw error;
-        }
-    }
-
-    /** Lets the memory reach up to an address. */
-    need(end) {
-        if (!this.grow(end)) {
-            fail();
-        }
-    }
-
-    /** Lends the memory after the room to the next call, at least so many bytes. Returns how many they are. */
-    lend(least) {
-        const address = aligned(this.free + this.room);
-        this.need(address + least);
-        const length = this.memory.buffer.byteLength - address;
-        const view = new DataView(this.memory.buffer, this.base + LENT);
-        view.setBigUint64(0, BigInt(address), true);
-        view.setBigUint64(8, BigInt(length), true);
-        return length;
-    }
-
-    /** Returns bytes of the memory. They are valid until it grows. */
-    bytes(address, length) {
-        return new Uint8Array(this.memory.buffer, address, length);
-    }
-
-    /** Returns the address of one of the small things. */
-    at(place) {
-        return BigInt(this.base + place);
-    }
-
-    /** Returns a slice as two arguments of a call. */
-    slice({ address, length }) {
-        return [BigInt(address), BigInt(length)];
-    }
-
-    /** Returns the number that the last call stored. */
-    count() {
-        return Number(new BigUint64Array(this.memory.buffer, this.base + COUNT, 1)[0]);
-    }
-
-    /** Lets a call fill rows from number `from` on, at most as many as there is room for. Returns how many it filled, and their words. */
-    fill(call, words, from, most) {
-        const error = this.calls[call](...words, BigInt(from), this.at(ROWS), BigInt(most), this.at(COUNT));
-        const count = error === 0 ? this.count() : 0;
-        return { count, words: new BigUint64Array(this.memory.buffer, this.base + ROWS, ROW_WORDS * count) };
-    }
-
-    /** Gives the words of up to `most` rows of a table. They are valid until the next row is asked for. */
-    *rowsOf(call, slices, most) {
-        for (let from = 0; from < most; from += ROWS_AT_ONCE) {
-            const asked = Math.min(most - from, ROWS_AT_ONCE);
-            const { count, words } = this.fill(call, slices, from, asked);
-            for (let i = 0; i < count; i += 1) {
-                yield words.subarray(ROW_WORDS * i, ROW_WORDS * (i + 1));
-            }
-            if (count < asked) {
-                return;
-            }
-        }
-    }
-
-    /** Returns up to `most` rows of a table. The names and bytes of a row are valid until the memory grows. */
-    table(call, slices, most) {
-        return Array.from(this.rowsOf(call, slices, most), (row) => {
-            const flags = new Uint8Array(row.buffer, row.byteOffset + ROW - 8, 2);
-            const [name, bytes] = [0, 1].map((k) => (flags[k] === 0 ? null : this.bytes(Number(row[2 * k]), Number(row[2 * k + 1]))));
-            return { name, bytes, numbers: Array.from(row.subarray(FIRST_NUMBER, ROW_WORDS - 1), numberOrNull) };
-        });
-    }
-}
-
-function fail() {
-    throw new LowMemory("there is too little memory");
-}
-
-function growBy(memory, pages) {
-    try {
-        memory.grow(BigInt(pages));
-    } catch (error) {
-        // An older engine counts the pages of a memory with 64-bit addresses by plain numbers.
-        if (!(error instanceof TypeError)) {
-            throw error;
-        }
-        memory.grow(pages);
+    /** Returns up to `most` rows of a table as objects with the members of their struct. Bytes are valid until the next call. */
+    table(call, struct, words, most) {
+        return this.library.table(struct, most, (...places) => this.calls[call](...words, ...places)).rows;
     }
 }

@@ -9,8 +9,8 @@ import { Reader } from "./module.js";
 const reader = await Reader.load(readFileSync(process.argv[2] ?? new URL("pef.wasm", import.meta.url)));
 for (const path of readFileSync(0, "utf8").split("\n").filter((line) => line !== "")) {
     reader.open(readFileSync(path), path);
-    for (const text of reader.report()) {
-        let left = text;
+    for (const piece of reader.whole()) {
+        let left = piece;
         while (left.length > 0) {
             left = left.subarray(writeSync(1, left));
         }

@@ -79,6 +79,20 @@ export class DataTable {
         }
     }
 
+    /** Shows the rows that are shown anew: what they say has changed. */
+    refresh() {
+        const { from, to } = this;
+        const place = this.order === null && this.wanted === "" && !this.body.contains(document.activeElement) ? from : null;
+        if (place !== null) {
+            this.body.replaceChildren();
+            this.to = from;
+            while (this.to < to) {
+                this.body.append(this.line(this.to));
+                this.to += 1;
+            }
+        }
+    }
+
     /** Shows further rows. If all that were read are shown, it reads more. */
     async showMore() {
         if (this.isReading) {

@@ -12,6 +12,20 @@ export function nameOf(row) {
     return row.name === null ? "–" : `${shownName(row.name)}${row.name_length === undefined ? "" : "…"}`;
 }
 
+/** The characters of Mac Roman above 7F, by their bytes. */
+const HIGH = new TextDecoder("macintosh").decode(Uint8Array.from({ length: 128 }, (_, i) => 128 + i));
+
+/** Returns the bytes of a text in Mac Roman, or in UTF-8 if it has other characters. */
+export function macBytes(words) {
+    const bytes = Array.from(words, (it) => (it < "\x80" ? it.charCodeAt(0) : HIGH.includes(it) ? 128 + HIGH.indexOf(it) : null));
+    return bytes.includes(null) ? new TextEncoder().encode(words) : Uint8Array.from(bytes);
+}
+
+/** Returns a name by its bytes as `pef` prints it. */
+export function printed(bytes) {
+    return Array.from(bytes, (it) => (it > 0x20 && it < 0x7F && it !== 0x25 ? String.fromCharCode(it) : `%${hex(it, 2)}`)).join("");
+}
+
 /** Returns the beginning of a text that is too long to be shown beside others. */
 export function shortened(text) {
     return text.length > MOST_SHORT ? `${text.slice(0, MOST_SHORT)}…` : text;
@@ -61,4 +75,9 @@ export function others(object, known) {
 /** Returns how many of something there are. */
 export function counted(count, word) {
     return `${count.toLocaleString("en")} ${word}${count === 1 ? "" : "s"}`;
+}
+
+/** Returns what a row has as its name, and nothing else. */
+export function only({ name, name_length }) {
+    return name_length === undefined ? { name } : { name, name_length };
 }

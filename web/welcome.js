@@ -1,28 +1,29 @@
 // What is seen before a file is opened: what the page does, in three lines and a picture.
 import { button, el, svg } from "./dom.js";
-import { example } from "./example.js";
+import { EXAMPLES } from "./examples.js";
 
 const LINES = [
     ["Open a program, a library or a folder", "bare, in MacBinary or AppleDouble, or inside another file."],
     ["See what is inside", "sections, imports, exports, relocations, resources, and each byte at its place."],
     ["See what is wrong", "each error and each oddity, where it is, and what it means."],
+    ["Prepare it", "see the memory that it becomes with its libraries, or with stubs of those that nobody has."],
 ];
 
 /** The blocks of the picture: their kinds and widths. */
 const BLOCKS = [["header", 34], ["header", 22], ["section", 92], ["section", 64], ["gap", 14], ["loader", 128]];
 
-/** Returns the start page. `add` is called with the files that are opened from it. */
-export function welcomeView(add) {
+/** Returns the start page. `openExample` is called with the name of an example. */
+export function welcomeView(openExample) {
     const lines = LINES.map(([title, words]) => el("li", {}, el("strong", {}, title), `: ${words}`));
     const drop = el("p", { class: "how" }, el("strong", {}, "Drop files or folders anywhere on this page"), ", or choose files above.");
-    const open = button("Open an example", () => add([example()]), { id: "example" });
-    return el("section", { class: "welcome" }, picture(), el("ol", {}, ...lines), drop, el("p", {}, open));
+    const examples = Object.entries(EXAMPLES).map(([name, { label }]) => button(label, () => openExample(name), { id: `example-${name}` }));
+    return el("section", { class: "welcome" }, picture(), el("ol", {}, ...lines), drop, el("p", { class: "examples" }, "Or open an example: ", ...examples));
 }
 
 /** Returns what is seen if the module can't be loaded. */
 export function brokenView(why) {
-    const missing = "If pef.wasm is missing: it isn't in the repository. tools/build-page builds it, and the archive of the page has it.";
-    const old = "Otherwise the browser may be too old: it has to have 64-bit WebAssembly memories, as Chromium does.";
+    const missing = "If pef.wasm is missing: it isn't in the repository. tools/page-module makes it, and the archive of the page has it.";
+    const old = "Otherwise the browser may be too old: it has to have WebAssembly.";
     return el("section", { class: "broken" }, el("h2", {}, "The page can't work"), el("p", { class: "warning" }, `Its module can't be loaded: ${why}.`), el("p", {}, missing), el("p", {}, old));
 }
 

@@ -1,5 +1,8 @@
-// The worker. It owns the module, so that the page answers while the module works. The page asks for one thing at a time.
-import { LowMemory, Reader } from "./module.js";
+// The worker for files. It has a module of its own, so that the page answers while the module works.
+import { LowMemory } from "./library.js";
+import { Reader } from "./module.js";
+import { PEF_OUT_OF_MEMORY } from "./pef.js";
+import { post, sayStep, serve } from "./serve.js";
 
 /** The errors and notes have numbers up to this one. */
 const LAST_NUMBER = 255;
@@ -9,10 +12,11 @@ const FEW_ROWS = 1024;
 
 const MOST_ROWS = 65536;
 
-/** About how many bytes of text are read at once, and how many the page gets at once. */
+/** About how many bytes of text are read at once. */
 const MOST_TEXT = 24e6;
 
-const PIECE = 5e5;
+/** What is taken for the length of a text that isn't known. */
+const SOME_TEXT = 5e5;
 
 /** How many instructions are listed, and about how long one is as text. Those of a program with more halfwords aren't listed. */
 const MOST_INSTRUCTIONS = 20000;
@@ -43,24 +47,6 @@ const files = new Map();
 /** The number of the file that the reader has. */
 let opened = null;
 
-/** What goes on when the page has taken a piece. */
-let goOn = null;
-
-/** Gives lists of rows to the page, a piece at a time, so that it can do other things in between. As text they have so many bytes. */
-async function post(lists, size) {
-    const count = Object.values(lists).reduce((sum, rows) => sum + rows.length, 0);
-    const most = Math.max(1, Math.floor((count * PIECE) / size));
-    for (const [list, rows] of Object.entries(lists)) {
-        for (let from = 0; from < rows.length; from += most) {
-            const taken = new Promise((resolve) => {
-                goOn = resolve;
-            });
-            self.postMessage({ list, rows: rows.slice(from, from + most) });
-            await taken;
-        }
-    }
-}
-
 /** Returns rows of a text that may begin with a comma. */
 function rowsOf(text) {
     return JSON.parse(`[${text.startsWith(",") ? text.slice(1) : text}]`);
@@ -81,22 +67,38 @@ function parsed(text, asked) {
     return { container: text.length === 0 ? null : JSON.parse(TEXT.decode(text)), asked, size: text.length };
 }
 
-/** Returns the beginning of container `k`: a few rows, and if these aren't all, as many as can be shown at once. */
-function excerptOf(k) {
-    const few = parsed(reader.excerpt(k, FEW_ROWS), FEW_ROWS);
-    if (few.container === null || !isFull(few.container, FEW_ROWS)) {
-        return few;
-    }
+/** Returns what `make` makes, or what `instead` makes if the browser doesn't give enough memory. */
+function unlessMemoryIsLow(make, instead) {
     try {
-        const more = longerExcerptOf(k, few.size);
-        // It is shorter if there was no memory to look into the container.
-        return more === null || more.size < few.size ? few : more;
+        return make();
     } catch (error) {
         if (error instanceof LowMemory) {
-            return few;
+            return instead();
         }
         throw error;
     }
+}
+
+/** Returns what is shown of the container at an offset if there is too little memory to look into it. */
+function lackingAt(offset) {
+    const error = { number: PEF_OUT_OF_MEMORY, name: "OutOfMemory", part: null, row: null, field: null, offset: null };
+    const lists = { ...Object.fromEntries(LISTS.map((it) => [it, []])), errors: [error] };
+    return { offset, header: null, loader: null, ...lists, entries: { main: null, init: null, term: null }, verdict: null };
+}
+
+/** Returns the beginning of container `k` with a few rows. */
+function shortExcerptOf(k) {
+    const lacking = () => ({ container: lackingAt(reader.containers.places[k]), asked: FEW_ROWS, size: SOME_TEXT });
+    return unlessMemoryIsLow(() => parsed(reader.excerpt(k, FEW_ROWS), FEW_ROWS), lacking);
+}
+
+/** Returns the beginning of container `k`: a few rows, and if these aren't all, as many as can be shown at once. */
+function excerptOf(k) {
+    const few = shortExcerptOf(k);
+    if (few.container === null || !isFull(few.container, FEW_ROWS)) {
+        return few;
+    }
+    return unlessMemoryIsLow(() => longerExcerptOf(k, few.size) ?? few, () => few);
 }
 
 /** Returns the beginning of a container with more than a few rows, which have so many bytes of text. It is null if that is too long. */
@@ -112,11 +114,11 @@ function longerExcerptOf(k, size) {
     return null;
 }
 
-/** Keeps how many errors and notes an excerpt has. */
+/** Keeps how many errors and notes an excerpt has, and its verdict. */
 function countIn(counts, k, { container, asked }) {
     const errors = container?.errors.length ?? 0;
     const notes = container?.notes.length ?? 0;
-    counts.set(k, { errors, notes, isCut: errors + notes >= asked });
+    counts.set(k, { errors, notes, isCut: errors + notes >= asked, state: container?.verdict?.state ?? null });
 }
 
 /** Returns the end of the relocation headers from one on whose instructions are asked for together. */
@@ -132,9 +134,8 @@ function batchEnd(halfwords, from) {
 
 /** What the page may ask for. */
 const calls = {
-    /** Loads the module. Returns the names of errors and notes and what they mean, by their numbers. */
-    async start() {
-        reader = await Reader.load("pef.wasm");
+    /** Returns the names of errors and notes and what they mean, by their numbers. */
+    start() {
         return Array.from({ length: LAST_NUMBER + 1 }, (_, number) => reader.error(number));
     },
 
@@ -148,25 +149,23 @@ const calls = {
         const report = JSON.parse(TEXT.decode(reader.head()) + TEXT.decode(reader.end()));
         const forks = reader.forks();
         const resources = reader.resources(forks, MOST_RESOURCES);
-        return { bytes, report, forks, resources, hasMoreResources: resources.length === MOST_RESOURCES, places: reader.containers.places.slice() };
+        return { bytes, report, forks, resources, hasMoreResources: resources.length === MOST_RESOURCES, places: reader.containers.places.slice(), rests: reader.containers.rests.slice() };
     },
 
-    /** Counts errors and notes of containers from number `from` on. Returns the sums, and the number of the next one. */
+    /** Counts errors and notes of containers from number `from` on. Returns these and the verdicts, of as many as a short time allows. */
     count(from) {
         const { counts } = files.get(opened);
         const late = performance.now() + SHORT;
-        const sum = { errors: 0, notes: 0, isCut: false, next: from };
-        while (sum.next < reader.containers.places.length && (sum.next === from || performance.now() < late)) {
-            if (!counts.has(sum.next)) {
-                countIn(counts, sum.next, parsed(reader.excerpt(sum.next, FEW_ROWS), FEW_ROWS));
+        const found = [];
+        let k = from;
+        while (k < reader.containers.places.length && (k === from || performance.now() < late)) {
+            if (!counts.has(k)) {
+                countIn(counts, k, shortExcerptOf(k));
             }
-            const { errors, notes, isCut } = counts.get(sum.next);
-            sum.errors += errors;
-            sum.notes += notes;
-            sum.isCut ||= isCut;
-            sum.next += 1;
+            found.push(counts.get(k));
+            k += 1;
         }
-        return sum;
+        return found;
     },
 
     /** Forgets a file. */
@@ -229,9 +228,8 @@ const calls = {
         const late = performance.now() + MOST_TIME;
         let done = 0;
         while (done < relocations.length && numbers.length <= 4 * most && performance.now() < late) {
-            const found = reader.additions(k, relocations[done], most + 1 - numbers.length / 4);
-            for (let i = 0; i < found.length; i += 3) {
-                numbers.push(relocations[done], found[i], found[i + 1], found[i + 2]);
+            for (const { offset, kind, number } of reader.additions(k, relocations[done], most + 1 - numbers.length / 4)) {
+                numbers.push(relocations[done], offset, kind, number);
             }
             done += 1;
         }
@@ -245,50 +243,41 @@ const calls = {
 
     /** Returns what `pef inspect --json` prints of the file. */
     save() {
-        // Each part is copied at once, since the next one takes its place.
-        return new Blob(Array.from(reader.report(), (text) => new Blob([text])), { type: "application/json" });
+        const { length } = reader.containers.places;
+        // Each piece is copied at once, since the next one takes its place.
+        return new Blob(Array.from(reader.whole((k) => sayStep("containers", k, length)), (piece) => new Blob([piece])), { type: "application/json" });
     },
 };
 
-/** Returns the buffers of an answer that needn't be copied. */
-function buffersOf(answer) {
-    const parts = answer instanceof Uint8Array ? [answer] : Object.values(answer ?? {});
-    return parts.filter((it) => ArrayBuffer.isView(it)).map((it) => it.buffer);
-}
-
-/** Opens a file again if the reader has another one. Returns whether it can be read: without its bytes it is read from the disk. */
-async function reopen(number, bytes) {
+/**
+ * Opens a file again if the reader has another one. Returns whether it can be read: without its bytes it is read from the disk, if this
+ * worker has opened it before.
+ */
+async function reopen(number, bytes, path) {
     if (number === opened) {
         return true;
     }
-    const { file, path, containers } = files.get(number);
-    const contents = bytes ?? (await file.arrayBuffer().then((it) => new Uint8Array(it), () => null));
-    if (contents === null) {
+    const known = files.get(number);
+    const contents = bytes ?? (await known?.file.arrayBuffer().then((it) => new Uint8Array(it), () => null));
+    if (contents === undefined || contents === null) {
         return false;
     }
     opened = null;
-    reader.open(contents, path, containers);
+    reader.open(contents, known?.path ?? path, known?.containers);
     opened = number;
+    if (known === undefined) {
+        files.set(number, { file: new Blob([contents]), path, containers: reader.containers, counts: new Map() });
+    }
     return true;
 }
 
-/** Answers a message. If the file has changed on the disk, the page is asked for its bytes. */
-async function answer({ number, bytes, call, words }) {
+/** Answers a request. If the file can't be read again, the page is asked for its bytes. */
+async function answer({ number, bytes, path, call, words }) {
+    reader ??= await Reader.load("pef.wasm");
     if (["start", "open", "close"].includes(call)) {
         return { answer: await calls[call](...words) };
     }
-    return (await reopen(number, bytes)) ? { answer: await calls[call](...words) } : { isLost: true };
+    return (await reopen(number, bytes, path)) ? { answer: await calls[call](...words) } : { isLost: true };
 }
 
-self.addEventListener("message", async ({ data }) => {
-    if (data === "go on") {
-        goOn();
-        return;
-    }
-    try {
-        const said = await answer(data);
-        self.postMessage(said, buffersOf(said.answer));
-    } catch (error) {
-        self.postMessage({ error: error.message });
-    }
-});
+serve(answer);

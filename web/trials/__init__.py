@@ -1,0 +1,1 @@
+"""Trials of the page in a browser, by web/test."""
