@@ -17,9 +17,10 @@ import shutil
 import subprocess
 import sys
 import tempfile
-from typing import Iterable, Iterator, Optional, Sequence, Tuple
+from typing import Iterator, Optional, Sequence, Tuple
 
 ROOT = pathlib.Path(__file__).resolve().parent.parent
+sys.path.append(str(ROOT / "fuzz"))  # which has `damage`
 DEBIAN_PYTHON = "/usr/bin/python3"
 PEF = pathlib.Path(sys.argv[1] if len(sys.argv) > 1 else ROOT / "crates/pef/out/pef").resolve()
 LIBRARY = pathlib.Path(os.environ.get("PEF_LIBRARY") or ROOT / "out/libpef.so").resolve()
@@ -137,14 +138,6 @@ def need(name: str, command: Sequence, **options) -> str:
     if not check(name, status == 0, said):
         finish()
     return said
-
-
-def damaged(contents: bytes, turns: Iterable[int] = (0x01, 0x80, 0xFF), step: int = 1) -> Iterable[bytes]:
-    """A file that is cut, or changed in one byte, at each place in turn."""
-    for at in range(0, len(contents), step):
-        yield contents[:at]
-        for turn in turns:
-            yield contents[:at] + bytes([contents[at] ^ turn]) + contents[at + 1 :]
 
 
 @contextlib.contextmanager

@@ -180,6 +180,46 @@ static void report_in_parts(const uint8_t *bytes, size_t length)
     pef_report_free(&report);
 }
 
+/* How many bytes the text of an open report has, which is freed. */
+static size_t report_length(struct pef_report *report)
+{
+    uint8_t part[4096];
+    size_t written = sizeof part, all = 0;
+    while (written == sizeof part) {
+        if (pef_report_next(report, part, sizeof part, &written) != PEF_OK)
+            fails("pef_report_next", (uint32_t)all);
+        all += written;
+    }
+    pef_report_free(report);
+    return all;
+}
+
+/* Makes the report on a file in parts. They have as many bytes as the whole report. */
+static void report_by_containers(const uint8_t *bytes, size_t length)
+{
+    struct pef_report report = PEF_NO_REPORT;
+    struct pef_found_container found;
+    if (!is_ok("pef_report_open_head", pef_report_open_head(&report, bytes, 0, bytes, length)))
+        return;
+    size_t all = report_length(&report);
+    uint32_t answer = pef_first_container(bytes, length, &found);
+    while (answer == PEF_OK) {
+        if (found.offset >= length || found.length > length - found.offset)
+            fails("pef_next_container", (uint32_t)found.offset);
+        if (!is_ok("pef_report_open_found", pef_report_open_found(&report, bytes, length, &found)))
+            return;
+        all += report_length(&report);
+        if (is_ok("pef_report_open_excerpt", pef_report_open_excerpt(&report, bytes, length, &found, 3)))
+            report_length(&report);
+        answer = pef_next_container(bytes, length, &found);
+    }
+    if (answer != PEF_NOT_THERE || found.offset != length || !is_ok("pef_report_open_end", pef_report_open_end(&report, bytes, length, &found)))
+        fails("pef_next_container, at the end", answer);
+    all += report_length(&report);
+    if (is_ok("pef_report_open", pef_report_open(&report, bytes, 0, bytes, length)) && report_length(&report) != all)
+        fails("the parts of a report", (uint32_t)all);
+}
+
 /* Lists into a room that is too small by one byte, and into one that isn't. The first stays as it is. */
 static void list(const uint8_t *bytes, size_t length)
 {
@@ -199,7 +239,8 @@ static void list(const uint8_t *bytes, size_t length)
 static bool is_same_finding(const struct pef_finding *one, const struct pef_finding *other)
 {
     return one->place.part == other->place.part && one->place.row == other->place.row && one->place.field == other->place.field
-        && one->place.offset == other->place.offset && one->detail == other->detail && one->number == other->number && one->is_error == other->is_error;
+        && one->place.offset == other->place.offset && one->detail == other->detail && one->number == other->number && one->is_error == other->is_error
+        && one->detail_kind == other->detail_kind;
 }
 
 /* Finds what is wrong with a container, in two parts, and compares it with what the other calls reported: `read` is what reading the
@@ -370,6 +411,7 @@ static bool read_container(const uint8_t *bytes, size_t length)
     find(bytes, length, read, prepare(bytes, length));
     read_partly(bytes, length);
     report_in_parts(bytes, length);
+    report_by_containers(bytes, length);
     if (!is_ok("pef_header", pef_header(bytes, length, &header)))
         return false;
     for (size_t number = 0; number <= header.section_count && number < 32; number++)
@@ -387,6 +429,20 @@ static bool read_container(const uint8_t *bytes, size_t length)
 
 /* --- scripts --- */
 
+/* Certificates are refused as the container is. Their lines end with `end`. */
+static void certify_script(const uint8_t *script, size_t length, uint32_t linked, size_t linked_line)
+{
+    size_t written = 0, again = 0, line = 0;
+    uint32_t answer = pef_distances(script, length, take(&outputs, 0), 0, &written, &line);
+    if (answer != linked || line != linked_line)
+        fails("pef_distances, which isn't as pef_link", answer);
+    if (answer != PEF_ROOM_TOO_SMALL || written > ROOM)
+        return;
+    uint8_t *lines = take(&more, written);
+    if (pef_distances(script, length, lines, written, &again, &line) != PEF_OK || again != written || memcmp(lines + written - 4, "end\n", 4) != 0)
+        fails("pef_distances, with room", (uint32_t)again);
+}
+
 static void link_script(const uint8_t *script, size_t length)
 {
     size_t written = 0, again = 0, line = 0;
@@ -394,6 +450,7 @@ static void link_script(const uint8_t *script, size_t length)
     is_ok("pef_link", answer);
     if ((answer >= PEF_SCRIPT_BAD_LINE && answer <= PEF_SCRIPT_BAD_KIND) != (line != 0))
         fails("a refusal's line", answer);
+    certify_script(script, length, answer, line);
     if (answer != PEF_ROOM_TOO_SMALL || written > ROOM)
         return;
     uint8_t *container = take(&more, written);
@@ -510,6 +567,26 @@ static void ask(struct pef_context *context, const char *name)
     }
 }
 
+/* Makes a stub of each library that is lacking, up to 32, and reads its symbols. */
+static void make_stubs(struct pef_context *context, uint8_t values)
+{
+    static uint8_t stub[1 << 16];
+    struct pef_stub_options options = PEF_NUMBERED_STUBS;
+    struct pef_lacking rows[32];
+    struct pef_loader loader;
+    size_t count = 0, written = 0, symbols = 0;
+    memset(rows, 0, sizeof rows);
+    options.values = values;
+    if (!is_ok("pef_lacking", pef_lacking(context, 0, rows, 32, &count)))
+        return;
+    for (size_t i = 0; i < count; i++) {
+        if (!is_ok("pef_stub", pef_stub(context, rows[i].name.at, rows[i].name.length, &options, stub, sizeof stub, &written, &symbols)))
+            continue;
+        if (pef_loader(stub, written, &loader) != PEF_OK || loader.export_count != symbols)
+            fails("pef_stub, its symbols", (uint32_t)i);
+    }
+}
+
 /* Prepares at addresses one after another, from that of a page on. Of many sections only the first have one. */
 static bool prepare_at(struct pef_context *context, const char *name, uint8_t page, uint32_t *connection)
 {
@@ -557,6 +634,7 @@ static void call(struct pef_context *context, uint8_t what, uint8_t one, uint8_t
     case 4:
     case 5:
         ask(context, name);
+        make_stubs(context, other % 3);
         if (other % 4 == 3 && prepare_at(context, name, other, &connection))
             read_connection(context, connection);
         if (is_ok("pef_prepare", pef_prepare(context, (const uint8_t *)name, strlen(name), &connection, &told)))

@@ -4,6 +4,8 @@ from data.scripts import EXAMPLE
 from suite import Begins, Case
 
 SCRIPT = ("<SCRIPT>", "A script (docs/SCRIPTS.md)")
+FRAGMENTS = ("<[NAME=]FILE>...", "Containers, files of the classic Mac OS, or any files that have containers in them: NAME names the first fragment of FILE")
+NO_WEAK = ("    --no-weak", "Make no stubs of libraries that every fragment can do without")
 # What each command does, and its operands, its options and its example.
 COMMANDS = {
     "show": ("Prints the memory that the script on the standard input becomes", [], [], "< app.pefscript"),
@@ -39,6 +41,30 @@ COMMANDS = {
             ("    --resources <RESOURCES>", "The file that has the resource fork of the one FILE"),
         ],
         "Calculator.bin",
+    ),
+    "prepare": (
+        "Prints the memory that an application and its libraries become", [FRAGMENTS],
+        [
+            ("    --root <NAME>", "The fragment that is prepared, if it isn't the first one of the first FILE"),
+            ("    --library <FILE>", "A file whose fragments are libraries only"),
+            ("-L <FOLDER>", "A folder: its files are libraries"),
+            ("    --no-stubs", "Make no stubs of missing libraries: report the first that is missing"),
+            NO_WEAK,
+            ("    --json", "Print an object of JSON a line"),
+            ("    --bytes", "With `--json`: also print the bytes of each section, in base64"),
+        ],
+        "Calculator.bin",
+    ),
+    "stubs": (
+        "Makes stubs of the libraries that fragments lack", [FRAGMENTS],
+        [
+            ("    --first <ADDRESS>", "The number of the first symbol, in hexadecimal: F0000000 if it isn't given"),
+            ("    --step <BYTES>", "How far the numbers are from each other: 16 if it isn't given"),
+            NO_WEAK,
+            ("    --memory", "Give the symbols code and data of their own in place of numbers"),
+            ("-o <FOLDER>", "The folder that gets the stubs"),
+        ],
+        "-o stubs Calculator.bin",
     ),
 }
 HELP_OPTION = ("-h, --help", "Print help")
@@ -100,6 +126,15 @@ def unknown(word, *has):
     return Begins(b"error: unrecognized subcommand '%s'\n" % word, (*has, b"\nUsage: pef <COMMAND>\n\n" + ALL_HELP))
 
 
+NO_BYTES = b"""\
+error: give `--bytes` only with `--json`
+
+Usage: pef prepare [OPTIONS] <[NAME=]FILE>...
+
+For more information, try '--help'.
+"""
+NUMBERS = Begins(b"error: ADDRESS is one to eight hexadecimal digits,", (b"\nUsage: pef stubs [OPTIONS] <[NAME=]FILE>...\n",))
+NO_FRAGMENTS = Begins(b"error: the following required arguments were not provided:\n  <[NAME=]FILE>...\n")
 FILES_OR_LIST = Begins(b"error: give either FILEs or `--files0`", (b"\nUsage: pef inspect [OPTIONS] [FILE]...\n",))
 
 # Words, and what the standard error has.
@@ -129,6 +164,18 @@ USAGE = (
     (["load", "=a"], UNNAMED),
     (["load", "it=a", "a"], UNNAMED),
     (["inspect", "--resources", "a.rsrc", "a", "b"], FILES_OR_LIST),
+    *((words, NO_FRAGMENTS) for words in (["prepare"], ["prepare", "--json"], ["prepare", "--library", "a"], ["stubs"], ["stubs", "--memory"])),
+    *((words, NO_BYTES) for words in (["prepare", "--bytes", "a"], ["prepare", "a", "--bytes"])),
+    # more files than a preparation can have, a file between options, an option without its value or twice, and unknown ones
+    *((["prepare", *words], Begins(b"error: ")) for words in (
+        ["a"] * 257, ["a", "--json", "a"], ["a", "--root"], ["--root", "a", "--root", "b", "a"], ["--json", "--json", "a"], ["--first", "0", "a"], ["-x", "a"], ["-o", "d", "a"],
+    )),
+    *((["stubs", *words], Begins(b"error: ")) for words in (["--library", "a", "a"], ["-L", ".", "a"], ["--json", "a"], ["--root", "a", "a"], ["--first", "-1", "a"])),
+    # no numbers of 32 bits, and numbers for memory
+    *((["stubs", *words, "a"], NUMBERS) for words in (
+        ["--first", "100000000"], ["--first", ""], ["--first=0xF0"], ["--first", "F000000G"], ["--step", "0"], ["--step", "016"], ["--step", "4294967296"], ["--step", "10h"], ["--step="],
+        ["--memory", "--step", "4"], ["--first", "0", "--memory"],
+    )),
     (["--version", "it"], Begins(b"error: ")),
     (["--version", "show"], Begins(b"error: `--version` is used alone\n", (b"\nUsage: pef <COMMAND>\n",))),
     (["--versions"], Begins(b"error: unexpected argument '--versions' found\n", (b"'--version'",))),

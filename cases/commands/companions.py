@@ -21,9 +21,9 @@ level 0 stack 0 directory 0 place 00000000 length 0 space 0 instance 0 extension
 level 0 stack 0 directory 0 place 00000008 length 250 space 0 instance 0 extensions 0
 00000094 fragment 2 Drv architecture pwpc usage 0 library where 2 resource container 000000C8 size 3 versions - - current 0 olddef 0 \
 level 0 stack 0 directory 0 place 6E647276 length 128 space 0 instance 0 extensions 0
-error 80 NoContainer fragment at 00000000
-error 80 NoContainer fragment at 00000008
-error 80 NoContainer fragment at 000000C8
+error 80 NoContainer fragment 0 at 00000034
+error 80 NoContainer fragment 1 at 00000064
+error 80 NoContainer fragment 2 at 00000094
 total containers 0 errors 3 notes 0
 """
 

@@ -112,6 +112,51 @@ end
     )
 ]
 
+# Fixups of section 1 as `offset:base`, with S for a section and I for an import; the length; the registers; and the labels row by row, with
+# the classes of C outside and those of D inside.
+LABELLED = (
+    # one transition vector after another
+    ("0:S0 4:S1 8:S0 12:S1", 1, "0 1 *", ("2 1 2 3 2 3 3 2 3", "3 2 3 2 3 3 3 3 3", "2 1 2 2 2 2 2 2 2", "1 1 1 1 1 1 1 1 1", "0 0 0 0 0 0 0 0 0")),
+    # two words. The second is as far as a skip reaches after `VTable8 1`
+    ("0:S1 1028:S1", 2, "1 *", ("2 3 2 3", "1 1 1 1", "0 0 0 0")),
+    # the second word is as far as a move and a skip reach
+    ("0:S1 5124:S1", 3, "1 *", ("3 4 3 4", "1 1 1 1", "0 0 0 0")),
+    # words with a word between them
+    ("0:S2 8:S2 16:S2", 2, "2 *", ("1 2 1 2", "1 2 1 2", "1 1 1 1", "0 0 0 0")),
+    # words after a word that has no fixup
+    ("4:S2 8:S2 12:S2", 2, "2 *", ("1 1 1 2", "1 1 1 2", "1 1 1 1", "0 0 0 0")),
+    # words of one section and one of another, for which the longest run isn't the best
+    ("0:S1 8:S1 12:S0", 3, "0 1 *", ("4 3 4 3 3 4 4 3 4", "2 2 2 1 2 2 2 2 2", "1 1 1 1 1 1 1 1 1", "0 0 0 0 0 0 0 0 0")),
+    # a pair, and a word as far after it as a skip reaches
+    ("0:S0 4:S1 1032:S1", 2, "0 1 *", ("3 2 3 4 3 4 4 3 4", "3 2 3 3 2 3 3 2 3", "1 1 1 1 1 1 1 1 1", "0 0 0 0 0 0 0 0 0")),
+    # a pair, and a word that two instructions reach
+    ("0:S0 4:S1 12:S1", 2, "0 1 *", ("3 2 3 3 2 3 3 2 3", "2 1 2 2 1 2 2 1 2", "1 1 1 1 1 1 1 1 1", "0 0 0 0 0 0 0 0 0")),
+    # pairs in the other order than the registers have at the start
+    ("0:S1 4:S0 8:S1 12:S0", 3, "0 1 *", ("2 3 3 1 2 2 2 3 3", "3 2 3 2 3 3 3 3 3", "2 2 2 1 2 2 2 2 2", "1 1 1 1 1 1 1 1 1", "0 0 0 0 0 0 0 0 0")),
+    # two imports, and both again
+    ("0:I0 4:I1 8:I0 12:I1", 3, "*", ("3", "3", "2", "1", "0")),
+)
+
+NO_FIXUPS = b"fixups 0\nlength 0\nprogram -\nregisters *\nat 0 0 0\n"
+
+
+def labelled(listed, length, registers, rows):
+    """The case of a list: equal rows have one line. Several shortest programs may be printed."""
+    script = "library l 0 0 -\nimport i0 data strong\nimport i1 data strong\n" + "".join(f"section s{number} data process 4 5128\n" for number in range(3))
+    pairs = [it.split(":") for it in listed.split()]
+    script += "".join(f"fix s1 {offset} {'import' if base[0] == 'I' else 'section'} {base.lower()}\n" for offset, base in pairs)
+    text, start = f"\nregisters {registers}\n", 0
+    for row, labels in enumerate(rows):
+        if row + 1 == len(rows) or rows[row + 1] != labels:
+            text += f"at {start} {row} {labels}\n"
+            start = row + 1
+    head = b"pefcert 2\nsection 0\n" + NO_FIXUPS + f"section 1\nfixups {len(pairs)}\nlength {length}\nprogram ".encode()
+    text = text.encode() + b"section 2\n" + NO_FIXUPS + b"end\n"
+    return Case(f"the labels of {listed}", ["distances", "a"], {"a": script.encode()}, stdout=Begins(head, has=(text,)))
+
+
+CASES += [labelled(*row) for row in LABELLED]
+
 # Errors of scripts. The second word overlaps the first.
 CASES += [
     Case(error.decode(), ["distances", "a"], {"a": script}, **refused(error, where))

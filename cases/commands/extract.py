@@ -1,7 +1,9 @@
 """`pef extract`: containers by name and by number, and errors, after which no file has changed. Resource forks in other files are in
 companions.py."""
+from mac_binary import mac_binary
+
 from data.containers import RICH, VECTORS
-from data.mac_files import fragment_file
+from data.mac_files import fragment_file, resource_fork
 from data.refusals import MISSING, refused
 from suite import Case, changed
 
@@ -38,10 +40,18 @@ CASES += [
     Case("a damaged container amid zeros", ["extract", "a", "#0", "a"], {"a": DAMAGED}, stdout=b"extracted 993 bytes\n", after={"a": DAMAGED[7:]}),
 ]
 
-# The fork has six bytes after its container.
+# The fork has six bytes after its container. The member ends before them, unless its length, at 640, is 0 or passes the fork. A container
+# in a resource ends with it.
 M68K = changed(VECTORS, (8, b"m68k"))
 CASES += [
-    Case("a damaged container in a fork", ["extract", "a", "#0", "out"], {"a": fragment_file(M68K)}, stdout=b"extracted 256 bytes\n", after={"out": M68K + bytes(6)}),
+    Case(f"a damaged container in {name}", ["extract", "a", "#0", "out"], {"a": file}, stdout=b"extracted %d bytes\n" % len(found), after={"out": found})
+    for name, file, found in (
+        ("a member", fragment_file(M68K), M68K),
+        ("a fork", fragment_file(M68K, (643, b"\x00")), M68K + bytes(6)),
+        ("a member that passes the fork", fragment_file(M68K, (642, b"\x01\x01")), M68K + bytes(6)),
+        ("a resource", resource_fork(M68K), M68K),
+        ("a resource that it passes", resource_fork(VECTORS[:200]), VECTORS[:200]),
+    )
 ]
 
 # The name of section 0 is after all sections. It ends with a zero byte, or not at all; or it would begin past the end.
@@ -88,6 +98,13 @@ FRAGMENTS = {
     b"80 NoContainer": b"\x00\x05\x16\x07\x00\x02" + bytes(18) + b"\x00\x01\x00\x00\x00\x02\x00\x00\x00\x26\x00\x00\x00",
 }
 CASES += [Case(error.decode(), ["extract", "a", "Calc", "out"], {"a": file, "out": b"text"}, **refused(error)) for error, file in FRAGMENTS.items()]
+
+# An empty resource fork is none: no name means a container, and numbers do.
+EMPTY_FORK = mac_binary("x", VECTORS, b"")
+CASES += [
+    Case("a name, with an empty resource fork", ["extract", "a", "Calc", "out"], {"a": EMPTY_FORK}, **refused(b"80 NoContainer")),
+    Case("a number, with an empty resource fork", ["extract", "a", "#0", "out"], {"a": EMPTY_FORK}, stdout=b"extracted %d bytes\n" % len(VECTORS), after={"out": VECTORS}),
+]
 
 CASES += [
     Case("no file", ["extract", "b", "#0", "out"], {"a": VECTORS}, **refused(b"71 FileUnreadable b", MISSING)),

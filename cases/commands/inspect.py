@@ -1,6 +1,6 @@
 """`pef inspect` of files of each form, of lists of files, and of damaged containers. conformance/inspect has many more of those."""
 from data import mac_files
-from data.containers import VECTORS
+from data.containers import STUB, VECTORS
 from suite import Begins, Case, changed
 
 OTHER = b"format other\ntotal containers 0 errors 0 notes 0\n"
@@ -120,9 +120,9 @@ level 0 stack 0 directory 0 place 00000000 length 0 space 0 instance 0 extension
 level 0 stack 0 directory 0 place 00000008 length 250 space 0 instance 0 extensions 0
 00000294 fragment 2 Drv architecture pwpc usage 0 library where 2 resource container 000002C8 size 3 versions - - current 0 olddef 0 \
 level 0 stack 0 directory 0 place 6E647276 length 128 space 0 instance 0 extensions 0
-error 80 NoContainer fragment at 00000080
-error 80 NoContainer fragment at 00000088
-error 80 NoContainer fragment at 000002C8
+error 80 NoContainer fragment 0 at 00000234
+error 80 NoContainer fragment 1 at 00000264
+error 80 NoContainer fragment 2 at 00000294
 total containers 0 errors 3 notes 0
 """,
 ))
@@ -170,6 +170,63 @@ error 11 LoaderShort loader mainSection at 000000A0
 verdict cut needs 250 has 200 sections damaged imports damaged exports damaged relocations damaged
 total containers 1 errors 2 notes 0
 """),
+    # The resource has those 200 bytes, and the map of 50 bytes follows: the container would end with it.
+    Case("a resource with a cut container", ["inspect", "a"], {"a": mac_files.resource_fork(VECTORS[:200])}, status=1, stdout=b"""\
+file a size 270 format resources
+00000000 fork resource size 270
+00000014 resource ndrv 1 size 200 attributes 0
+00000014 container current 1 olddef 0 oldimp 0 date 0 versions - - - time 1904-01-01T00:00:00 sections 3 instantiated 2
+0000003C section 0 kind 0 share 4 align 4 total 8 unpacked 8 packed 8 default 00000000 name - raw 00000094
+00000058 section 1 kind 1 share 1 align 4 total 16 unpacked 16 packed 16 default 00000000 name - raw 000000A4
+00000074 section 2 kind 4 share 4 align 4 total 0 unpacked 0 packed 90 default 00000000 name - raw 000000B4
+error 6 SectionOutside section 2 containerOffset at 00000088
+error 11 LoaderShort loader mainSection at 000000B4
+verdict cut needs 250 has 200 sections damaged imports damaged exports damaged relocations damaged
+total containers 1 errors 2 notes 0
+"""),
+]
+
+# The state of a container, how many bytes it needs, and which of its parts are damaged: the architecture is at 8, the version of the
+# format at 12, the alignment of section 0 at 66, and the section of the stub library's export 0 at 188.
+M68K = changed(VECTORS, (8, b"m68k"))
+UNLIKELY = changed(VECTORS, (8, b"text\0\0\0\2"))
+PARTS = (b"sections", b"imports", b"exports", b"relocations")
+CASES += [
+    Case(f"the state {state.decode()} of {name}", ["inspect", "a"], {"a": file}, status=0 if state == b"whole" else 1, stdout=Begins(
+        b"file a size %d format container\n" % len(file),
+        (b"\nverdict %s needs %d has %d %s\n" % (state, needs, len(file), b" ".join(it + (b" damaged" if it in damaged else b" whole") for it in PARTS)),),
+    ))
+    for state, name, file, needs, damaged in (
+        (b"whole", "a sound container", VECTORS, 250, ()),
+        (b"m68k", "a container for CFM-68K", M68K, 250, ()),
+        (b"damaged", "a damaged one", changed(M68K, (66, b"\x28")), 250, PARTS[:1]),
+        (b"cut", "a cut one", M68K[:200], 250, PARTS),
+        (b"stub", "a stub library", STUB, 236, PARTS[:1]),
+        (b"damaged", "one with a damaged export", changed(STUB, (188, b"\0\2")), 236, (b"sections", b"exports")),
+        (b"damaged", "a container of another version", changed(VECTORS, (15, b"\2")), 250, ()),
+        (b"damaged", "one for CFM-68K of another version", changed(M68K, (15, b"\2")), 250, ()),
+        (b"unlikely", "another architecture and version", UNLIKELY, 250, ()),
+        (b"unlikely", "a part of such bytes", UNLIKELY[:200], 250, PARTS),
+    )
+]
+
+# A version is written as such if its first four digits are decimal and its stage is known. currentVersion is at 28.
+CASES += [
+    Case(f"the version {number.hex()}", ["inspect", "a"], {"a": changed(VECTORS, (28, number))}, stdout=Begins(
+        b"file a size 250 format container\n",
+        (b"00000000 container current %d olddef 0 oldimp 0 date 0 versions %s - - time " % (int.from_bytes(number, "big"), text),),
+    ))
+    for number, text in (
+        (b"\x01\x20\x60\x03", b"1.2b3"),
+        (b"\x99\x99\x80\x00", b"99.9.9"),
+        (b"\x99\x99\x80\xff", b"99.9.9f255"),
+        (b"\xff\xff\x80\xff", b"-"),
+        (b"\xa0\x00\x80\x00", b"-"),
+        (b"\x0a\x00\x80\x00", b"-"),
+        (b"\x00\xa0\x80\x00", b"-"),
+        (b"\x00\x0a\x80\x00", b"-"),
+        (b"\x01\x20\x61\x03", b"-"),
+    )
 ]
 
 # The same in JSON: the file up to its containers, a container up to its sections, a section without a name, and the end of the file.

@@ -45,7 +45,7 @@ FILES = {"vectors": VECTORS, "text": b"versions 1 0 0\n", "script": EXAMPLE}
 
 def loading(words, **answer):
     """Returns the case of some words, with the files that they name."""
-    paths = {word.partition("=")[2] for word in words}
+    paths = dict.fromkeys(word.partition("=")[2] for word in words)
     files, linked = ({path: table[path] for path in paths if path in table} for table in (FILES, SCRIPTS))
     return Case(" ".join(words), ["load", *words], files, linked=linked, **answer)
 

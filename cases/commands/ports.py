@@ -7,6 +7,10 @@ from suite import Case
 LINKED = {"stdout": b"linked 140 bytes\n"}
 OUTPUT_FAILED = b"The standard output failed, so a part of the answer may be missing.\n"
 
+# A container of two sections, the second one with 17 megabytes at 256: its sizes and its offset are in the header at 68.
+MANY = 17 << 20
+LARGE = containers.VECTORS[:76] + 3 * MANY.to_bytes(4, "big") + (256).to_bytes(4, "big") + containers.VECTORS[92:] + bytes(6) + bytes(range(256)) * (MANY // 256)
+
 CASES = [
     # a path keeps its spaces
     Case("spaces around a path that is written", ["link", "a", " b "], {"a": b"", "b": b"1", " b": b"2", "b ": b"3"}, after={" b ": containers.EMPTY}, **LINKED),
@@ -19,6 +23,7 @@ CASES = [
     Case("a link to a file", ["list", "a"], {"a": "b", "b": b"Joy!"}, **refused(b"1 TooShort")),
     Case("a file that may not be read", ["list", "a"], {"a": b"text"}, closed=("a",), **refused(b"71 FileUnreadable a", FORBIDDEN)),
     Case("a file that was longer", ["link", "a", "out"], {"a": b"", "out": bytes(10_000)}, after={"out": containers.EMPTY}, **LINKED),
+    Case("a file that is read and one that is written whole", ["extract", "a", "#0", "out"], {"a": LARGE}, stdout=b"extracted %d bytes\n" % len(LARGE), after={"out": LARGE}),
     Case("a full device for the container", ["link", "a", "/dev/full"], {"a": b""}, **refused(b"72 FileUnwritable /dev/full", FULL)),
     Case("this folder for the container", ["link", "a", "."], {"a": b""}, **refused(b"72 FileUnwritable .", FOLDER)),
     Case("a file below a file for the container", ["link", "a", "a/b"], {"a": b""}, **refused(b"72 FileUnwritable a/b", MISSING)),

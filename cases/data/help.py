@@ -1,8 +1,11 @@
-"""What the standard error says first of an error, by its number. What is known of its place may follow, in other lines."""
+"""What the standard error says first of an error, by its number. What is known of its place may follow, in other lines.
+
+tools/declarations writes this file from docs/errors.table.
+"""
 
 HELP = {
     1: b"The file ends inside the headers of a container. It is truncated, or it isn't a PEF container.\n",
-    2: b"The file doesn't begin with Joy!peff, so it isn't a PEF container. If one is inside, `pef extract FILE '#0' OUT` takes it out.\n",
+    2: b"The file doesn't begin with Joy!peff, so it isn't a PEF container. `pef prepare FILE` takes a file of the Mac. If a container is inside, `pef extract FILE '#0' OUT` takes it out.\n",
     3: b"The container isn't for PowerPC. CFM-68K containers aren't read.\n",
     4: b"The container's format version isn't 1, and the format has no other. The file is damaged.\n",
     5: b"The header counts more instantiated sections than sections. The file is damaged.\n",
@@ -47,7 +50,7 @@ HELP = {
     51: b"The line isn't one that a certificate has there. Compare it with section 9 of docs/FORMATS.md, and look for carriage returns, spaces at its end and a missing last line feed.\n",
     52: b"The certificates aren't one for each section of the script, in order. They may be those of another script.\n",
     60: b"No fragment of this name was given. Pass it under exactly this name; upper and lower case differ.\n",
-    61: b"The fragment needs a library that wasn't given. Pass its container, or a stub that exports what is used, under exactly this name; upper and lower case differ.\n",
+    61: b"The fragment needs a library that wasn't given. Pass its container under exactly this name; upper and lower case differ. If nobody has it, `pef prepare` makes a stub of it, and `pef stubs` writes one.\n",
     62: b"The library doesn't export a symbol that the fragment needs. Pass a library that exports it, or link the fragment with the import weak.\n",
     63: b"The library is older than the oldest that the fragment accepts. Pass a newer library.\n",
     64: b"The library no longer serves a fragment that was linked with so old a version. Pass an older library, or link the fragment again with this one.\n",
@@ -62,7 +65,10 @@ HELP = {
     73: b"Reading the standard input failed. Check the program at the other end of the pipe, and run the command again.\n",
     74: b"The standard input has more than 536,870,912 bytes. Check what was piped in: a script isn't that long.\n",
     75: b"The sections of the new fragments take more bytes together than the context allows. Allow more, or leave this fragment out.\n",
-    80: b"The file has no container with this name or number. Numbers begin at #0; upper and lower case of a name differ.\n",
+    76: b"The data fork of a file in MacBinary passes the end of the file. The file was cut, or its header is damaged; the fork is read as far as it goes.\n",
+    77: b"The resource fork of a file in MacBinary passes the end of the file. The file was cut, or its header is damaged; the fork is read as far as it goes.\n",
+    78: b"The comment of a file in MacBinary passes the end of the file. The file was cut, or its header is damaged; the forks are read.\n",
+    80: b"The file has no container with this name or number. Numbers begin at #0; upper and lower case of a name differ, and a fragment for CFM-68K is found by a number alone.\n",
     81: b"The header says that it is of MacBinary II or III, and its CRC is wrong. The forks are read all the same.\n",
     82: b"The file begins as AppleSingle or AppleDouble, and ends inside its header. The file is truncated.\n",
     83: b"The file begins as AppleSingle or AppleDouble, and its version is neither 1 nor 2. The file is damaged.\n",

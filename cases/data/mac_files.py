@@ -32,3 +32,11 @@ def fragment_file(container, *changes):
     container of up to 250 bytes at 136. Other bytes are then written at some offsets."""
     header = ((1, b"\x04File"), (83, b"\x00\x00\x01\x08\x00\x00\x01\x11"))
     return changed(bytes(785), *header, (136, container), (512, FRAGMENT_FORK), *changes)
+
+
+def resource_fork(contents):
+    """Returns a resource fork with the resource `ndrv` 1: its length is at 16, its bytes follow, and then the map of 50 bytes."""
+    size = len(contents)
+    header = b"".join(it.to_bytes(4, "big") for it in (16, 20 + size, 4 + size, 50))
+    rows = changed(bytes(34), (8, b"\x00\x1C\x00\x32"), (14, b"ndrv\x00\x00\x00\x0A\x00\x01\xFF\xFF"))
+    return header + size.to_bytes(4, "big") + contents + header + rows

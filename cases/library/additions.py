@@ -1,5 +1,4 @@
-"""The additions of relocation programs, whether or not their words, sections and imports exist: python/test has more programs. And a
-long program that is applied."""
+"""The additions of relocation programs, whether or not their words, sections and imports exist. And a long program that is applied."""
 from data.bare import Section, container
 
 # A program, and what docs/FORMATS.md gives it: offsets, and sections or imports with their numbers.
@@ -15,6 +14,20 @@ PROGRAMS = [
     ("4000 9001", [(0, "section", 0), (4, "section", 0), (8, "section", 0)]),
     ("4000 B000 0000", [(0, "section", 0)]),
     ("4200 9000 4000 9000 4A00", [(0, "section", 1), (4, "section", 1), (8, "section", 0), (12, "section", 0), (16, "import", 0)]),
+    ("0041", [(4, "section", 1)]),
+    ("4001", [(0, "section", 0), (4, "section", 0)]),
+    ("4401", [(0, "section", 0), (4, "section", 1), (12, "section", 0), (16, "section", 1)]),
+    ("4601", [(0, "section", 0), (4, "section", 1), (8, "section", 0), (12, "section", 1)]),
+    ("4801", [(0, "section", 1), (8, "section", 1)]),
+    ("6005 4A00", [(0, "import", 5), (4, "import", 6)]),
+    ("6203 6402 4600", [(0, "section", 3), (4, "section", 2)]),
+    ("8002 6604", [(3, "section", 4)]),
+    ("A000 0010 A400 0258 4A00", [(16, "import", 600), (20, "import", 601)]),
+    ("4200 8003 9100", [(0, "section", 1), (8, "section", 1)]),
+    ("A400 0007 B040 0002", [(0, "import", 7), (4, "import", 7), (8, "import", 7)]),
+    ("B440 0202 B480 0203 B400 0201", [(0, "section", 513)]),
+    # 512 words, and ten times more
+    ("43FF 9009", [(4 * word, "section", 1) for word in range(512 * 11)]),
     # the word is past 32 bits: an instruction that moves on by 4,096 bytes is executed 1,048,577 times
     ("8FFF B010 0000 4000", [(4096 * 1_048_577, "section", 0)]),
 ]

@@ -27,8 +27,8 @@ def checks(pef):
         found = pef.inspect(with_words(container, words))
         yield f"errors of {damaged}", [(it.number, it.offset) for it in found if it.is_error], errors
     # Sections are tested before the loader section is looked for. One section may be instantiated.
-    found = [(it.number, it.offset, it.detail) for it in pef.inspect(STUB)]
-    yield "errors and notes of a stub library", found, [(10, 0, None), (7, 64, None), (116, 34, 1)]
+    found = [(it.number, it.offset, it.detail, it.detail_kind.word) for it in pef.inspect(STUB)]
+    yield "errors and notes of a stub library", found, [(10, 0, None, "none"), (7, 64, None, "none"), (116, 34, 1, "sections")]
     stub = pef.Container(STUB, damaged=True)
     found = [(it.name, it.section, it.value, int(it.symbol_class)) for it in stub.exports]
     yield "exports of a stub library", found, [("open", 1, 0, 1), ("read", 1, 4, 1), ("shut", 1, 8, 1)]

@@ -3,8 +3,10 @@ are written by hand from the tables of docs/FORMATS.md, section 10."""
 import binascii
 import ctypes
 
+from mac_binary import mac_binary
+
 from data.containers import VECTORS
-from data.mac_files import FRAGMENT_FORK, fragment_file
+from data.mac_files import FRAGMENT_FORK, fragment_file, resource_fork
 from suite import changed
 
 # A file in MacBinary III of 512 bytes.
@@ -356,14 +358,18 @@ NAMED_ELSEWHERE = [
     ("a data fork", DATA_FORK, b"Calc", 80),
     ("a data fork outside", DATA_OUTSIDE, b"Calc", 85),
     ("a header that is cut", b"\x00\x05\x16\x07\x00\x03", b"Calc", 82),
+    # an empty resource fork is none
+    ("an empty resource fork", mac_binary("x", DATA_FORK, b""), b"Calc", 80),
 ]
 
-# The bytes of a data fork, a name, and the bytes that it means with the resource fork, or an error.
+# The bytes of a data fork and of a resource fork, a name, and the bytes that it means, or an error.
 PAIRS = [
-    (DATA_FORK, b"Calc", VECTORS),
-    (DATA_FORK, b"Drv", b"drv"),
-    (DATA_FORK, b"calc", 80),
-    (DATA_FORK[:257], b"Calc", 98),
+    (DATA_FORK, FRAGMENT_FORK, b"Calc", VECTORS),
+    (DATA_FORK, FRAGMENT_FORK, b"Drv", b"drv"),
+    (DATA_FORK, FRAGMENT_FORK, b"calc", 80),
+    (DATA_FORK[:257], FRAGMENT_FORK, b"Calc", 98),
+    (DATA_FORK, FRAGMENT_FORK[:15], b"Calc", 87),
+    (DATA_FORK, b"", b"Calc", 80),
 ]
 
 # --- searches ---
@@ -382,6 +388,17 @@ SEARCHES = [
 # The container with a number in a file with two: it has all bytes after it.
 TWO = changed(bytes(100), (3, b"Joy!peff"), (60, b"Joy!peff"))
 NUMBERED = [(0, TWO[3:]), (1, TWO[60:]), (2, 80), (2 ** (8 * ctypes.sizeof(ctypes.c_size_t)) - 1, 80)]
+
+# A container reaches to the end of its member, its resource or its fork. The fork has six bytes after the container, and the length of the
+# member is at 640: 0 is all of the fork.
+BOUNDED = [
+    ("a member", fragment_file(VECTORS), VECTORS),
+    ("a member of all of its fork", fragment_file(VECTORS, (643, b"\x00")), VECTORS + bytes(6)),
+    ("a shorter member", fragment_file(VECTORS, (643, b"\xC8")), VECTORS[:200]),
+    ("a resource", resource_fork(VECTORS), VECTORS),
+    ("a resource that it passes", resource_fork(VECTORS[:200]), VECTORS[:200]),
+    ("a resource, after other bytes", resource_fork(bytes(8) + VECTORS + bytes(4)), VECTORS + bytes(4)),
+]
 
 
 class Reader:
@@ -451,9 +468,8 @@ def checks(pef):
         yield f"the containers in {length} bytes with {parts}", pef.mac._places_in(changed(bytes(length), *parts)), places
     for number, wanted in NUMBERED:
         yield f"container {number}", read.found("pef_numbered_container", TWO, len(TWO), number), wanted
-    # a container in a fork reaches to the end of the fork: this one has six bytes more
-    contents = fragment_file(VECTORS)
-    yield "a container in a fork", read.found("pef_numbered_container", contents, len(contents), 0), VECTORS + bytes(6)
+    for name, contents, wanted in BOUNDED:
+        yield f"a container in {name}", read.found("pef_numbered_container", contents, len(contents), 0), wanted
 
 
 def of_forks(read):
@@ -512,6 +528,6 @@ def of_fragments(read):
     for changes, wanted in DAMAGE:
         errors = read.pef.MacFile(fragment_file(VECTORS, *changes)).errors
         yield f"the errors of a file with {changes}", [(it.number, it.part, it.offset) for it in errors], wanted
-    for data_fork, name, wanted in PAIRS:
-        words = data_fork, len(data_fork), FRAGMENT_FORK, len(FRAGMENT_FORK), name, len(name)
-        yield f"{name} in a data fork of {len(data_fork)} bytes", read.found("pef_fork_container", *words), wanted
+    for data_fork, resources, name, wanted in PAIRS:
+        words = data_fork, len(data_fork), resources, len(resources), name, len(name)
+        yield f"{name} in forks of {len(data_fork)} and {len(resources)} bytes", read.found("pef_fork_container", *words), wanted

@@ -1,4 +1,4 @@
-"""Scripts: their first errors with the places, the limits, and what a container has of a script."""
+"""Scripts: their first errors with the places, the limits, what a container has of a script, and the certificates."""
 import ctypes
 
 from data import containers, scripts
@@ -15,10 +15,11 @@ def place_of(pef, text):
     return number, place.part, place.row, place.field, place.offset, earlier.value
 
 
-def link_refused(pef, text):
-    """What pef_link gives of a script with an error: the number, the line, and what it leaves of a length of 7 and of a buffer."""
+def refused_by(call, text):
+    """What pef_link or pef_distances gives of a script with an error: the number, the line, and what it leaves of a length of 7 and of a
+    buffer."""
     buffer, written, line = (ctypes.c_uint8 * 4)(*b"left"), ctypes.c_size_t(7), ctypes.c_size_t(7)
-    number = pef.library().pef_link(text, len(text), buffer, 4, ctypes.byref(written), ctypes.byref(line))
+    number = call(text, len(text), buffer, 4, ctypes.byref(written), ctypes.byref(line))
     return number, line.value, written.value, bytes(buffer)
 
 
@@ -26,7 +27,8 @@ def errors(pef):
     for error in ERRORS:
         name = repr(error.text[-40:])
         yield f"the place in {name}", place_of(pef, error.contents), (error.number, LINE, error.line, error.word, error.at, error.earlier or 0)
-        yield f"linking {name}", link_refused(pef, error.contents), (error.number, error.line, 7, b"left")
+        for call in "pef_link", "pef_distances":
+            yield f"{call} of {name}", refused_by(getattr(pef.library(), call), error.contents), (error.number, error.line, 7, b"left")
     for text in SOUND:
         yield f"no error in {text[-40:]!r}", place_of(pef, text.encode("latin-1")), NO_ERROR
 
@@ -128,6 +130,57 @@ def vectors(pef):
     yield "the entry points", container.entries, {"main": pef.Entry(1, 0)}
 
 
+def certificates(pef):
+    """What `pef distances` prints, in a buffer that is as long, and in one that is a byte too short."""
+    yield "the certificates", pef.distances(scripts.VECTORS).encode(), scripts.VECTORS_CERTIFIED
+    yield "no certificates", pef.distances(""), "pefcert 2\nend\n"
+    needed = len(scripts.VECTORS_CERTIFIED)
+    for room, number in (needed - 1, 200), (needed, 0):
+        buffer, written, line = (ctypes.c_uint8 * needed)(), ctypes.c_size_t(7), ctypes.c_size_t(7)
+        made = pef.library().pef_distances(scripts.VECTORS, len(scripts.VECTORS), buffer, room, ctypes.byref(written), ctypes.byref(line))
+        expected = scripts.VECTORS_CERTIFIED if number == 0 else bytes(needed)
+        yield f"certificates in {room} bytes", (made, written.value, line.value, bytes(buffer)), (number, needed, 0, expected)
+
+
+# A script with each kind of line, whose contents aren't in the order of the sections.
+EVERY_LINE = """versions 3 2 1
+library Tools 5 4 weak,before
+library Other 7 6 -
+import draw tvector strong
+import size data weak
+section code code global 4 8
+section data data process 0xC 16
+section packed pattern protected 2 8
+fix data 8 import size
+bytes code 0011
+tvector data 0 code data
+bytes packed 00000000
+bytes data 00
+export go tvector data 0
+reexport size glue size
+absolute trap code 0xA9FF
+main data 0
+term code 4
+"""
+
+
+def every_line(pef):
+    """What a container has of a script with each kind of line."""
+    container = pef.Container(pef.link(EVERY_LINE))
+    header = container.header
+    yield "versions", (header.current_version, header.old_def_version, header.old_imp_version), (3, 2, 1)
+    yield "libraries", container.libraries, [pef.Library("Tools", 5, 4, True, True), pef.Library("Other", 7, 6, False, False)]
+    yield "imports", container.imports, [pef.Import("draw", "Other", 2, False), pef.Import("size", "Other", 1, True)]
+    sections = [it for it in container.sections if it.instantiated]
+    found = [(it.kind, it.share, it.alignment, it.total_size) for it in sections]
+    yield "sections", found, [(0, 4, 4, 8), (1, 1, 12, 16), (2, 5, 2, 8)]
+    yield "images", [container.expand(it) for it in sections], [b"\x00\x11", b"\x00", bytes(4)]
+    yield "fixups", [(it.offset, it.kind, it.number) for it in container.fixups(0)], [(0, "section", 0), (4, "section", 1), (8, "import", 1)]
+    exports = {pef.Export("go", 1, 0, 2), pef.Export("size", -3, 1, 4), pef.Export("trap", -2, 0xA9FF, 0)}
+    yield "exports", set(container.exports), exports
+    yield "entry points", container.entries, {"main": pef.Entry(1, 0), "term": pef.Entry(0, 4)}
+
+
 def checks(pef):
-    for table in errors, limits, orders, vectors:
+    for table in errors, limits, orders, vectors, certificates, every_line:
         yield from table(pef)

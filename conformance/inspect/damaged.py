@@ -749,8 +749,8 @@ error 9 BadAlignment section 0 alignment at 000000C2""", 0x80)
     # 194. The offset of a member is at its byte 24.
     named = fragments((b"Calc", 1, 0, 0), (b"Draw", 1, 4, 4), (b"Tail", 1, 64, 0))
     inside("members-without-containers", mac_binary(b"nothing here", resource_fork(b"cfrg", 0, named)), "macbinary", """
-error 80 NoContainer fragment at 00000080
-error 80 NoContainer fragment at 00000084
+error 80 NoContainer fragment 0 at 00000134
+error 80 NoContainer fragment 1 at 00000164
 error 98 FragmentOutside fragment 2 at 000001AC""")
 
     # The resource fork was cut: in the reference at 8A, which is the last row of its map at 64, and after its header.
@@ -760,24 +760,35 @@ error 87 ResourceMapOutside resource at 00000004
 error 91 ReferenceCut resource at 0000008A""")
     inside("resource-fork-header-alone", alone[:16], "resources", "error 87 ResourceMapOutside resource at 00000004")
 
-    # A resource's bytes begin at 14. After them are the 50 bytes of the map.
-    inside("resource", resource_fork(b"ndrv", 1, bad), "resources", """
+    # A resource's bytes begin at 14. After them are the 50 bytes of the map, which the container doesn't have.
+    inside("resource", resource_fork(b"ndrv", 1, bad), "resources", "error 9 BadAlignment section 0 alignment at 00000056", 0x14)
+    inside("macbinary-resource", mac_binary(b"", resource_fork(b"ndrv", 1, bad)), "macbinary",
+           "error 9 BadAlignment section 0 alignment at 000000D6", 0x94)
+    inside("resource-more", resource_fork(b"ndrv", 1, b"skip" + bad + b"more"), "resources", """
+note 109 TrailingBytes container at 00000204 length 4
+error 9 BadAlignment section 0 alignment at 0000005A""", 0x18)
+    # The resource ends 11 bytes before the container's end, so the last export is cut, although the map follows. If the length of the
+    # resource passes the data, nothing is known of where it ends, and the container needs bytes of the map: 50 of 61 are left after it.
+    inside("resource-cut", resource_fork(b"ndrv", 1, WHOLE[:0x1E1]), "resources", """
+error 6 SectionOutside section 3 containerOffset at 000000A4
+error 6 SectionOutside section 4 containerOffset at 000000C0
+error 19 BadExportTable loader exportHashOffset at 00000140
+note 113 UnownedBytes loader at 000001C3 length 5""", 0x14)
+    inside("resource-without-its-end", changed(resource_fork(b"ndrv", 1, bad), "10 00010000"), "resources", """
+error 93 ResourceDataOutside resource at 0000022A
 note 109 TrailingBytes container at 00000200 length 50
 error 9 BadAlignment section 0 alignment at 00000056""", 0x14)
-    inside("macbinary-resource", mac_binary(b"", resource_fork(b"ndrv", 1, bad)), "macbinary", """
-note 109 TrailingBytes container at 00000280 length 50
-error 9 BadAlignment section 0 alignment at 000000D6""", 0x94)
 
     # The resource fork is at 80, its resource at 94, and the member at B4.
     alone = mac_binary(b"", resource_fork(b"cfrg", 0, fragments((b"Calc", 1, 0, 0))))
     inside("resource-map-outside", changed(alone, "84 00000200"), "macbinary", "error 87 ResourceMapOutside resource at 00000084")
     inside("fragment-table-version", changed(alone, "9E 0002"), "macbinary", "error 95 BadFragmentTable fragment at 0000009E")
     inside("member-cut", changed(alone, "B2 0002"), "macbinary", """
-error 80 NoContainer fragment at 00000080
+error 80 NoContainer fragment 0 at 000000B4
 error 96 MemberCut fragment 1 at 000000E4""")
     inside("member-name-cut", changed(alone, "DE FF"), "macbinary", """
 error 97 MemberNameCut fragment 0 at 000000DE
-error 80 NoContainer fragment at 00000080""")
+error 80 NoContainer fragment 0 at 000000B4""")
 
     # The rows of the two entries are at 1A and 26, and their offsets at 1E and 2A. The data fork is at 32. If it isn't known where
     # it ends, the container goes on to the end of the file, 150 bytes after its own.
@@ -817,9 +828,36 @@ def file_notes() -> None:
     binary += bytes(0x380 - len(binary))
     inside("macbinary-filled", binary, "macbinary", "", 0x80)
     inside("macbinary-and-more", binary + b"more", "macbinary", "note 117 BytesAfterForks fork at 00000380 length 4", 0x80)
-    # The resource fork is at 280, its resource at 294, and the member at 2B4. The container needs 492 bytes, and the member has 400.
-    short = mac_binary(WHOLE, resource_fork(b"cfrg", 0, fragments((b"Calc", 1, 0, 400))))
-    inside("fragment-short", short, "macbinary", "note 118 FragmentShort fragment 0 at 000002B4 length 92", 0x80)
+    # The resource fork is at 280, its resource at 294, and the members at 2B4 and 2E4. The container needs 492 bytes, and the member has
+    # 481. So the last export is cut, although the fork goes on. The first member whose container begins there counts.
+    lines = """
+error 6 SectionOutside section 3 containerOffset at 00000110
+error 6 SectionOutside section 4 containerOffset at 0000012C
+error 19 BadExportTable loader exportHashOffset at 000001AC
+note 113 UnownedBytes loader at 0000022F length 5"""
+    note = "note 118 FragmentShort fragment {} at {:08X} length 11"
+    short, whole = (b"Calc", 1, 0, 481), (b"Draw", 1, 0, 492)
+    for name, members, notes in (
+        ("fragment-short", (short,), note.format(0, 0x2B4) + lines),
+        ("fragment-short-and-whole", (short, whole), note.format(0, 0x2B4) + lines),
+        ("fragment-whole-and-short", (whole, short), note.format(1, 0x2E4)),
+    ):
+        inside(name, mac_binary(WHOLE, resource_fork(b"cfrg", 0, fragments(*members))), "macbinary", notes, 0x80)
+    # The architecture of the member, at 2B4, and its usage, at 2CA. In the resource fork alone the member is at 34.
+    odd = "note 122 FragmentArchitecture fragment 0 at 000002B4"
+    unnamed = "note 123 FragmentUsage fragment 0 at 000002B4"
+    for name, changes, notes in (
+        ("architecture-of-68k", "2B4 6D36386B", odd),
+        ("architecture-in-capitals", "2B4 50775063", odd),
+        ("any-architecture", "2B4 3F3F3F3F", ""),
+        ("usage-4", "2CA 04", ""),
+        ("usage-5", "2CA 05", unnamed),
+        ("usage-9-for-68k", "2B4 6D36386B, 2CA 09", f"{odd}\n{unnamed}"),
+    ):
+        inside(f"fragment-of-{name}", changed(mac_binary(WHOLE, calc), changes), "macbinary", notes, 0x80)
+    for name, changes, notes in (("known", "34 6D36386B", ""), ("unknown", "34 50775063", "\nnote 122 FragmentArchitecture fragment 0 at 00000034")):
+        inside(f"fragment-elsewhere-of-{name}-architecture", changed(calc, changes), "resources",
+               f"note 119 DataForkElsewhere fragment 0 at 00000034{notes}")
     for name, contents, words in (
         ("stuffit", b"SIT!" + bytes(60), "stuffit open unar"),
         ("stuffit-5", b"StuffIt (c)1997-2001 Aladdin Systems, Inc.", "stuffit open unar"),

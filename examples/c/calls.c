@@ -1,6 +1,6 @@
 /*
  * Tries the calls that link, list and read a container, on a script, a container and a listing that docs/FORMATS.md shows, and those
- * that give places, names and help. What is expected is written by hand. What differs is printed, a line each, and the status is then 1.
+ * that give certificates, places, names and help. What is expected is written by hand. What differs is printed, a line each, and the status is then 1.
  */
 #include "expect.h"
 
@@ -26,7 +26,28 @@ static const char lines[] =
     "4601 TVector8 2\n"
     "export go class 2 section 1 value 00000000\n";
 
-enum { LENGTH = 250, LINES = sizeof lines - 1 };
+/* The certificates of its sections, by the definition of labels in docs/CERTIFICATES.md. */
+static const char certificates[] =
+    "pefcert 2\n"
+    "section 0\n"
+    "fixups 0\n"
+    "length 0\n"
+    "program -\n"
+    "registers *\n"
+    "at 0 0 0\n"
+    "section 1\n"
+    "fixups 4\n"
+    "length 1\n"
+    "program 4601\n"
+    "registers 0 1 *\n"
+    "at 0 0 2 1 2 3 2 3 3 2 3\n"
+    "at 1 1 3 2 3 2 3 3 3 3 3\n"
+    "at 2 2 2 1 2 2 2 2 2 2 2\n"
+    "at 3 3 1 1 1 1 1 1 1 1 1\n"
+    "at 4 4 0 0 0 0 0 0 0 0 0\n"
+    "end\n";
+
+enum { LENGTH = 250, LINES = sizeof lines - 1, CERTIFICATES = sizeof certificates - 1 };
 
 /* The container of the script. */
 static uint8_t container[LENGTH];
@@ -48,10 +69,26 @@ static void test_linked_and_listed(void)
     EXPECT(memcmp(text, lines, LINES) == 0);
 }
 
+/* The lines of certificates, in a buffer that is large enough by one byte more, and in one that isn't. */
+static void test_distances(void)
+{
+    uint8_t buffer[CERTIFICATES + 1], unchanged[CERTIFICATES];
+    size_t written = 0, line = 7;
+    memset(buffer, 7, sizeof buffer);
+    memset(unchanged, 7, sizeof unchanged);
+    EXPECT(pef_distances(TEXT(script), buffer, CERTIFICATES - 1, &written, &line) == PEF_ROOM_TOO_SMALL);
+    EXPECT(line == 0 && written == CERTIFICATES && memcmp(buffer, unchanged, CERTIFICATES) == 0);
+    written = 3;
+    EXPECT(pef_distances(TEXT("# a\nsection a\n"), buffer, sizeof buffer, &written, &line) == PEF_SCRIPT_BAD_LINE);
+    EXPECT(line == 2 && written == 3 && memcmp(buffer, unchanged, CERTIFICATES) == 0);
+    EXPECT(pef_distances(TEXT(script), buffer, sizeof buffer, &written, &line) == PEF_OK);
+    EXPECT(line == 0 && written == CERTIFICATES && memcmp(buffer, certificates, CERTIFICATES) == 0 && buffer[CERTIFICATES] == 7);
+}
+
 /* A container is read part by part. */
 static void test_parts(void)
 {
-    struct pef_header header = {7, 7, 7, 7, 7, 7};
+    struct pef_header header = {7, 7, 7, 7, 7, 7, 7};
     struct pef_section section = {7, 7, 7, 7, 7, 7, 7, 7};
     struct pef_bytes raw = PEF_NO_BYTES;
     EXPECT(pef_header(container, LENGTH, &header) == PEF_OK);
@@ -145,7 +182,7 @@ static void test_notes(void)
     EXPECT(pef_name(PEF_NOTE_WORD_RELOCATED_TWICE, &name) == PEF_OK && is_named(name, "WordRelocatedTwice"));
     EXPECT(pef_name(PEF_NOTE_SECTIONS_OUT_OF_ORDER, &name) == PEF_OK && is_named(name, "SectionsOutOfOrder"));
     EXPECT(pef_help(PEF_NOTE_TRAILING_BYTES, &name) == PEF_OK && name.length > 20);
-    EXPECT(pef_name(115, &name) == PEF_NOT_THERE && pef_help(199, &name) == PEF_NOT_THERE);
+    EXPECT(pef_name(124, &name) == PEF_NOT_THERE && pef_help(199, &name) == PEF_NOT_THERE);
 }
 
 /* Packed bytes are expanded (docs/FORMATS.md, section 3). */
@@ -222,6 +259,7 @@ int main(void)
 {
     link_script();
     test_linked_and_listed();
+    test_distances();
     test_parts();
     test_tables();
     test_relocations();

@@ -1,7 +1,7 @@
 /*
- * Tests the structs and the numbers of pef.h: where each field lies, and what it holds. Sizes, offsets and the numbers that have names
- * are written here by hand, for pointers of eight bytes. The fields are read from real containers. Each has a value that no other field
- * of its struct has, so two fields that are exchanged show. What differs is printed, a line each, and the status is then 1.
+ * Tests the structs and the numbers of pef.h: where each field lies, and what it holds. layout.h has the sizes, the offsets and the numbers.
+ * The fields are read from real containers. Each has a value that no other field of its struct has, so two fields that are exchanged
+ * show. What differs is printed, a line each, and the status is then 1.
  */
 #include "../../include/pef.h"
 
@@ -17,92 +17,9 @@ struct number {
 #define SIZE(type, wanted) {"the size of " #type, sizeof(struct type), wanted}
 #define AT(type, field, wanted) {"the offset of " #type "." #field, offsetof(struct type, field), wanted}
 
-static const struct number places[] = {
-    SIZE(pef_bytes, 16), AT(pef_bytes, at, 0), AT(pef_bytes, length, 8),
-    SIZE(pef_place, 32), AT(pef_place, part, 0), AT(pef_place, row, 8), AT(pef_place, field, 16), AT(pef_place, offset, 24),
-    SIZE(pef_finding, 48), AT(pef_finding, place, 0), AT(pef_finding, detail, 32), AT(pef_finding, number, 40),
-    AT(pef_finding, is_error, 44),
-    SIZE(pef_header, 20), AT(pef_header, date_time_stamp, 0), AT(pef_header, old_def_version, 4),
-    AT(pef_header, old_imp_version, 8), AT(pef_header, current_version, 12), AT(pef_header, section_count, 16),
-    AT(pef_header, instantiated_section_count, 18),
-    SIZE(pef_section, 24), AT(pef_section, default_address, 0), AT(pef_section, total_size, 4), AT(pef_section, unpacked_size, 8),
-    AT(pef_section, packed_size, 12), AT(pef_section, container_offset, 16), AT(pef_section, kind, 20), AT(pef_section, share, 21),
-    AT(pef_section, alignment, 22),
-    SIZE(pef_loader, 40), AT(pef_loader, main_section, 0), AT(pef_loader, main_offset, 4), AT(pef_loader, init_section, 8),
-    AT(pef_loader, init_offset, 12), AT(pef_loader, term_section, 16), AT(pef_loader, term_offset, 20),
-    AT(pef_loader, library_count, 24), AT(pef_loader, import_count, 28), AT(pef_loader, relocation_count, 32),
-    AT(pef_loader, export_count, 36),
-    SIZE(pef_library, 40), AT(pef_library, name, 0), AT(pef_library, current_version, 16), AT(pef_library, old_imp_version, 20),
-    AT(pef_library, import_count, 24), AT(pef_library, first_import, 28), AT(pef_library, options, 32),
-    SIZE(pef_import, 32), AT(pef_import, name, 0), AT(pef_import, library, 16), AT(pef_import, symbol_class, 24),
-    AT(pef_import, weak, 25),
-    SIZE(pef_relocation, 24), AT(pef_relocation, instructions, 0), AT(pef_relocation, section, 16),
-    SIZE(pef_fixup, 24), AT(pef_fixup, offset, 0), AT(pef_fixup, number, 8), AT(pef_fixup, kind, 16),
-    SIZE(pef_export, 32), AT(pef_export, name, 0), AT(pef_export, section, 16), AT(pef_export, value, 20),
-    AT(pef_export, symbol_class, 24),
-    SIZE(pef_options, 32), AT(pef_options, size, 0), AT(pef_options, limit, 4), AT(pef_options, granule, 8),
-    AT(pef_options, connections, 12), AT(pef_options, steps, 16), AT(pef_options, bytes, 24),
-    SIZE(pef_context, 16), AT(pef_context, handle, 0), AT(pef_context, is_open, 8),
-    SIZE(pef_listing, 16), AT(pef_listing, handle, 0), AT(pef_listing, is_open, 8),
-    SIZE(pef_report, 16), AT(pef_report, handle, 0), AT(pef_report, is_open, 8),
-    SIZE(pef_names, 48), AT(pef_names, fragment, 0), AT(pef_names, library, 16), AT(pef_names, symbol, 32),
-    SIZE(pef_missing, 48), AT(pef_missing, name, 0), AT(pef_missing, fragment, 16), AT(pef_missing, current_version, 24),
-    AT(pef_missing, old_imp_version, 28), AT(pef_missing, found_version, 32), AT(pef_missing, found_old_def_version, 36),
-    AT(pef_missing, is_weak, 40), AT(pef_missing, is_found, 41),
-    SIZE(pef_new_section, 32), AT(pef_new_section, fragment, 0), AT(pef_new_section, section, 8), AT(pef_new_section, kind, 12),
-    AT(pef_new_section, share, 13), AT(pef_new_section, size, 16), AT(pef_new_section, alignment, 24),
-    SIZE(pef_fragment_section, 24), AT(pef_fragment_section, address, 0), AT(pef_fragment_section, size, 8),
-    AT(pef_fragment_section, kind, 16), AT(pef_fragment_section, share, 17),
-    SIZE(pef_target, 32), AT(pef_target, kind, 0), AT(pef_target, fragment, 8), AT(pef_target, section, 16),
-    AT(pef_target, offset, 20), AT(pef_target, address, 24),
-    SIZE(pef_fragment_export, 72), AT(pef_fragment_export, name, 0), AT(pef_fragment_export, number, 16),
-    AT(pef_fragment_export, target, 24), AT(pef_fragment_export, import_number, 56), AT(pef_fragment_export, symbol_class, 64),
-    AT(pef_fragment_export, is_reexport, 65),
-    SIZE(pef_location, 104), AT(pef_location, fragment, 0), AT(pef_location, section, 8), AT(pef_location, connection, 16),
-    AT(pef_location, offset, 20), AT(pef_location, has_nearest, 24), AT(pef_location, nearest, 32),
-    SIZE(pef_entries, 16), AT(pef_entries, init, 0), AT(pef_entries, main, 4), AT(pef_entries, term, 8),
-    AT(pef_entries, has_init, 12), AT(pef_entries, has_main, 13), AT(pef_entries, has_term, 14),
-    SIZE(pef_part, 40), AT(pef_part, bytes, 0), AT(pef_part, offset, 16), AT(pef_part, error_offset, 24), AT(pef_part, error, 32),
-    SIZE(pef_finder, 32), AT(pef_finder, error_offset, 0), AT(pef_finder, error, 8), AT(pef_finder, file_type, 12),
-    AT(pef_finder, creator, 16), AT(pef_finder, flags, 20), AT(pef_finder, vertical, 22), AT(pef_finder, horizontal, 24),
-    AT(pef_finder, window, 26),
-    SIZE(pef_forks, 208), AT(pef_forks, data_fork, 0), AT(pef_forks, resource_fork, 40), AT(pef_forks, name, 80),
-    AT(pef_forks, comment, 120), AT(pef_forks, finder, 160), AT(pef_forks, error_offset, 192), AT(pef_forks, error, 200),
-    AT(pef_forks, kind, 204),
-    SIZE(pef_resource_map, 32), AT(pef_resource_map, error_offset, 0), AT(pef_resource_map, error, 8),
-    AT(pef_resource_map, data_offset, 12), AT(pef_resource_map, map_offset, 16), AT(pef_resource_map, data_length, 20),
-    AT(pef_resource_map, map_length, 24), AT(pef_resource_map, attributes, 28), AT(pef_resource_map, type_count, 30),
-    SIZE(pef_resource, 80), AT(pef_resource, name, 0), AT(pef_resource, bytes, 16), AT(pef_resource, offset, 32),
-    AT(pef_resource, error_offset, 40), AT(pef_resource, name_error_offset, 48), AT(pef_resource, error, 56),
-    AT(pef_resource, name_error, 60), AT(pef_resource, type, 64), AT(pef_resource, id, 68), AT(pef_resource, type_row, 70),
-    AT(pef_resource, row, 72), AT(pef_resource, attributes, 74),
-    SIZE(pef_member, 120), AT(pef_member, name, 0), AT(pef_member, container, 16), AT(pef_member, place, 32),
-    AT(pef_member, error_offset, 40), AT(pef_member, name_error_offset, 48), AT(pef_member, container_error_offset, 56),
-    AT(pef_member, error, 64), AT(pef_member, name_error, 68), AT(pef_member, container_error, 72),
-    AT(pef_member, architecture, 76), AT(pef_member, current_version, 80), AT(pef_member, old_def_version, 84),
-    AT(pef_member, stack_size, 88), AT(pef_member, offset, 92), AT(pef_member, length, 96), AT(pef_member, space_id, 100),
-    AT(pef_member, directory_or_flags, 104), AT(pef_member, fork_instance, 106), AT(pef_member, extension_count, 108),
-    AT(pef_member, size, 110), AT(pef_member, update_level, 112), AT(pef_member, usage, 113), AT(pef_member, locator, 114),
-};
-
 #define IS(name, wanted) {#name, (uint64_t)(name), (uint64_t)(wanted)}
 
-/* Numbers by whose names calls.c, listing.c, preparing.c and mac_calls.c compare. */
-static const struct number constants[] = {
-    IS(PEF_OK, 0), IS(PEF_TOO_SHORT, 1), IS(PEF_BAD_TAG, 2), IS(PEF_BAD_SECTION_KIND, 7), IS(PEF_PACKED_BAD_OPCODE, 22),
-    IS(PEF_SCRIPT_BAD_LINE, 41), IS(PEF_SCRIPT_OVERLAP, 46), IS(PEF_LIBRARY_MISSING, 61), IS(PEF_SYMBOL_MISSING, 62),
-    IS(PEF_NO_ROOM, 67), IS(PEF_BAD_CONNECTION, 68), IS(PEF_TOO_MANY_CONNECTIONS, 69), IS(PEF_TOO_MANY_STEPS_IN_ALL, 70),
-    IS(PEF_TOO_MANY_BYTES, 75), IS(PEF_DATA_FORK_CUT, 76), IS(PEF_RESOURCE_FORK_CUT, 77), IS(PEF_COMMENT_CUT, 78), IS(PEF_NO_CONTAINER, 80), IS(PEF_APPLE_HEADER_CUT, 82), IS(PEF_RESOURCE_MAP_OUTSIDE, 87),
-    IS(PEF_FRAGMENT_TABLE_CUT, 94), IS(PEF_FRAGMENT_OUTSIDE, 98), IS(PEF_OUT_OF_MEMORY, 99), IS(PEF_NOTE_RESERVED_NOT_ZERO, 101),
-    IS(PEF_NOTE_TRAILING_BYTES, 109), IS(PEF_NOTE_WORD_RELOCATED_TWICE, 114), IS(PEF_NOTE_SECTIONS_OUT_OF_ORDER, 116), IS(PEF_NOTE_NAME_OUTSIDE, 121),
-    IS(PEF_ROOM_TOO_SMALL, 200), IS(PEF_NOT_THERE, 201), IS(PEF_NOT_OPEN, 202), IS(PEF_ADDED_TOO_LATE, 203), IS(PEF_BAD_GRANULE, 205), IS(PEF_BAD_OPTIONS, 206),
-    IS(PEF_STILL_PRESENT, 207), IS(PEF_STILL_NAMED, 208), IS(PEF_NAME_TAKEN, 209), IS(PEF_WRONG_ADDRESS_COUNT, 210),
-    IS(PEF_KIND_CODE, 0), IS(PEF_KIND_DATA, 1), IS(PEF_KIND_PACKED, 2), IS(PEF_KIND_LOADER, 4), IS(PEF_SHARE_GLOBAL, 4),
-    IS(PEF_SHARE_PROTECTED, 5), IS(PEF_CLASS_TVECTOR, 2), IS(PEF_CLASS_TOC, 3), IS(PEF_CLASS_GLUE, 4), IS(PEF_ABSOLUTE, -2),
-    IS(PEF_REEXPORT, -3), IS(PEF_LIBRARY_INIT_BEFORE, 0x80), IS(PEF_FIXUP_SECTION, 1), IS(PEF_NOWHERE, 0), IS(PEF_SECTION_PART, 2),
-    IS(PEF_LIBRARY_PART, 4), IS(PEF_LINE_PART, 13), IS(PEF_NO_OFFSET, UINT64_MAX), IS(PEF_FILE_OTHER, 0), IS(PEF_FILE_MAC_BINARY, 2),
-    IS(PEF_FRAGMENT_TABLE_TYPE, 0x63667267), IS(PEF_TARGET_MISSING, 0), IS(PEF_TARGET_ABSOLUTE, 1), IS(PEF_TARGET_IN_SECTION, 2),
-};
+#include "layout.h"
 
 static size_t compared, different;
 
@@ -186,6 +103,7 @@ static void test_header(void)
         {"pef_header.current_version", it.current_version, 11},
         {"pef_header.section_count", it.section_count, 6},
         {"pef_header.instantiated_section_count", it.instantiated_section_count, 5},
+        {"pef_header.architecture", it.architecture, 0x70777063},
     };
     COMPARE(numbers);
 }

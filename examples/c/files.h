@@ -24,7 +24,9 @@ static inline bool read_fragments(int count, char **words)
         if (path == NULL || fragment_count == PEF_MAX_FRAGMENTS)
             return false;
         fragment->name = (struct pef_bytes){(const uint8_t *)words[i], (size_t)(path - words[i])};
-        fragment->container.at = read_file(path + 1, &fragment->container.length);
+        size_t length = 0;
+        fragment->container.at = read_file(path + 1, &length);
+        fragment->container.length = length;
         if (fragment->container.at == NULL) {
             perror(path + 1);
             return false;

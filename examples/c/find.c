@@ -12,7 +12,8 @@ int main(int count, char **words)
         fputs("usage: find FILE NAME\n", stderr);
         return 2;
     }
-    size_t length, number = 0;
+    size_t length;
+    pef_size number = 0;
     uint8_t *container = read_file(words[1], &length);
     if (container == NULL) {
         perror(words[1]);
@@ -21,7 +22,7 @@ int main(int count, char **words)
     struct pef_export found = {.name = PEF_NO_BYTES};
     uint32_t answer = pef_export_named(container, length, (const uint8_t *)words[2], strlen(words[2]), &number, &found);
     if (answer == PEF_OK)
-        printf("export %zu class %u section %d value %08X\n", number, found.symbol_class, found.section, found.value);
+        printf("export %lu class %u section %d value %08X\n", (unsigned long)number, found.symbol_class, found.section, found.value);
     else
         print_refusal(words[1], answer, 0);
     free(container);

@@ -34,10 +34,31 @@ static const uint8_t one_section[] =
     "\0\0\0\5\0\0\0\0\xff\xff\xff\xff\0\0\0\0\xff\xff\xff\xff\0\0\0\0\0\0\0\0\0\0\0\0\0\0\0\0\0\0\0\x38\0\0\0\x38\0\0\0\x38\0\0\0\0\0\0\0";
 enum { ONE_SECTION = sizeof one_section };
 
+/* What the detail of an error or a note is, by the header. */
+static uint8_t detail_kind_of(uint32_t number)
+{
+    switch (number) {
+    case PEF_RELOC_WORD_OUTSIDE:
+    case PEF_RELOC_IMPORT_OUTSIDE:
+    case PEF_RELOC_SECTION_OUTSIDE:
+    case PEF_NOTE_WORD_OUTSIDE_IMAGE:
+    case PEF_NOTE_WORD_RELOCATED_TWICE:
+        return PEF_DETAIL_WORD;
+    case PEF_NOTE_TRAILING_BYTES:
+    case PEF_NOTE_OVERLAP:
+    case PEF_NOTE_UNOWNED_BYTES:
+        return PEF_DETAIL_LENGTH;
+    case PEF_NOTE_SECTIONS_OUT_OF_ORDER:
+        return PEF_DETAIL_SECTIONS;
+    default:
+        return PEF_DETAIL_NONE;
+    }
+}
+
 static void expect_finding(const struct pef_finding *found, uint32_t number, uint32_t part, size_t row, size_t field, size_t offset, uint64_t detail)
 {
     bool same = found->number == number && found->is_error == (number < 100) && found->place.part == part && found->place.row == row
-        && found->place.field == field && found->place.offset == offset && found->detail == detail;
+        && found->place.field == field && found->place.offset == offset && found->detail == detail && found->detail_kind == detail_kind_of(number);
     expect(same, "a finding of a container that is written by hand");
 }
 
@@ -62,7 +83,19 @@ static void test_by_hand(void)
     expect(pef_partial_section(one_section, 100, 0, &section, &raw) == PEF_OK && section.packed_size == 56 && raw.length == 32, "those that are left of them");
     expect(pef_partial_loader(one_section, ONE_SECTION, &loader) == PEF_OK && loader.main_section == 5 && loader.init_section == PEF_NO_ENTRY, "the loader header");
     expect(pef_partial_loader(one_section, 100, &loader) == PEF_LOADER_SHORT, "no loader header");
+    expect(header.architecture == PEF_ARCHITECTURE_POWERPC, "its architecture");
     expect(pef_partial_header(one_section, 39, &header) == PEF_TOO_SHORT, "39 bytes");
+}
+
+/* A container of CFM-68K isn't read, and tells what it is. */
+static void test_another_architecture(void)
+{
+    uint8_t changed[ONE_SECTION];
+    struct pef_header header = {0};
+    memcpy(changed, one_section, ONE_SECTION);
+    memcpy(changed + 8, "m68k", 4);
+    expect(pef_header(changed, ONE_SECTION, &header) == PEF_BAD_ARCHITECTURE && header.architecture == 0, "a container of CFM-68K is refused");
+    expect(pef_partial_header(changed, ONE_SECTION, &header) == PEF_OK && header.architecture == PEF_ARCHITECTURE_68K, "and tells what it is");
 }
 
 /* The same section counts as instantiated, and main is in it. */
@@ -173,7 +206,8 @@ static bool is_part(struct pef_bytes part, const uint8_t *bytes, size_t length)
 static bool is_same_finding(const struct pef_finding *one, const struct pef_finding *other)
 {
     return one->place.part == other->place.part && one->place.row == other->place.row && one->place.field == other->place.field
-        && one->place.offset == other->place.offset && one->detail == other->detail && one->number == other->number && one->is_error == other->is_error;
+        && one->place.offset == other->place.offset && one->detail == other->detail && one->number == other->number && one->is_error == other->is_error
+        && one->detail_kind == other->detail_kind;
 }
 
 static bool is_same(struct pef_bytes one, struct pef_bytes other)
@@ -207,6 +241,7 @@ static void check_more_notes(const uint8_t *bytes, size_t length)
     for (size_t i = 0; i < count; i++) {
         struct pef_bytes name = PEF_NO_BYTES;
         expect(!rows[i].is_error && rows[i].number > 100 && pef_name(rows[i].number, &name) == PEF_OK, "a note");
+        expect(rows[i].detail_kind == detail_kind_of(rows[i].number), "the kind of its detail");
         expect(rows[i].place.offset < length && (rows[i].number == PEF_NOTE_PROGRAMS_UNVERIFIED || rows[i].number == PEF_NOTE_WORD_RELOCATED_TWICE || rows[i].detail <= length), "its place");
     }
 }
@@ -324,6 +359,18 @@ static void check_tables(const uint8_t *bytes, size_t length)
     CHECK_TABLE(pef_exports, pef_partial_exports, pef_export, name, SAME(section) && SAME(value) && SAME(symbol_class));
 }
 
+/* The additions of the first program are the same by both calls, if the container isn't damaged. */
+static void check_fixups(const uint8_t *bytes, size_t length)
+{
+    static struct pef_fixup places[PLACES], others[PLACES];
+    size_t count = 0, many = 0;
+    uint32_t answer = pef_partial_fixups(bytes, length, 0, 0, places, PLACES, &count), other = pef_fixups(bytes, length, 0, 0, others, PLACES, &many);
+    if (other == PEF_OK || other == PEF_NOT_THERE)
+        expect(answer == other && count == many, "pef_partial_fixups, as many");
+    for (size_t i = 0; other == PEF_OK && i < count; i++)
+        expect(SAME(offset) && SAME(number) && SAME(kind), "pef_partial_fixups, the same addition");
+}
+
 /* Inspects a copy of a container with one byte turned. */
 static void inspect(const uint8_t *bytes, size_t length, size_t at, uint8_t turned)
 {
@@ -340,6 +387,7 @@ static void inspect(const uint8_t *bytes, size_t length, size_t at, uint8_t turn
     check_against_readers(copy, length, rows, count);
     check_parts(copy, length);
     check_tables(copy, length);
+    check_fixups(copy, length);
     free(copy);
 }
 
@@ -371,6 +419,7 @@ int main(int count, char **words)
         inspect_file(words[1]);
     } else {
         test_by_hand();
+        test_another_architecture();
         test_out_of_order();
         test_more_notes();
         test_many_notes();

@@ -1,4 +1,4 @@
-/* A heap that can refuse the Nth growth, in place of the toolchain's three functions over malloc. */
+/* A heap that can refuse the Nth growth, in place of the three functions over malloc that a library has. */
 #ifndef HEAP_H
 #define HEAP_H
 
@@ -20,13 +20,28 @@ static inline void refuse_growth(size_t number)
     refused_growth = number;
 }
 
+/* What malloc and realloc do, unless the growth is refused. */
+static inline void *grown(void *at, size_t size)
+{
+    if (++growths == refused_growth)
+        return NULL;
+    void *moved = realloc(at, size == 0 ? 1 : size);
+    live_blocks += at == NULL && moved != NULL;
+    return moved;
+}
+
+static inline void freed(void *at)
+{
+    live_blocks -= at != NULL;
+    free(at);
+}
+
+/* What the native library calls. */
+
 struct block rattle_alloc(size_t size, size_t align)
 {
     (void)align;
-    if (++growths == refused_growth)
-        return (struct block){false, NULL};
-    void *at = malloc(size == 0 ? 1 : size);
-    live_blocks += at != NULL;
+    void *at = grown(NULL, size);
     return (struct block){at != NULL, at};
 }
 
@@ -34,16 +49,30 @@ struct block rattle_realloc(void *at, size_t used, size_t size, size_t align)
 {
     (void)used;
     (void)align;
-    if (++growths == refused_growth)
-        return (struct block){false, NULL};
-    void *moved = realloc(at, size == 0 ? 1 : size);
+    void *moved = grown(at, size);
     return (struct block){moved != NULL, moved};
 }
 
 void rattle_dealloc(void *at)
 {
-    live_blocks--;
-    free(at);
+    freed(at);
+}
+
+/* What the library from C source calls, if it is compiled with PEF_HOST_MEMORY. */
+
+void *pef_host_malloc(size_t size)
+{
+    return grown(NULL, size);
+}
+
+void *pef_host_realloc(void *at, size_t size)
+{
+    return grown(at, size);
+}
+
+void pef_host_free(void *at)
+{
+    freed(at);
 }
 
 #endif

@@ -2,7 +2,7 @@
 #include "file.h"
 
 /* Links into a room of its own, which it makes as large as is needed. Returns the library's answer. */
-static uint32_t link_script(const uint8_t *script, size_t length, uint8_t **container, size_t *written, size_t *line)
+static uint32_t link_script(const uint8_t *script, size_t length, uint8_t **container, pef_size *written, pef_size *line)
 {
     size_t room = 65536;
     for (;;) {
@@ -26,7 +26,8 @@ int main(int count, char **words)
         fputs("usage: link SCRIPT OUT\n", stderr);
         return 2;
     }
-    size_t length, written = 0, line = 0;
+    size_t length;
+    pef_size written = 0, line = 0;
     uint8_t *script = read_file(words[1], &length);
     if (script == NULL) {
         perror(words[1]);
@@ -45,6 +46,6 @@ int main(int count, char **words)
         perror(words[2]);
         return 1;
     }
-    printf("linked %zu bytes\n", written);
+    printf("linked %lu bytes\n", (unsigned long)written);
     return 0;
 }

@@ -8,7 +8,8 @@
 static uint32_t list_at_once(const uint8_t *container, size_t length)
 {
     /* Mostly enough, so that the lines are made only once. */
-    size_t room = 65536 + 16 * length, written = 0;
+    size_t room = 65536 + 16 * length;
+    pef_size written = 0;
     uint8_t *lines = malloc(room);
     uint32_t answer = lines == NULL ? PEF_OUT_OF_MEMORY : pef_list(container, length, lines, room, &written);
     if (answer == PEF_ROOM_TOO_SMALL) {
@@ -26,7 +27,7 @@ static uint32_t list_at_once(const uint8_t *container, size_t length)
 static uint32_t list_in_parts(const uint8_t *container, size_t length, size_t room)
 {
     struct pef_listing listing = PEF_NO_LISTING;
-    size_t written = room;
+    pef_size written = room;
     uint8_t *part = malloc(room);
     uint32_t answer = part == NULL ? PEF_OUT_OF_MEMORY : pef_list_open(&listing, container, length);
     while (answer == PEF_OK && written == room) {

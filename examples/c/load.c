@@ -31,7 +31,7 @@ static void print_fault(uint32_t number, const struct pef_names *names)
 static uint32_t print_section(size_t fragment, size_t number)
 {
     struct pef_fragment_section section = {0};
-    size_t written = 0;
+    pef_size written = 0;
     uint32_t answer = pef_fragment_section(&context, app, fragment, number, &section);
     if (answer != PEF_OK)
         return answer;
@@ -48,7 +48,7 @@ static uint32_t print_section(size_t fragment, size_t number)
 static uint32_t print_fragment(size_t fragment)
 {
     struct pef_bytes name = PEF_NO_BYTES;
-    size_t count = 0;
+    pef_size count = 0;
     uint32_t answer = pef_fragment_name(&context, fragment, &name);
     if (answer == PEF_OK)
         answer = pef_fragment_sections(&context, fragment, &count);
@@ -73,7 +73,7 @@ static void print_routine(const char *label, size_t fragment, uint32_t address)
 /* Prints the entries: routines in the order of initialization, the main symbol of the last fragment, and the reverse. */
 static uint32_t print_entries(size_t root)
 {
-    size_t order[PEF_MAX_FRAGMENTS], count = 0;
+    pef_size order[PEF_MAX_FRAGMENTS], count = 0;
     struct pef_entries entries = {0};
     uint32_t answer = pef_init_order(&context, app, order, PEF_MAX_FRAGMENTS, &count);
     for (size_t i = 0; answer == PEF_OK && i < count; i++) {
@@ -96,7 +96,7 @@ static uint32_t print_entries(size_t root)
 /* Prints the fragments of the connection, and their entries. */
 static uint32_t print_connection(void)
 {
-    size_t order[PEF_MAX_FRAGMENTS], count = 0;
+    pef_size order[PEF_MAX_FRAGMENTS], count = 0;
     uint32_t answer = pef_fragments(&context, app, order, PEF_MAX_FRAGMENTS, &count);
     for (size_t i = 0; answer == PEF_OK && i < count; i++)
         answer = print_fragment(order[i]);

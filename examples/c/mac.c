@@ -168,8 +168,8 @@ static void find(const uint8_t *file)
     compare("outside", pef_fork_container(file, 0, file + 512, 290, (const uint8_t *)"Calc", 4, &container), PEF_FRAGMENT_OUTSIDE);
     compare_bytes("what is left", container, file, 712, 3);
     compare("pef_numbered_container", pef_numbered_container(file, FILE_LENGTH, 0, &container), PEF_OK);
-    /* It reaches to the end of the data fork, which has 264 bytes at 128. */
-    compare_bytes("container 0", container, file, 136, 256);
+    /* It reaches to the end of its member. */
+    compare_bytes("container 0", container, file, 136, 250);
     compare("no such number", pef_numbered_container(file, FILE_LENGTH, 1, &container), PEF_NO_CONTAINER);
 }
 
@@ -207,7 +207,7 @@ static void read_null(const uint8_t *file)
     compare("the count of containers in null", count, 0);
     compare("pef_file_container of null", pef_file_container(NULL, 0, (const uint8_t *)"Calc", 4, &container), PEF_NO_CONTAINER);
     compare("a fragment without a name", pef_file_container(file, FILE_LENGTH, NULL, 0, &container), PEF_NO_CONTAINER);
-    compare("pef_fork_container of null", pef_fork_container(NULL, 0, NULL, 0, (const uint8_t *)"Calc", 4, &container), PEF_RESOURCE_MAP_OUTSIDE);
+    compare("pef_fork_container of null", pef_fork_container(NULL, 0, NULL, 0, (const uint8_t *)"Calc", 4, &container), PEF_NO_CONTAINER);
     compare("Calc, no data fork", pef_fork_container(NULL, 0, fork, 290, (const uint8_t *)"Calc", 4, &container), PEF_FRAGMENT_OUTSIDE);
     compare("Drv, no data fork", pef_fork_container(NULL, 0, fork, 290, (const uint8_t *)"Drv", 3, &container), PEF_OK);
     compare_bytes("Drv, no data fork", container, file, 712, 3);

@@ -45,7 +45,7 @@ static void *rows(size_t count, size_t size)
 static uint32_t read_fragment(size_t fragment)
 {
     struct loaded *it = &all[fragment];
-    size_t count;
+    pef_size count;
     uint32_t answer = pef_header(CONTAINER(fragment), &it->header);
     if (answer == PEF_OK)
         answer = pef_loader(CONTAINER(fragment), &it->loader);
@@ -161,7 +161,8 @@ static uint32_t resolve(size_t fragment, size_t number, uint32_t *address)
         if (library == ABSENT)
             return PEF_OK;
         /* To look up many names, read all exports once, and hash them. */
-        uint32_t answer = pef_export_named(CONTAINER(library), import->name.at, import->name.length, &number, &found);
+        pef_size place = 0;
+        uint32_t answer = pef_export_named(CONTAINER(library), import->name.at, import->name.length, &place, &found);
         if (answer == PEF_NOT_THERE)
             return import->weak ? PEF_OK : PEF_SYMBOL_MISSING;
         if (answer != PEF_OK)
@@ -196,7 +197,8 @@ static uint32_t relocate_word(const struct loaded *it, struct placed *section, c
 static uint32_t relocate(size_t fragment, size_t header, uint32_t section)
 {
     static struct pef_fixup fixups[4096];
-    size_t from = 0, count = 0;
+    size_t from = 0;
+    pef_size count = 0;
     uint32_t answer;
     do {
         answer = pef_fixups(CONTAINER(fragment), header, from, fixups, 4096, &count);
@@ -210,7 +212,7 @@ static uint32_t relocate(size_t fragment, size_t header, uint32_t section)
 static uint32_t relocate_fragment(size_t fragment)
 {
     struct pef_relocation relocation;
-    size_t count;
+    pef_size count;
     uint32_t answer = PEF_OK;
     for (size_t i = 0; answer == PEF_OK && i < all[fragment].loader.relocation_count; i++) {
         answer = pef_relocations(CONTAINER(fragment), i, &relocation, 1, &count);

@@ -442,6 +442,101 @@ static void test_missing(void)
     EXPECT(pef_missing(&context, TEXT("A"), 0, rows, 3, &count, &names) == PEF_NOT_OPEN && count == 0);
 }
 
+static const char importer[] =
+    "library S 7 5 -\n"
+    "import f tvector strong\n"
+    "import g data weak\n"
+    "library W 1 0 weak\n";
+
+/* What is lacking, whichever fragment is prepared, from any number on. */
+static void test_lacking(void)
+{
+    static const struct pef_lacking unread = {PEF_NO_BYTES, false};
+    struct pef_context context = PEF_NO_CONTEXT;
+    struct pef_lacking rows[3] = {unread, unread, unread};
+    size_t count = 7;
+    EXPECT(pef_lacking(&context, 0, rows, 3, &count) == PEF_NOT_OPEN && count == 7);
+    EXPECT(pef_open(&context, limit) == PEF_OK);
+    EXPECT(pef_lacking(&context, 0, rows, 3, &count) == PEF_OK && count == 0);
+    EXPECT(pef_add(&context, TEXT("no container"), TEXT("")) == PEF_OK);
+    add(&context, "A", importer);
+    EXPECT(pef_lacking(&context, 0, rows, 3, &count) == PEF_OK && count == 2);
+    EXPECT(is_named(rows[0].name, "S") && !rows[0].is_weak && is_named(rows[1].name, "W") && rows[1].is_weak && rows[2].name.length == 0);
+    add(&context, "B", "library W 2 0 -\n");
+    EXPECT(pef_lacking(&context, 1, rows, 3, &count) == PEF_OK && count == 1 && is_named(rows[0].name, "W") && !rows[0].is_weak);
+    EXPECT(pef_lacking(&context, 0, rows, 1, &count) == PEF_OK && count == 1 && is_named(rows[0].name, "S"));
+    EXPECT(pef_lacking(&context, 2, NULL, 0, &count) == PEF_OK && count == 0);
+    add(&context, "S", "versions 1 1 0\n");
+    EXPECT(pef_lacking(&context, 0, rows, 3, &count) == PEF_OK && count == 1 && is_named(rows[0].name, "W"));
+    pef_free(&context);
+}
+
+static bool is_symbol(const uint8_t *stub, size_t length, const char *name, struct pef_export wanted)
+{
+    struct pef_export found = {PEF_NO_BYTES, 7, 7, 7};
+    size_t number = 7;
+    return pef_export_named(stub, length, TEXT(name), &number, &found) == PEF_OK && found.section == wanted.section && found.value == wanted.value
+        && found.symbol_class == wanted.symbol_class;
+}
+
+/* A stub has the symbols that are imported from it, and versions that fit. It takes the place of its library. */
+static void test_stub(void)
+{
+    struct pef_context context = PEF_NO_CONTEXT;
+    struct pef_stub_options options = PEF_NUMBERED_STUBS;
+    struct pef_names names = PEF_NO_NAMES;
+    struct pef_header header = {0};
+    struct pef_target target = {0};
+    uint8_t buffer[512] = {7};
+    size_t written = 7, symbols = 7;
+    uint32_t connection = 7;
+    EXPECT(pef_stub(&context, TEXT("S"), &options, buffer, 512, &written, &symbols) == PEF_NOT_OPEN && written == 7 && symbols == 7);
+    EXPECT(pef_open(&context, limit) == PEF_OK);
+    add(&context, "A", importer);
+    EXPECT(pef_stub(&context, TEXT("S"), &options, NULL, 0, &written, &symbols) == PEF_ROOM_TOO_SMALL && written > 7 && symbols == 2);
+    EXPECT(pef_stub(&context, TEXT("S"), &options, buffer, written - 1, &written, &symbols) == PEF_ROOM_TOO_SMALL && buffer[0] == 7);
+    EXPECT(pef_stub(&context, TEXT("S"), &options, buffer, written, &written, &symbols) == PEF_OK && buffer[written] == 0 && symbols == 2);
+    EXPECT(pef_header(buffer, written, &header) == PEF_OK && header.section_count == 1);
+    EXPECT(header.current_version == 7 && header.old_def_version == 7 && header.old_imp_version == 5);
+    EXPECT(is_symbol(buffer, written, "f", (struct pef_export){PEF_NO_BYTES, PEF_ABSOLUTE, 0xF0000000, PEF_CLASS_TVECTOR}));
+    EXPECT(is_symbol(buffer, written, "g", (struct pef_export){PEF_NO_BYTES, PEF_ABSOLUTE, 0xF0000010, PEF_CLASS_DATA}));
+    EXPECT(pef_add(&context, TEXT("S"), buffer, written) == PEF_OK);
+    EXPECT(pef_prepare(&context, TEXT("A"), &connection, &names) == PEF_OK);
+    EXPECT(pef_import_target(&context, connection, 0, 1, &target) == PEF_OK && target.kind == PEF_TARGET_ABSOLUTE && target.address == 0xF0000010);
+    pef_free(&context);
+}
+
+/* What a stub may be: other numbers, memory, or none. */
+static void test_stub_options(void)
+{
+    struct pef_context context = PEF_NO_CONTEXT;
+    struct pef_stub_options options = PEF_STUBS_IN_MEMORY;
+    uint8_t buffer[512] = {7};
+    size_t written = 7, symbols = 7;
+    EXPECT(pef_open(&context, limit) == PEF_OK);
+    add(&context, "A", importer);
+    EXPECT(pef_stub(&context, TEXT("S"), &options, buffer, 512, &written, &symbols) == PEF_OK && symbols == 2);
+    EXPECT(is_symbol(buffer, written, "f", (struct pef_export){PEF_NO_BYTES, 1, 0, PEF_CLASS_TVECTOR}));
+    EXPECT(is_symbol(buffer, written, "g", (struct pef_export){PEF_NO_BYTES, 1, 16, PEF_CLASS_DATA}));
+    EXPECT(pef_stub(&context, TEXT("W"), &options, buffer, 512, &written, &symbols) == PEF_OK && symbols == 0);
+    options = (struct pef_stub_options)PEF_NUMBERED_STUBS;
+    options.first = 0xFFFFFFFF;
+    options.step = 0;
+    EXPECT(pef_stub(&context, TEXT("S"), &options, buffer, 512, &written, &symbols) == PEF_OK && symbols == 2);
+    EXPECT(is_symbol(buffer, written, "g", (struct pef_export){PEF_NO_BYTES, PEF_ABSOLUTE, 0xFFFFFFFF, PEF_CLASS_DATA}));
+    options.step = 1;
+    written = symbols = 7;
+    buffer[0] = 7;
+    EXPECT(pef_stub(&context, TEXT("S"), &options, buffer, 512, &written, &symbols) == PEF_PAST_LAST_NUMBER);
+    options.values = 3;
+    EXPECT(pef_stub(&context, TEXT("S"), &options, buffer, 512, &written, &symbols) == PEF_BAD_OPTIONS);
+    options.values = PEF_STUB_NUMBERS;
+    options.size = 0;
+    EXPECT(pef_stub(&context, TEXT("S"), &options, buffer, 512, &written, &symbols) == PEF_BAD_OPTIONS);
+    EXPECT(buffer[0] == 7 && written == 7 && symbols == 7);
+    pef_free(&context);
+}
+
 /* Sections are placed at the addresses that are given, or none is. */
 static void test_prepare_at(void)
 {
@@ -638,6 +733,9 @@ int main(void)
     test_meanings();
     test_passed();
     test_missing();
+    test_lacking();
+    test_stub();
+    test_stub_options();
     test_prepare_at();
     test_added_too_late();
     test_removed();

@@ -67,6 +67,7 @@ static void test_null_slices(void)
     expect(pef_partial_imports(NULL, 0, 0, NULL, 0, &count) == PEF_TOO_SHORT && count == 7, "pef_partial_imports of null");
     expect(pef_partial_relocations(NULL, 0, 0, NULL, 0, &count) == PEF_TOO_SHORT && count == 7, "pef_partial_relocations of null");
     expect(pef_partial_exports(NULL, 0, 0, NULL, 0, &count) == PEF_TOO_SHORT && count == 7, "pef_partial_exports of null");
+    expect(pef_partial_fixups(NULL, 0, 0, 0, NULL, 0, &count) == PEF_TOO_SHORT && count == 7, "pef_partial_fixups of null");
     expect(pef_libraries(NULL, 0, 0, NULL, 0, &count) == PEF_TOO_SHORT, "pef_libraries of null");
     expect(pef_imports(NULL, 0, 0, NULL, 0, &count) == PEF_TOO_SHORT, "pef_imports of null");
     expect(pef_relocations(NULL, 0, 0, NULL, 0, &count) == PEF_TOO_SHORT, "pef_relocations of null");
@@ -77,6 +78,8 @@ static void test_null_slices(void)
     expect(pef_expand(NULL, 0, NULL, 0) == PEF_OK, "pef_expand of no bytes to none");
     expect(pef_link((const uint8_t *)"", 0, container, 0, &number, &line) == PEF_ROOM_TOO_SMALL && number > 40, "pef_link of no line");
     expect(pef_link(NULL, 0, NULL, 0, &count, &line) == PEF_ROOM_TOO_SMALL && count == number && line == 0, "pef_link of null");
+    line = 7;
+    expect(pef_distances(NULL, 0, NULL, 0, &count, &line) == PEF_ROOM_TOO_SMALL && count == 14 && line == 0, "pef_distances of null");
     number = 7;
     count = 7;
     expect(pef_libraries(container, container_length, 0, NULL, 0, &count) == PEF_OK && count == 0, "pef_libraries to no places");
@@ -258,12 +261,19 @@ static void test_removed(void)
     struct pef_names names;
     uint32_t connection = 7, address = 7;
     uint8_t *name = copy("gone", 4), *bytes = copy(container, container_length), found[16];
-    size_t written = 0;
+    size_t written = 0, symbols = 7;
     expect(pef_open(&context, 0x10000000) == PEF_OK && pef_add(&context, name, 4, bytes, container_length) == PEF_OK, "a fragment");
     expect(pef_add(&context, (const uint8_t *)"it", 2, container, container_length) == PEF_OK, "another one");
     expect(pef_prepare(&context, name, 4, &connection, &names) == PEF_OK && pef_close(&context, connection) == PEF_OK, "the first one");
     expect(pef_prepare(&context, (const uint8_t *)"it", 2, &connection, &names) == PEF_OK, "the other one");
     expect(pef_remove(&context, NULL, 0) == PEF_ROOT_MISSING, "pef_remove of null");
+    struct pef_stub_options options = PEF_NUMBERED_STUBS;
+    expect(pef_lacking(&context, 0, NULL, 0, &written) == PEF_OK && written == 0, "pef_lacking into null");
+    expect(pef_stub(&context, NULL, 0, &options, NULL, 0, &written, &symbols) == PEF_ROOM_TOO_SMALL && symbols == 0, "pef_stub of null");
+    uint8_t *library = copy("lib", 3);
+    expect(pef_stub(&context, library, 3, &options, NULL, 0, &written, &symbols) == PEF_ROOM_TOO_SMALL, "pef_stub");
+    memset(library, 0xA5, 3);
+    free(library);
     expect(pef_remove(&context, name, 4) == PEF_OK, "pef_remove");
     memset(name, 0xA5, 4);
     memset(bytes, 0xA5, container_length);
@@ -273,6 +283,30 @@ static void test_removed(void)
     expect(pef_fragment_symbol(&context, connection, 1, (const uint8_t *)"x", 1, &address) == PEF_OK && address == 0x00010004, "its symbol");
     expect(pef_add_new(&context, (const uint8_t *)"new", 3, container, container_length) == PEF_OK, "one in the free place");
     expect(pef_prepare(&context, (const uint8_t *)"new", 3, &connection, &names) == PEF_OK && pef_close(&context, connection) == PEF_OK, "its preparation");
+    pef_free(&context);
+}
+
+/* Two fragments have one name. The name and the container of the one that was removed go, and the name is looked up. */
+static void test_removed_namesake(void)
+{
+    struct pef_context context = PEF_NO_CONTEXT;
+    struct pef_names names;
+    uint32_t connection = 7;
+    bool is_present = true;
+    uint8_t *first = copy("same", 4), *second = copy("same", 4), *bytes = copy(container, container_length);
+    expect(pef_open(&context, 0x10000000) == PEF_OK && pef_add(&context, first, 4, bytes, container_length) == PEF_OK, "the first fragment");
+    expect(pef_add(&context, second, 4, container, container_length) == PEF_OK, "the second one with its name");
+    expect(pef_remove(&context, (const uint8_t *)"same", 4) == PEF_OK, "pef_remove of the first one");
+    memset(first, 0xA5, 4);
+    memset(bytes, 0xA5, container_length);
+    free(first);
+    free(bytes);
+    expect(pef_is_present(&context, (const uint8_t *)"same", 4, &is_present) == PEF_OK && !is_present, "a look-up of the second one");
+    expect(pef_add(&context, (const uint8_t *)"other", 5, container, container_length) == PEF_OK, "a third fragment");
+    expect(pef_prepare(&context, (const uint8_t *)"same", 4, &connection, &names) == PEF_OK && pef_close(&context, connection) == PEF_OK, "the second one's preparation");
+    expect(pef_remove(&context, (const uint8_t *)"same", 4) == PEF_OK, "pef_remove of the second one");
+    free(second);
+    expect(pef_prepare(&context, (const uint8_t *)"same", 4, &connection, &names) == PEF_ROOT_MISSING, "a look-up of a name that went");
     pef_free(&context);
 }
 
@@ -376,6 +410,7 @@ int main(int count, char **words)
         test_free();
         test_listing();
         test_removed();
+        test_removed_namesake();
         open_once();
     }
     return failures == 0 ? 0 : 1;

@@ -22,7 +22,7 @@ enum { THREADS = 4, ROUNDS = 20 };
 #define ARENA ((size_t)1 << 30)
 #define PAGE ((size_t)1 << 16)
 
-/* --- a heap that can be made read-only, in place of the toolchain's three functions over malloc --- */
+/* --- a heap that can be made read-only, in place of the three functions over malloc that a library has --- */
 
 struct block {
     bool ok;
@@ -69,6 +69,25 @@ void rattle_dealloc(void *at)
 {
     if (!is_in_arena(at))
         free(at);
+}
+
+/* What the library from C source calls, if it is compiled with PEF_HOST_MEMORY. */
+
+void *pef_host_malloc(size_t size)
+{
+    return rattle_alloc(size, 16).at;
+}
+
+/* How long the block was isn't said, so bytes after it may be copied, too. */
+void *pef_host_realloc(void *at, size_t size)
+{
+    const size_t used = is_in_arena(at) ? (size_t)(arena + taken - (uint8_t *)at) : 0;
+    return rattle_realloc(at, used, size, 16).at;
+}
+
+void pef_host_free(void *at)
+{
+    rattle_dealloc(at);
 }
 
 static void *map(size_t size)
@@ -917,10 +936,10 @@ static void tell_export(struct told *told, const struct pef_context *from, size_
 {
     struct pef_fragment_export export = {.number = 7}, named = {.number = 7};
     struct pef_location location = {.connection = 7};
-    tell_number(told, pef_fragment_export_const(from, connection, fragment, number, &export));
-    tell_number(told, pef_fragment_export_named_const(from, connection, fragment, export.name.at, export.name.length, &named));
+    tell_number(told, pef_fragment_export(from, connection, fragment, number, &export));
+    tell_number(told, pef_fragment_export_named(from, connection, fragment, export.name.at, export.name.length, &named));
     tell(told, &named.number, sizeof named.number);
-    tell_number(told, pef_at_const(from, export.target.address, &location));
+    tell_number(told, pef_at(from, export.target.address, &location));
     tell(told, &location.nearest.number, sizeof location.nearest.number);
 }
 
@@ -934,7 +953,7 @@ static void tell_symbols(struct told *told, const struct pef_context *from, size
     tell_number(told, pef_loader(container.at, container.length, &loader));
     for (size_t i = 0; i <= loader.import_count; i++) {
         struct pef_target target = {0};
-        tell_number(told, pef_import_target_const(from, connection, fragment, i, &target));
+        tell_number(told, pef_import_target(from, connection, fragment, i, &target));
         tell_number(told, target.kind);
         tell(told, &target.fragment, sizeof target.fragment);
         tell_number(told, target.section);
@@ -943,17 +962,31 @@ static void tell_symbols(struct told *told, const struct pef_context *from, size
     }
     for (size_t i = 0; i <= loader.export_count; i++) {
         uint32_t numbered = 0, named = 0;
-        tell_number(told, pef_export_address_const(from, connection, fragment, i, &numbered));
+        tell_number(told, pef_export_address(from, connection, fragment, i, &numbered));
         tell_number(told, numbered);
         if (pef_exports(container.at, container.length, i, &export, 1, &count) == PEF_OK && count == 1)
-            tell_number(told, pef_fragment_symbol_const(from, connection, fragment, export.name.at, export.name.length, &named));
+            tell_number(told, pef_fragment_symbol(from, connection, fragment, export.name.at, export.name.length, &named));
         tell_number(told, named);
         tell_export(told, from, fragment, i);
     }
-    tell_number(told, pef_fragment_exports_const(from, connection, fragment, &count));
+    tell_number(told, pef_fragment_exports(from, connection, fragment, &count));
     tell(told, &count, sizeof count);
-    tell_number(told, pef_fragment_import_named_const(from, connection, fragment, TEXT("v"), &count));
+    tell_number(told, pef_fragment_import_named(from, connection, fragment, TEXT("v"), &count));
     tell(told, &count, sizeof count);
+}
+
+/* Tells how many libraries a context lacks, of one, and the stub of a library that no fragment names. */
+static bool tell_stub(struct told *told, const struct pef_context *from)
+{
+    const struct pef_stub_options options = PEF_NUMBERED_STUBS;
+    struct pef_lacking lacking = {PEF_NO_BYTES, false};
+    uint8_t stub[1024];
+    size_t count = 7, symbols = 7, written = 0;
+    bool is_told = pef_lacking(from, 0, &lacking, 1, &count) == PEF_OK
+                   && pef_stub(from, TEXT("no library"), &options, stub, sizeof stub, &written, &symbols) == PEF_OK && symbols == 0;
+    tell(told, &count, sizeof count);
+    tell(told, stub, written);
+    return is_told;
 }
 
 /* Tells everything that a context says of the connection. Returns whether all calls answered. */
@@ -962,14 +995,14 @@ static bool tell_all(struct told *told, const struct pef_context *from)
     size_t places[PEF_MAX_FRAGMENTS], count = 0;
     bool is_present = false;
     bool is_told = tell_connection(told, from, connection);
-    is_told = is_told && pef_new_fragments_const(from, connection, places, PEF_MAX_FRAGMENTS, &count) == PEF_OK;
+    is_told = is_told && pef_new_fragments(from, connection, places, PEF_MAX_FRAGMENTS, &count) == PEF_OK;
     tell(told, places, count * sizeof places[0]);
     for (size_t i = 0; is_told && i < count; i++)
         tell_symbols(told, from, places[i]);
-    is_told = is_told && pef_released_by_const(from, connection, places, PEF_MAX_FRAGMENTS, &count) == PEF_OK;
+    is_told = is_told && pef_released_by(from, connection, places, PEF_MAX_FRAGMENTS, &count) == PEF_OK;
     tell(told, places, count * sizeof places[0]);
-    is_told = is_told && pef_is_present_const(from, fragments[0].name.at, fragments[0].name.length, &is_present) == PEF_OK && is_present;
-    return is_told;
+    is_told = is_told && pef_is_present(from, fragments[0].name.at, fragments[0].name.length, &is_present) == PEF_OK && is_present;
+    return is_told && tell_stub(told, from);
 }
 
 static void *run(void *argument)
@@ -993,15 +1026,15 @@ static size_t read_in_threads(void)
     return wrong + THREADS - started;
 }
 
-/* Whether readers and those of the same name for a const struct give the same numbers. */
+/* Whether readers give the same by a copy of the struct, and as the library has them: a name in brackets is no macro. */
 static bool is_alike(void)
 {
     size_t a[PEF_MAX_FRAGMENTS], b[PEF_MAX_FRAGMENTS], a_count = 0, b_count = 0;
-    bool is_same_order = pef_init_order(context, connection, a, PEF_MAX_FRAGMENTS, &a_count) == PEF_OK
-                         && pef_init_order_const(context, connection, b, PEF_MAX_FRAGMENTS, &b_count) == PEF_OK && a_count == b_count
+    bool is_same_order = (pef_init_order)(context, connection, a, PEF_MAX_FRAGMENTS, &a_count) == PEF_OK
+                         && pef_init_order(context, connection, b, PEF_MAX_FRAGMENTS, &b_count) == PEF_OK && a_count == b_count
                          && memcmp(a, b, a_count * sizeof a[0]) == 0;
-    return is_same_order && pef_fragments(context, connection + 1, a, PEF_MAX_FRAGMENTS, &a_count) == PEF_NOT_THERE
-           && pef_fragments_const(context, connection + 1, b, PEF_MAX_FRAGMENTS, &b_count) == PEF_NOT_THERE;
+    return is_same_order && (pef_fragments)(context, connection + 1, a, PEF_MAX_FRAGMENTS, &a_count) == PEF_NOT_THERE
+           && pef_fragments(context, connection + 1, b, PEF_MAX_FRAGMENTS, &b_count) == PEF_NOT_THERE;
 }
 
 /* Reads a context over the fragments of some words. Returns the status. */
@@ -1014,7 +1047,7 @@ static int read_files(int count, char **words)
     context = map(PAGE);
     if (!read_fragments(count, words) || open_all(context, limit) != PEF_OK || prepare_first(context, &connection, &names) != PEF_OK)
         return 2;
-    if (!tell_all(&alone.told, context) || !is_alike() || pef_fragment_sections_const(&closed, 0, &sections) != PEF_NOT_OPEN || sections != 7)
+    if (!tell_all(&alone.told, context) || !is_alike() || pef_fragment_sections(&closed, 0, &sections) != PEF_NOT_OPEN || sections != 7)
         return 1;
     if (mprotect(arena, ARENA, PROT_READ) != 0 || mprotect(context, PAGE, PROT_READ) != 0)
         return 2;

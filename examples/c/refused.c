@@ -1,5 +1,5 @@
 /*
- * Refuses each growth in turn: refused SCRIPT links the script, lists its container at once and in parts, and
+ * Refuses each growth in turn: refused SCRIPT links the script, makes its certificates, lists its container at once and in parts, and
  * finds the notes on that with bytes after it that need memory, once for each growth that these calls ask for. The call has to return PEF_OUT_OF_MEMORY and to write nothing; or, where it can do without the growth, to
  * return what it returns with memory. No block is left behind, and the same call works when it is made again.
  */
@@ -11,7 +11,7 @@
 enum { ROOM = 1 << 20 };
 
 /* One of the calls, the bytes that it takes, and what it writes when it has memory. */
-enum kind { LINK, LIST, PARTS, REPORT, NOTES };
+enum kind { LINK, DISTANCES, LIST, PARTS, REPORT, EXCERPT, NOTES };
 
 struct trial {
     const char *name;
@@ -63,18 +63,36 @@ static uint32_t report_container(const uint8_t *bytes, size_t length, uint8_t *o
     return answer;
 }
 
+/* Reads the beginning of the object of a container in a file, by which a want of memory is reported, and not shown as its error. */
+static uint32_t report_excerpt(const uint8_t *bytes, size_t length, uint8_t *out, size_t *written)
+{
+    struct pef_report report = PEF_NO_REPORT;
+    struct pef_found_container found;
+    uint32_t answer = pef_first_container(bytes, length, &found);
+    if (answer == PEF_OK)
+        answer = pef_report_open_excerpt(&report, bytes, length, &found, 10);
+    if (answer == PEF_OK)
+        answer = pef_report_next(&report, out, ROOM, written);
+    pef_report_free(&report);
+    return answer;
+}
+
 static uint32_t call(const struct trial *trial, uint8_t *out, size_t *written)
 {
     size_t line;
     switch (trial->kind) {
     case LINK:
         return pef_link(trial->bytes, trial->length, out, ROOM, written, &line);
+    case DISTANCES:
+        return pef_distances(trial->bytes, trial->length, out, ROOM, written, &line);
     case LIST:
         return pef_list(trial->bytes, trial->length, out, ROOM, written);
     case PARTS:
         return list_in_parts(trial->bytes, trial->length, out, written);
     case REPORT:
         return report_container(trial->bytes, trial->length, out, written);
+    case EXCERPT:
+        return report_excerpt(trial->bytes, trial->length, out, written);
     default:
         return find_notes(trial->bytes, trial->length, out, written);
     }
@@ -129,29 +147,32 @@ static bool sweep(struct trial *trial)
 
 int main(int count, char **words)
 {
-    static uint8_t container[ROOM], lines[ROOM], parts[ROOM], object[ROOM], numbers[ROOM];
+    static uint8_t container[ROOM], certificates[ROOM], lines[ROOM], parts[ROOM], object[ROOM], beginning[ROOM], numbers[ROOM];
     if (count != 2) {
         fputs("usage: refused SCRIPT\n", stderr);
         return 2;
     }
     struct trial link = {.name = "pef_link", .kind = LINK, .wanted = container};
+    struct trial distances = {.name = "pef_distances", .kind = DISTANCES, .wanted = certificates};
     struct trial list = {.name = "pef_list", .kind = LIST, .wanted = lines};
     struct trial list_parts = {.name = "pef_list_open, pef_list_next", .kind = PARTS, .wanted = parts};
     struct trial report = {.name = "pef_report_open_container", .kind = REPORT, .wanted = object};
+    struct trial excerpt = {.name = "pef_report_open_excerpt", .kind = EXCERPT, .wanted = beginning};
     struct trial notes = {.name = "pef_more_notes", .kind = NOTES, .wanted = numbers};
     uint8_t *script = read_file(words[1], &link.length);
     if (script == NULL) {
         perror(words[1]);
         return 1;
     }
-    link.bytes = script;
-    bool right = sweep(&link);
+    link.bytes = distances.bytes = script;
+    distances.length = link.length;
+    bool right = sweep(&link) && sweep(&distances);
     free(script);
     list.bytes = container;
     list.length = link.wanted_length;
-    list_parts.bytes = report.bytes = container;
-    list_parts.length = report.length = list.length;
-    right = right && sweep(&list) && sweep(&list_parts) && sweep(&report);
+    list_parts.bytes = report.bytes = excerpt.bytes = container;
+    list_parts.length = report.length = excerpt.length = list.length;
+    right = right && sweep(&list) && sweep(&list_parts) && sweep(&report) && sweep(&excerpt);
     right = right && list_parts.wanted_length == list.wanted_length && memcmp(parts, lines, list.wanted_length) == 0;
     memset(container + link.wanted_length, 1, 6);
     notes.bytes = container;

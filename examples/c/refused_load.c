@@ -57,6 +57,32 @@ static bool asks(struct pef_context *context, size_t *lacking)
     return (answer == PEF_OK && count <= 1) || wrong("asking", answer);
 }
 
+/* Makes a stub of a library that the fragments lack, or of one that nobody names. If memory is lacking, it is made again. */
+static bool stubs(struct pef_context *context, size_t *lacking)
+{
+    static const struct pef_stub_options options = PEF_NUMBERED_STUBS;
+    static uint8_t stub[4096];
+    struct pef_lacking row = {PEF_NO_BYTES, false};
+    size_t count = 7, written = 7, symbols = 7;
+    uint32_t answer = pef_lacking(context, 0, &row, 1, &count);
+    if (answer == PEF_OUT_OF_MEMORY) {
+        (*lacking)++;
+        if (count != 7 || row.name.length != 0)
+            return wrong("pef_lacking writes without memory", answer);
+        answer = pef_lacking(context, 0, &row, 1, &count);
+    }
+    if (answer != PEF_OK)
+        return wrong("asking what is lacking", answer);
+    answer = pef_stub(context, row.name.at, row.name.length, &options, stub, sizeof stub, &written, &symbols);
+    if (answer == PEF_OUT_OF_MEMORY) {
+        (*lacking)++;
+        if (written != 7 || symbols != 7)
+            return wrong("pef_stub writes without memory", answer);
+        answer = pef_stub(context, row.name.at, row.name.length, &options, stub, sizeof stub, &written, &symbols);
+    }
+    return answer == PEF_OK || wrong("a stub", answer);
+}
+
 /* Prepares the first fragment. If memory is lacking, it is prepared again. */
 static bool prepares(struct pef_context *context, size_t *lacking)
 {
@@ -107,7 +133,7 @@ static bool is_right(size_t refused, size_t *lacking)
 {
     struct pef_context context = {0};
     refuse_growth(refused);
-    bool right = adds_all(&context, lacking) && asks(&context, lacking) && prepares(&context, lacking);
+    bool right = adds_all(&context, lacking) && asks(&context, lacking) && stubs(&context, lacking) && prepares(&context, lacking);
     if (right && refused != 0 && !is_same(&told, &wanted))
         right = wrong("something else is told", 0);
     right = right && removes(&context, lacking);

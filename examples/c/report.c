@@ -81,6 +81,50 @@ static void test_kept(void)
     pef_report_free(&report);
 }
 
+/* The head and the end of the report on bytes without a container are the report. */
+static void test_head_and_end(void)
+{
+    static const char end[] = "],\"errors\":[],\"notes\":[]}\n";
+    char head[sizeof empty];
+    struct pef_report report = PEF_NO_REPORT;
+    struct pef_found_container found;
+    memcpy(head, empty, sizeof empty);
+    head[sizeof empty - sizeof end] = 0;
+    EXPECT(pef_report_open_head(&report, TEXT("a b"), NULL, 0) == PEF_OK);
+    read_in_parts(&report, 10, head);
+    EXPECT(pef_first_container(NULL, 0, &found) == PEF_NOT_THERE && found.offset == 0 && found.length == 0 && found.number == 0);
+    EXPECT(pef_report_open_end(&report, NULL, 0, &found) == PEF_OK);
+    read_in_parts(&report, 10, end);
+    pef_report_free(&report);
+}
+
+/* A container that begins after some bytes, whose sections aren't all there, and its first section. */
+static void test_container(void)
+{
+    static const char section[] =
+        "{\"offset\":45,\"kind\":0,\"kind_text\":\"code\",\"share\":0,\"share_text\":null,\"align\":0,\"total\":0,\"unpacked\":0,"
+        "\"packed\":0,\"default\":0,\"raw\":5,\"name\":null}";
+    struct pef_report report = PEF_NO_REPORT;
+    struct pef_found_container found;
+    struct pef_row_range rows = {.part = PEF_SECTION_PART, .count = 9};
+    uint8_t file[74] = "12345Joy!peffpwpc", byte;
+    size_t written;
+    file[38] = 2;
+    file[45] = file[46] = file[47] = file[48] = 0xFF;
+    EXPECT(pef_first_container(file, 73, &found) == PEF_OK && found.offset == 5 && found.length == 68 && found.number == 0);
+    rows.offset = found.offset;
+    EXPECT(pef_report_open_rows(&report, file, 73, &rows) == PEF_OK);
+    read_in_parts(&report, 10, section);
+    EXPECT(pef_report_open_excerpt(&report, file, 73, &found, 1) == PEF_OK);
+    EXPECT(pef_report_next(&report, &byte, 1, &written) == PEF_OK && written == 1 && byte == '{');
+    EXPECT(pef_report_open_found(&report, file, 73, &found) == PEF_OK);
+    EXPECT(pef_report_next(&report, &byte, 1, &written) == PEF_OK && written == 1 && byte == '{');
+    rows.part = PEF_LOADER_HEADER_PART;
+    EXPECT(pef_report_open_rows(&report, file, 73, &rows) == PEF_NOT_THERE && !report.is_open);
+    EXPECT(pef_next_container(file, 73, &found) == PEF_NOT_THERE && found.offset == 73 && found.length == 0 && found.number == 1);
+    pef_report_free(&report);
+}
+
 /* Prints the report on a file. */
 static int print(const char *path)
 {
@@ -110,6 +154,8 @@ int main(int count, char **words)
     test_parts();
     test_not_open();
     test_kept();
+    test_head_and_end();
+    test_container();
     printf("%zu failures\n", failures);
     return failures == 0 ? 0 : 1;
 }

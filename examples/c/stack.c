@@ -2,7 +2,7 @@
  * Measures how much stack each call takes: stack FILE.. has every call read, list and prepare the containers of the files, and
  * then containers that were made to take much: libraries out of order, 256 fragments that need one another in a row, and a
  * chain of exports that are passed on. A call runs in a thread whose stack is full of one byte, and what it changed is counted.
- * A call that takes more than 64 KB, or one that opens a report and takes more than 96 KB, is told, and the status is then 1.
+ * A call that takes more than 64 KB, or one that opens a report and takes more than 160 KB, is told, and the status is then 1.
  */
 #define _DEFAULT_SOURCE
 #include "file.h"
@@ -12,7 +12,13 @@
 #include <string.h>
 #include <sys/mman.h>
 
-enum { STACK = 1 << 21, LIMIT = 1 << 16, REPORT_LIMIT = 96 << 10, FILLED = 0xA5, ROOM = 1 << 20, PLACES = 1024 };
+/* Another build of the library may take another number of bytes. */
+#ifndef LIMIT
+#define LIMIT (64 << 10)
+#define REPORT_LIMIT (160 << 10)
+#endif
+
+enum { STACK = 1 << 21, FILLED = 0xA5, ROOM = 1 << 20, PLACES = 1024 };
 
 /* --- what a piece of work takes --- */
 
@@ -78,6 +84,11 @@ static void call_link(void)
     answer = pef_link((const uint8_t *)text, strlen(text), room, ROOM, &written, &line);
 }
 
+static void call_distances(void)
+{
+    answer = pef_distances((const uint8_t *)text, strlen(text), room, ROOM, &written, &line);
+}
+
 static void call_script_place(void)
 {
     static struct pef_place place;
@@ -105,6 +116,44 @@ static void call_report_open(void)
 static void call_report_open_container(void)
 {
     answer = pef_report_open_container(&report, it.at, it.length);
+}
+
+static struct pef_found_container found;
+
+static void call_first_container(void)
+{
+    answer = pef_first_container(it.at, it.length, &found);
+}
+
+static void call_report_open_head(void)
+{
+    answer = pef_report_open_head(&report, NULL, 0, it.at, it.length);
+}
+
+static void call_report_open_found(void)
+{
+    answer = pef_report_open_found(&report, it.at, it.length, &found);
+}
+
+static void call_report_open_excerpt(void)
+{
+    answer = pef_report_open_excerpt(&report, it.at, it.length, &found, PLACES);
+}
+
+static void call_report_open_rows(void)
+{
+    static const struct pef_row_range rows = {.part = PEF_RELOCATION_PART, .count = PLACES};
+    answer = pef_report_open_rows(&report, it.at, it.length, &rows);
+}
+
+static void call_next_container(void)
+{
+    answer = pef_next_container(it.at, it.length, &found);
+}
+
+static void call_report_open_end(void)
+{
+    answer = pef_report_open_end(&report, it.at, it.length, &found);
 }
 
 static void call_report_next(void)
@@ -201,6 +250,7 @@ static void call_partial(void)
     static struct pef_import imports[PLACES];
     static struct pef_relocation relocations[PLACES];
     static struct pef_export exports[PLACES];
+    static struct pef_fixup fixups[PLACES];
     answer = pef_partial_header(it.at, it.length, &header);
     answer = pef_partial_section(it.at, it.length, 0, &section, &bytes);
     answer = pef_partial_section_name(it.at, it.length, 0, &bytes);
@@ -209,6 +259,7 @@ static void call_partial(void)
     answer = pef_partial_imports(it.at, it.length, 0, imports, PLACES, &count);
     answer = pef_partial_relocations(it.at, it.length, 0, relocations, PLACES, &count);
     answer = pef_partial_exports(it.at, it.length, 0, exports, PLACES, &count);
+    answer = pef_partial_fixups(it.at, it.length, 0, 0, fixups, PLACES, &count);
 }
 
 /* The calls that read a file of the classic Mac OS, on that of mac_file.h. */
@@ -265,6 +316,23 @@ static void call_missing(void)
     static struct pef_missing missing[16];
     static struct pef_names names;
     answer = pef_missing(&context, (const uint8_t *)"0", 1, 0, missing, 16, &count, &names);
+}
+
+static void call_lacking(void)
+{
+    static struct pef_lacking lacking[16];
+    answer = pef_lacking(&context, 0, lacking, 16, &count);
+}
+
+/* The stub of the first library that the context lacks, or of one that nobody names. */
+static void call_stub(void)
+{
+    static const struct pef_stub_options options = PEF_NUMBERED_STUBS;
+    static uint8_t stub[1 << 20];
+    struct pef_lacking first = {PEF_NO_BYTES, false};
+    pef_size written = 0;
+    pef_lacking(&context, 0, &first, 1, &count);
+    answer = pef_stub(&context, first.name.at, first.name.length, &options, stub, sizeof stub, &written, &count);
 }
 
 static void call_new_sections(void)
@@ -338,6 +406,8 @@ static void call_open(void)
 static void measure_context(const char *what)
 {
     measure("pef_missing", what, call_missing);
+    measure("pef_lacking", what, call_lacking);
+    measure("pef_stub", what, call_stub);
     measure("pef_new_sections", what, call_new_sections);
     measure("pef_prepare_at", what, call_prepare_at);
     measure("pef_prepare_with_place", what, call_prepare);
@@ -352,6 +422,13 @@ static void measure_container(const char *what)
     measure("pef_list", what, call_list);
     measure_within(REPORT_LIMIT, "pef_report_open", what, call_report_open);
     measure_within(REPORT_LIMIT, "pef_report_open_container", what, call_report_open_container);
+    measure("pef_first_container", what, call_first_container);
+    measure_within(REPORT_LIMIT, "pef_report_open_head", what, call_report_open_head);
+    measure_within(REPORT_LIMIT, "pef_report_open_found", what, call_report_open_found);
+    measure_within(REPORT_LIMIT, "pef_report_open_excerpt", what, call_report_open_excerpt);
+    measure_within(REPORT_LIMIT, "pef_report_open_rows", what, call_report_open_rows);
+    measure("pef_next_container", what, call_next_container);
+    measure_within(REPORT_LIMIT, "pef_report_open_end", what, call_report_open_end);
     measure("pef_report_next", what, call_report_next);
     measure("pef_report_free", what, call_report_free);
     measure("pef_list_open", what, call_list_open);
@@ -382,6 +459,7 @@ static void measure_container(const char *what)
 static struct pef_bytes linked(const char *script)
 {
     text = script;
+    measure("pef_distances", script, call_distances);
     measure("pef_link", script, call_link);
     measure("pef_script_place", script, call_script_place);
     uint8_t *made = malloc(written);

@@ -33,11 +33,11 @@ static inline void tell_section(struct told *told, const struct pef_context *con
 {
     struct pef_fragment_section section = {0};
     size_t written = 0;
-    tell_number(told, pef_fragment_section_const(context, connection, fragment, number, &section));
+    tell_number(told, pef_fragment_section(context, connection, fragment, number, &section));
     tell_number(told, section.address);
     tell_number(told, section.kind);
     tell_number(told, section.share);
-    uint32_t answer = pef_fragment_bytes_const(context, fragment, number, told->bytes + told->length, TOLD_ROOM - told->length, &written);
+    uint32_t answer = pef_fragment_bytes(context, fragment, number, told->bytes + told->length, TOLD_ROOM - told->length, &written);
     told->length += answer == PEF_OK ? written : 0;
     told->whole = told->whole && (answer == PEF_OK || answer == PEF_ROOM_TOO_SMALL) && written == section.size;
     tell(told, &section.size, sizeof section.size);
@@ -48,13 +48,13 @@ static inline void tell_fragment(struct told *told, const struct pef_context *co
     struct pef_bytes name = PEF_NO_BYTES;
     struct pef_entries entries = {0};
     size_t count = 0;
-    tell_number(told, pef_fragment_name_const(context, fragment, &name));
+    tell_number(told, pef_fragment_name(context, fragment, &name));
     tell(told, name.at, name.length);
-    tell_number(told, pef_fragment_entries_const(context, connection, fragment, &entries));
+    tell_number(told, pef_fragment_entries(context, connection, fragment, &entries));
     tell_number(told, entries.has_init ? entries.init : 1);
     tell_number(told, entries.has_main ? entries.main : 1);
     tell_number(told, entries.has_term ? entries.term : 1);
-    tell_number(told, pef_fragment_sections_const(context, fragment, &count));
+    tell_number(told, pef_fragment_sections(context, fragment, &count));
     for (size_t number = 0; number < count; number++)
         tell_section(told, context, connection, fragment, number);
 }
@@ -64,9 +64,9 @@ static inline bool tell_connection(struct told *told, const struct pef_context *
 {
     size_t order[PEF_MAX_FRAGMENTS], count = 0;
     told->length = 0;
-    told->whole = pef_init_order_const(context, connection, order, PEF_MAX_FRAGMENTS, &count) == PEF_OK;
+    told->whole = pef_init_order(context, connection, order, PEF_MAX_FRAGMENTS, &count) == PEF_OK;
     tell(told, order, count * sizeof order[0]);
-    told->whole = told->whole && pef_fragments_const(context, connection, order, PEF_MAX_FRAGMENTS, &count) == PEF_OK;
+    told->whole = told->whole && pef_fragments(context, connection, order, PEF_MAX_FRAGMENTS, &count) == PEF_OK;
     tell(told, order, count * sizeof order[0]);
     for (size_t i = 0; told->whole && i < count; i++)
         tell_fragment(told, context, connection, order[i]);

@@ -42,8 +42,8 @@ static uint32_t print_section(size_t number)
     uint32_t answer = pef_section(container.at, container.length, number, &section, &raw);
     if (answer != PEF_OK)
         return answer;
-    printf("section %zu kind %u share %u align %u total %u unpacked %u packed %zu default %08X name ", number, section.kind,
-           section.share, section.alignment, section.total_size, section.unpacked_size, raw.length, section.default_address);
+    printf("section %zu kind %u share %u align %u total %u unpacked %u packed %lu default %08X name ", number, section.kind,
+           section.share, section.alignment, section.total_size, section.unpacked_size, (unsigned long)raw.length, section.default_address);
     answer = pef_section_name(container.at, container.length, number, &name);
     if (answer == PEF_NOT_THERE)
         fputs("-", stdout);
@@ -66,7 +66,7 @@ static void *make_rows(size_t count, const void *row, size_t size)
 
 static uint32_t print_libraries(struct pef_library *libraries, size_t room)
 {
-    size_t count = 0;
+    pef_size count = 0;
     uint32_t answer = pef_libraries(container.at, container.length, 0, libraries, room, &count);
     for (size_t i = 0; answer == PEF_OK && i < count; i++) {
         fputs("library ", stdout);
@@ -78,7 +78,7 @@ static uint32_t print_libraries(struct pef_library *libraries, size_t room)
 
 static uint32_t print_imports(struct pef_import *imports, size_t room, const struct pef_library *libraries)
 {
-    size_t count = 0;
+    pef_size count = 0;
     uint32_t answer = pef_imports(container.at, container.length, 0, imports, room, &count);
     for (size_t i = 0; answer == PEF_OK && i < count; i++) {
         printf("import %zu ", i);
@@ -105,10 +105,10 @@ static void print_instructions(struct pef_bytes it)
 
 static uint32_t print_relocations(struct pef_relocation *relocations, size_t room)
 {
-    size_t count = 0;
+    pef_size count = 0;
     uint32_t answer = pef_relocations(container.at, container.length, 0, relocations, room, &count);
     for (size_t i = 0; answer == PEF_OK && i < count; i++) {
-        printf("reloc section %u halfwords %zu\n", relocations[i].section, relocations[i].instructions.length / 2);
+        printf("reloc section %u halfwords %lu\n", relocations[i].section, (unsigned long)relocations[i].instructions.length / 2);
         print_instructions(relocations[i].instructions);
     }
     return answer;
@@ -116,7 +116,7 @@ static uint32_t print_relocations(struct pef_relocation *relocations, size_t roo
 
 static uint32_t print_exports(struct pef_export *exports, size_t room)
 {
-    size_t count = 0;
+    pef_size count = 0;
     uint32_t answer = pef_exports(container.at, container.length, 0, exports, room, &count);
     for (size_t i = 0; answer == PEF_OK && i < count; i++) {
         fputs("export ", stdout);
@@ -200,12 +200,14 @@ int main(int count, char **words)
         fputs("usage: walk FILE\n", stderr);
         return 2;
     }
-    uint8_t *bytes = read_file(words[1], &container.length);
+    size_t length = 0;
+    uint8_t *bytes = read_file(words[1], &length);
     if (bytes == NULL) {
         perror(words[1]);
         return 1;
     }
     container.at = bytes;
+    container.length = length;
     uint32_t answer = print_container();
     free(bytes);
     if (answer != PEF_OK)

@@ -48,6 +48,22 @@ static void test_link()
     expect("a long container", pef::link("section d data process 4 100000\nbytes d " + std::string(200000, '1') + "\n").size() > 100000);
 }
 
+static void test_distances()
+{
+    static const char printed[] = "pefcert 2\nsection 0\nfixups 0\nlength 0\nprogram -\nregisters *\nat 0 0 0\nend\n";
+    expect("certificates", pef::distances(tools_script) == printed);
+    /* 129 rows of 289 labels, all different, are more. */
+    std::string lines = "section s0 data process 0 65536\n";
+    for (int i = 1; i < 16; i++)
+        lines += "section s" + std::to_string(i) + " data process 0 0\n";
+    for (int i = 0; i < 128; i++)
+        lines += "fix s0 " + std::to_string(512 * i) + " section s" + std::to_string(i % 16) + "\n";
+    std::string many = pef::distances(lines);
+    expect("more than the first buffer", many.size() > 65536 && many.substr(many.size() - 5) == "\nend\n");
+    pef::error error = thrown([] { pef::distances("section d data process 4 8\nfix d 0 section d\nfix d 2 section d\n"); });
+    expect("the error of its script", error.number == PEF_SCRIPT_OVERLAP && error.line == 3 && error.where.offset == 51);
+}
+
 static void test_container()
 {
     pef::buffer contents = pef::link(app_script);
@@ -89,6 +105,14 @@ static void test_parts()
     expect("a listing that was moved", thrown([&] { listing.rest(); }).number == PEF_NOT_OPEN);
     std::string report = pef::report("a file", contents).rest();
     expect("a report", report.find("{\"file\":\"a file\"") == 0 && report.back() == '\n');
+    const std::vector<pef::found_container> found = pef::found_containers(contents);
+    std::string parts = pef::report::head("a file", contents).rest();
+    for (size_t i = 0; i + 1 < found.size(); i++)
+        parts += pef::report::of(contents, found[i]).rest();
+    expect("its parts", found.size() == 2 && parts + pef::report::end(contents, found[1]).rest() == report);
+    const pef::row_range sections = {found[0].offset, PEF_SECTION_PART, 0, 1};
+    expect("its first section", report.find(pef::report::rows(contents, sections).rest()) != std::string::npos);
+    expect("its beginning", pef::report::excerpt(contents, found[0], 1).rest().find("{\"offset\":0,") == 0);
     expect("no listing", thrown([] { pef::listing none(""); }).number == PEF_TOO_SHORT);
 }
 
@@ -159,6 +183,42 @@ static void test_errors()
     expect("too many", thrown([&] { context.keep("more", pef::buffer()); }).number == PEF_STORE_FULL);
 }
 
+/* Stubs of what nobody has: their numbers, and who owns them. */
+static void test_stubs()
+{
+    pef::buffer app = pef::link("library Tools 1 0 -\nimport answer data strong\nlibrary Extras 2 1 weak\nimport more tvector strong\nsection d data process 4 8\nfix d 0 import answer\nfix d 4 import more\n");
+    pef::context context;
+    context.add("App", app);
+    std::vector<pef::lacking_library> lacking = context.lacking();
+    expect("what is lacking", lacking.size() == 2 && pef::bytes(lacking[0].name) == "Tools" && !lacking[0].is_weak && lacking[1].is_weak);
+    pef::stub_options options = PEF_NUMBERED_STUBS;
+    options.first = 0x100;
+    options.step = 4;
+    pef::stub tools = context.stub("Tools", options);
+    pef::exported symbol;
+    expect("a stub", tools.symbol_count == 1 && pef::container(tools.contents).find("answer", symbol) && symbol.value == 0x100 && symbol.symbol_class == PEF_CLASS_DATA);
+    expect("no importers", context.stub("None").symbol_count == 0);
+    options.size = 0;
+    expect("options of another size", thrown([&] { context.stub("Tools", options); }).number == PEF_BAD_OPTIONS);
+    options = PEF_NUMBERED_STUBS;
+    options.first = 0xFFFFFFF8;
+    options.step = 16;
+    pef::error error = thrown([&] { context.add_stubs("App", options); });
+    expect("no more numbers", error.number == PEF_PAST_LAST_NUMBER && context.lacking().size() == 2);
+    {
+        pef::context other;
+        other.add("App", app);
+        expect("without weak ones", other.add_stubs(PEF_STUBS_IN_MEMORY, false).size() == 1 && other.lacking().size() == 1);
+    }
+    std::vector<pef::added_stub> added = context.add_stubs("App");
+    expect("two stubs", added.size() == 2 && added[0].library == "Tools" && added[1].library == "Extras" && context.lacking().empty() && context.add_stubs().empty());
+    pef::connection connection = context.prepare("App");
+    pef::buffer memory(8);
+    connection.fragments().back().copy(0, memory.data(), memory.size());
+    expect("numbers go on", memory == pef::buffer({0xF0, 0, 0, 0, 0xF0, 0, 0, 0x10}));
+    expect("what a number means", pef::container(added[1].contents).find("more", symbol) && symbol.section == PEF_ABSOLUTE && symbol.value == 0xF0000010);
+}
+
 /* A connection has all that it needs when its context goes first. */
 static void test_owners()
 {
@@ -178,10 +238,12 @@ int main()
 {
     test_bytes();
     test_link();
+    test_distances();
     test_container();
     test_parts();
     test_context();
     test_errors();
+    test_stubs();
     test_owners();
     std::printf("%u compared, %u of them differ\n", compared, different);
     return different == 0 ? 0 : 1;
