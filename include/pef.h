@@ -300,8 +300,8 @@ uint32_t pef_distances(const uint8_t *script, size_t script_length, uint8_t *buf
  * Lists a container: writes the lines that `pef list` prints to the front of `buffer`, with no zero byte at their end.
  *
  * Returns PEF_OK, and stores the length of the lines in `*written`; or PEF_ROOM_TOO_SMALL, and stores the length that is
- * needed in `*written`; or the first refusal, 1 to 20 or 31 to 36; or PEF_OUT_OF_MEMORY. Unless PEF_OK is returned,
- * `buffer` is left unchanged; and after a refusal `*written` is too.
+ * needed in `*written`; or the first refusal, 1 to 20 or 31 to 36; or PEF_OUT_OF_MEMORY, if there is none. Unless PEF_OK is
+ * returned, `buffer` is left unchanged; and after a refusal `*written` is too.
  */
 uint32_t pef_list(const uint8_t *container, size_t container_length, uint8_t *buffer, size_t buffer_length, pef_size *written);
 
@@ -325,7 +325,7 @@ struct pef_listing {
  *
  * `container` is kept, not copied: it has to stay, unchanged, until pef_list_free() of this listing returns.
  *
- * Returns PEF_OK; or the first refusal, 1 to 20 or 31 to 36, or PEF_OUT_OF_MEMORY, and then the listing isn't open.
+ * Returns PEF_OK; or the first refusal, 1 to 20 or 31 to 36, or PEF_OUT_OF_MEMORY if there is none, and then the listing isn't open.
  */
 uint32_t pef_list_open(struct pef_listing *listing, const uint8_t *container, size_t container_length);
 
@@ -600,8 +600,8 @@ uint32_t pef_report_open_rows(struct pef_report *report, const uint8_t *file, si
  * Writes the next bytes of a report to the front of `buffer`, as many as fit.
  *
  * Returns PEF_OK, and stores the number of bytes in `*written`: it is less than `buffer_length` only at the end of the report, and
- * 0 after it. Or returns PEF_NOT_OPEN, if the report isn't open, or PEF_OUT_OF_MEMORY, and then the next call goes on where this one
- * began. After both `buffer` and `*written` are left unchanged.
+ * 0 after it. Or returns PEF_NOT_OPEN, if the report isn't open, and then `buffer` and `*written` are left unchanged. It allocates
+ * nothing.
  */
 uint32_t pef_report_next(struct pef_report *report, uint8_t *buffer, size_t buffer_length, pef_size *written);
 

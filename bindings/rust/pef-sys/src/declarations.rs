@@ -983,15 +983,15 @@ extern "C" {
     /// Lists a container: writes the lines that `pef list` prints to the front of `buffer`, with no zero byte at their end.
     ///
     /// Returns PEF_OK, and stores the length of the lines in `*written`; or PEF_ROOM_TOO_SMALL, and stores the length that is
-    /// needed in `*written`; or the first refusal, 1 to 20 or 31 to 36; or PEF_OUT_OF_MEMORY. Unless PEF_OK is returned,
-    /// `buffer` is left unchanged; and after a refusal `*written` is too.
+    /// needed in `*written`; or the first refusal, 1 to 20 or 31 to 36; or PEF_OUT_OF_MEMORY, if there is none. Unless PEF_OK is
+    /// returned, `buffer` is left unchanged; and after a refusal `*written` is too.
     pub fn pef_list(container: *const u8, container_length: usize, buffer: *mut u8, buffer_length: usize, written: *mut usize) -> u32;
 
     /// Opens the listing of a container, to be read by `pef_list_next()`. A listing that is open already is freed first.
     ///
     /// `container` is kept, not copied: it has to stay, unchanged, until `pef_list_free()` of this listing returns.
     ///
-    /// Returns PEF_OK; or the first refusal, 1 to 20 or 31 to 36, or PEF_OUT_OF_MEMORY, and then the listing isn't open.
+    /// Returns PEF_OK; or the first refusal, 1 to 20 or 31 to 36, or PEF_OUT_OF_MEMORY if there is none, and then the listing isn't open.
     pub fn pef_list_open(listing: *mut pef_listing, container: *const u8, container_length: usize) -> u32;
 
     /// Writes the next bytes of the lines that `pef list` prints to the front of `buffer`, as many as fit. Each line is made once,
@@ -1103,8 +1103,8 @@ extern "C" {
     /// Writes the next bytes of a report to the front of `buffer`, as many as fit.
     ///
     /// Returns PEF_OK, and stores the number of bytes in `*written`: it is less than `buffer_length` only at the end of the report, and
-    /// 0 after it. Or returns PEF_NOT_OPEN, if the report isn't open, or PEF_OUT_OF_MEMORY, and then the next call goes on where this one
-    /// began. After both `buffer` and `*written` are left unchanged.
+    /// 0 after it. Or returns PEF_NOT_OPEN, if the report isn't open, and then `buffer` and `*written` are left unchanged. It allocates
+    /// nothing.
     pub fn pef_report_next(report: *mut pef_report, buffer: *mut u8, buffer_length: usize, written: *mut usize) -> u32;
 
     /// Frees a report. It may be opened again. A report that isn't open stays as it is, so one may be freed twice.

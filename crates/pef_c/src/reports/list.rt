@@ -1,8 +1,8 @@
 //! Listings: the lines of a container, at once or part by part.
-ghost use Rattle.std.specs.Prelude.{◌≡◌, IfOk, None};
+ghost use Rattle.std.specs.Prelude.{◌≡◌, ◌==◌, IfOk, None, false};
 ghost use Rattle.pef_listing.specs.Listing.{listing_text};
 ghost use Rattle.pef_listing.specs.Views.{parts};
-ghost use Rattle.pef_c.specs.Reports.List.{ListAnswers, NextAnswers, OpenListAnswers, unread};
+ghost use Rattle.pef_c.specs.Reports.List.{IsReport, ListAnswers, NextAnswers, OpenListAnswers, unread};
 
 use crate::reports::text_handle::{PefText, put, take};
 use crate::reports::unread::Unread;
@@ -14,7 +14,7 @@ use std::alloc::Global;
 /// Lists a container, and copies the lines to the front of `buffer`.
 ///
 /// Returns 0; or 200 if the buffer is too small, and writes the length of the lines to `written`; or the number of
-/// the first refusal; or 99.
+/// the first refusal; or 99 if there is none and an allocation fails.
 #[unsafe(no_mangle)]
 pub extern "C" fn pef_list(
     alloc: Global,
@@ -50,7 +50,7 @@ fn listing_text(alloc: Global, listing: &Listing<'_>) -> Result<Vec<u8>, StreamF
 
 /// Opens a container's listing, to be read part by part. A listing that was open is freed.
 ///
-/// Returns 0; or the number of the first refusal, or 99, and then the listing isn't open.
+/// Returns 0; or the number of the first refusal, or 99 if there is none and an allocation fails, and then the listing isn't open.
 #[unsafe(no_mangle)]
 pub extern "C" fn pef_list_open(
     alloc: Global,
@@ -91,14 +91,17 @@ pub extern "C" fn pef_list_next(
 
 /// Copies the next bytes of a text to the front of `buffer`, as many as it has.
 ///
-/// Returns 0, and writes the number of bytes to `written`; or 202 if the text isn't open; or 99, and then nothing is read.
+/// Returns 0, and writes the number of bytes to `written`; or 202 if the text isn't open; or 99, and then nothing is read. Of a text
+/// that was made already it never returns 99.
 pub(crate) fn read_next(
     alloc: Global,
     text: &mut PefText,
     buffer: &mut [u8],
     written: &mut usize,
 ) -> u32
-    ensures { NextAnswers (unread text.old) (unread text.new) buffer.old buffer.new written.old written.new result }
+    ensures read { NextAnswers (unread text.old) (unread text.new) buffer.old buffer.new written.old written.new result }
+    ensures report { IsReport text.old → IsReport text.new }
+    ensures made { IsReport text.old → (result == 99) ≡ false }
 {
     let Some(mut left) = take(alloc, text) else {
         return NOT_OPEN;

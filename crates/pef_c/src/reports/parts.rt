@@ -7,7 +7,7 @@ ghost use Rattle.std.specs.Prelude.{◌≡◌, None};
 ghost use Rattle.mac_report.specs.Parts.{IsContainerText, IsExcerpt, IsPartText};
 ghost use Rattle.mac_report.specs.Reports.{found_of, json_end, json_head};
 ghost use Rattle.pef_c.specs.Reports.Found.{turn_of};
-ghost use Rattle.pef_c.specs.Reports.List.{unread};
+ghost use Rattle.pef_c.specs.Reports.List.{IsReport, unread};
 ghost use Rattle.pef_c.specs.Reports.Parts.{OpenPartAnswers, OpenRowsAnswers, row_part};
 
 use crate::reports::found::turn_of;
@@ -26,7 +26,8 @@ pub extern "C" fn pef_report_open_head<'a>(
     path: &'a [u8],
     file: &'a [u8],
 ) -> u32
-    ensures { OpenPartAnswers (λ text. text ≡ json_head path.entry.now file.entry.now None) (unread report.new) result }
+    ensures text { OpenPartAnswers (λ text. text ≡ json_head path.entry.now file.entry.now None) (unread report.new) result }
+    ensures report { IsReport report.new }
 {
     let part = ReportPart::Head {
         path: given(path),
@@ -45,7 +46,8 @@ pub extern "C" fn pef_report_open_found<'a>(
     file: &'a [u8],
     found: &PefFoundContainer,
 ) -> u32
-    ensures { OpenPartAnswers (IsContainerText file.entry.now (turn_of found.now) found.now.offset) (unread report.new) result }
+    ensures text { OpenPartAnswers (IsContainerText file.entry.now (turn_of found.now) found.now.offset) (unread report.new) result }
+    ensures report { IsReport report.new }
 {
     let part = ReportPart::Container {
         bytes: given(file),
@@ -65,7 +67,8 @@ pub extern "C" fn pef_report_open_excerpt<'a>(
     found: &PefFoundContainer,
     most: u32,
 ) -> u32
-    ensures { OpenPartAnswers (IsExcerpt file.entry.now (turn_of found.now) found.now.offset most) (unread report.new) result }
+    ensures text { OpenPartAnswers (IsExcerpt file.entry.now (turn_of found.now) found.now.offset most) (unread report.new) result }
+    ensures report { IsReport report.new }
 {
     let part = ReportPart::Excerpt {
         bytes: given(file),
@@ -84,7 +87,8 @@ pub extern "C" fn pef_report_open_end<'a>(
     file: &'a [u8],
     end: &PefFoundContainer,
 ) -> u32
-    ensures { OpenPartAnswers (λ text. text ≡ json_end (found_of None file.entry.now) end.now.skipped) (unread report.new) result }
+    ensures text { OpenPartAnswers (λ text. text ≡ json_end (found_of None file.entry.now) end.now.skipped) (unread report.new) result }
+    ensures report { IsReport report.new }
 {
     let part = ReportPart::End {
         bytes: given(file),
@@ -103,7 +107,8 @@ pub extern "C" fn pef_report_open_rows<'a>(
     file: &'a [u8],
     rows: &PefRowRange,
 ) -> u32
-    ensures { OpenRowsAnswers file.entry.now rows.now (row_part rows.now.part) (unread report.new) result }
+    ensures text { OpenRowsAnswers file.entry.now rows.now (row_part rows.now.part) (unread report.new) result }
+    ensures report { IsReport report.new }
 {
     let Some(kind) = row_part(rows.part) else {
         pef_report_free(alloc, report);
@@ -135,7 +140,8 @@ fn row_part(number: u32) -> Option<Part>
 
 /// Makes a part of a report, to be read part by part.
 fn open_part(alloc: Global, report: &mut PefText, part: ReportPart<'_>) -> u32
-    ensures { OpenPartAnswers (IsPartText part.entry) (unread report.new) result }
+    ensures text { OpenPartAnswers (IsPartText part.entry) (unread report.new) result }
+    ensures report { IsReport report.new }
 {
     pef_report_free(alloc, report);
     match part.to_bytes(alloc) {

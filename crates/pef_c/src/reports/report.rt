@@ -1,7 +1,7 @@
 //! What `pef inspect --json` prints of a file, or of bytes as a container, read part by part.
-ghost use Rattle.std.specs.Prelude.{◌≡◌, IfOk, None};
+ghost use Rattle.std.specs.Prelude.{◌≡◌, ◌==◌, IfOk, None, false};
 ghost use Rattle.pef_report.specs.Inspection.{inspection_object};
-ghost use Rattle.pef_c.specs.Reports.List.{NextAnswers, unread};
+ghost use Rattle.pef_c.specs.Reports.List.{IsReport, NextAnswers, unread};
 ghost use Rattle.pef_report.specs.Views.{inspected};
 ghost use Rattle.pef_c.specs.Reports.Report.{KeepAnswers, OpenContainerAnswers, OpenReportAnswers};
 
@@ -27,7 +27,8 @@ pub extern "C" fn pef_report_open<'a>(
     path: &'a [u8],
     file: &'a [u8],
 ) -> u32
-    ensures { OpenReportAnswers path.entry.now file.entry.now (unread report.new) result }
+    ensures text { OpenReportAnswers path.entry.now file.entry.now (unread report.new) result }
+    ensures report { IsReport report.new }
 {
     let _closed = take(alloc, report);
     let made = FileReport {
@@ -51,7 +52,8 @@ pub extern "C" fn pef_report_open_container(
     report: &mut PefText,
     bytes: &[u8],
 ) -> u32
-    ensures { OpenContainerAnswers bytes.now (unread report.new) result }
+    ensures text { OpenContainerAnswers bytes.now (unread report.new) result }
+    ensures report { IsReport report.new }
 {
     let _closed = take(alloc, report);
     let Ok(inspection) = Inspection::read(alloc, 0, given(bytes)) else {
@@ -65,7 +67,8 @@ pub extern "C" fn pef_report_open_container(
 
 /// Copies the next bytes of a report to the front of `buffer`, as many as it has.
 ///
-/// Returns 0, and writes the number of bytes to `written`: 0 after the last one; or 202 if the report isn't open.
+/// Returns 0, and writes the number of bytes to `written`: 0 after the last one; or 202 if the report isn't open. It allocates
+/// nothing: of what the calls opened that open a report it never returns 99.
 #[unsafe(no_mangle)]
 pub extern "C" fn pef_report_next(
     alloc: Global,
@@ -73,7 +76,9 @@ pub extern "C" fn pef_report_next(
     buffer: &mut [u8],
     written: &mut usize,
 ) -> u32
-    ensures { NextAnswers (unread report.old) (unread report.new) buffer.old buffer.new written.old written.new result }
+    ensures read { NextAnswers (unread report.old) (unread report.new) buffer.old buffer.new written.old written.new result }
+    ensures report { IsReport report.old → IsReport report.new }
+    ensures made { IsReport report.old → (result == 99) ≡ false }
 {
     read_next(alloc, report, buffer, written)
 }
@@ -81,7 +86,8 @@ pub extern "C" fn pef_report_next(
 /// Frees a report. Does nothing if it isn't open.
 #[unsafe(no_mangle)]
 pub extern "C" fn pef_report_free(alloc: Global, report: &mut PefText)
-    ensures { unread report.new ≡ None }
+    ensures text { unread report.new ≡ None }
+    ensures report { IsReport report.new }
 {
     let _closed = take(alloc, report);
 }
@@ -103,7 +109,8 @@ fn object_of(
 /// Keeps a text, to be read. Returns 0; or 99, and then it isn't open.
 pub(crate) fn keep(alloc: Global, report: &mut PefText, text: Vec<u8, Global>) -> u32
     requires { unread report.old ≡ None }
-    ensures { KeepAnswers text.items (unread report.new) result }
+    ensures text { KeepAnswers text.items (unread report.new) result }
+    ensures report { IsReport report.new }
 {
     match Box::new(alloc, Unread::Bytes(MadeBytes::new(text))) {
         Ok(boxed) => {

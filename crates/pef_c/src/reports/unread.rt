@@ -1,5 +1,5 @@
 //! A text that C reads part by part.
-ghost use Rattle.std.specs.Prelude.{◌≡◌, ◌≤◌, drop, length};
+ghost use Rattle.std.specs.Prelude.{◌≡◌, ◌≤◌, drop, false, length, OnErr};
 ghost use Rattle.pef_listing.specs.Left.{Reads};
 
 use pef_listing::ListingReader;
@@ -23,15 +23,17 @@ pub struct MadeBytes {
 }
 
 impl<'a> Unread<'a> {
-    ghost use Rattle.pef_c.specs.Reports.Unread.{unread_text};
+    ghost use Rattle.pef_c.specs.Reports.Unread.{is_made, unread_text};
 
     /// Reads the next bytes into the front of `buffer`, as many as it has, or all that are left. Returns how many.
     ///
     /// # Errors
     ///
-    /// If an allocation fails, nothing is read.
+    /// If an allocation fails, nothing is read. Bytes that are there already are read without one.
     pub(crate) fn read(&mut self, alloc: Global, buffer: &mut [u8]) -> Result<usize, AllocError>
-        ensures { Reads result (unread_text self.old) (unread_text self.new) buffer.old buffer.new }
+        ensures read { Reads result (unread_text self.old) (unread_text self.new) buffer.old buffer.new }
+        ensures kind { is_made self.new ≡ is_made self.old }
+        ensures lacks { OnErr result (is_made self.old ≡ false) }
     {
         match self {
             Unread::Lines(reader) => reader.read(alloc, buffer),

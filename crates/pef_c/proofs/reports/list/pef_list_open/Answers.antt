@@ -1,5 +1,5 @@
--- All lines are still to be read.
-use Rattle.std.proofs.Common.{◌≡◌, ◌∙◌, Some, ap, sym}
+-- All lines are still to be read, or the container has no error and an allocation failed.
+use Rattle.std.proofs.Common.{◌≡◌, ◌∙◌, Some, ap, inl, refl, sym}
 use Rattle.std.specs.Prelude.{Option, option_map}
 use Rattle.pef_listing.specs.Listed.{Parts, listed_of}
 use Rattle.pef_listing.specs.Listing.{listing_text}
@@ -13,3 +13,8 @@ returns-in-Ok-new c =
     let p : Parts = parts c.in-Ok.read in
     let all : unread_text c.in-Ok-new.boxed.value ≡ listing_text p.container p.loader = ap unread_text c.in-Ok-new.ensures.ok ∙ c.new.ensures ∙ c.lines-lines.ensures in
     (p, sym (ap listed_of c.given.ensures) ∙ sym c.in-Ok.ensures, ap (λ (held : Option Unread). option_map unread_text held) c.put.ensures ∙ ap Some all)
+
+pub returns : goal.returns
+returns c =
+    let p : Parts = parts c.in-Ok.read in
+    (ap (λ (held : Option Unread). option_map unread_text held) c.take-closed.ensures.left, inl (refl, (p, sym (ap listed_of c.given.ensures) ∙ sym c.in-Ok.ensures)))
