@@ -1,5 +1,5 @@
 """Invalid command lines and requests for help, which print `usage` and change no file; and the version."""
-from data.help import HELP
+from data.help import HELP, NAMES
 from data.scripts import EXAMPLE
 from suite import Begins, Case
 
@@ -182,8 +182,7 @@ USAGE = (
     (["-V"], Begins(b"error: unexpected argument '-V' found\n", (b"\nUsage: pef <COMMAND>\n",))),
     *(([word], WHOLE_HELP) for word in ("--help", "-h", "help")),
     *((words, help_for(command)) for command in COMMANDS for words in (["help", command], [command, "--help"])),
-    (["help", "71"], b"71 FileUnreadable\n" + HELP[71]),
-    (["help", "112"], Begins(b"112 Overlap\n")),
+    *((["help", str(number)], b"%d %s\n%s" % (number, name, HELP[number])) for number, name in NAMES.items()),
     # no errors, and no numbers
     *((["help", it], Begins(b"error: unrecognized subcommand '%s'\n" % it.encode())) for it in ("100", "071", "71x", "4294967367")),
     # bytes that aren't UTF-8

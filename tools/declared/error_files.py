@@ -104,12 +104,14 @@ def files(table: Table) -> Dict[pathlib.Path, str]:
         "notes on files": markdown([row for row in groups["note"] if is_of_file(row)], "Meaning"),
     }
     header_begin, begin, end = "Written by tools/declarations from docs/errors.table:", "<!-- {name}: tools/declarations writes this table from errors.table -->", "<!-- end -->"
-    help_lines = "".join(f'    {row.number}: b"{row.help}\\n",\n' for row in table.rows if row.group not in ("note", "library"))
+    help_lines = "".join(f'    {row.number}: b"{row.help}\\n",\n' for row in table.rows)
+    name_lines = "".join(f'    {row.number}: b"{row.name}",\n' for row in table.rows)
     return {
         HEADER: with_regions(HEADER, {"": constants(table)}, f"/* {header_begin} */", "/* The end of what is written. */"),
         CODE: with_regions(CODE, {"Variants": variants(table)}, "// {name}, written by tools/declarations from docs/errors.table:", "// The end of what is written."),
         ERRORS: with_regions(ERRORS, tables, begin, end),
         INSPECT: with_regions(INSPECT, notes, begin, end),
-        HELP: '"""What the standard error says first of an error, by its number. What is known of its place may follow, in other lines.\n\n'
-        'tools/declarations writes this file from docs/errors.table.\n"""\n\nHELP = {\n' + help_lines + "}\n",
+        HELP: '"""The name and the help of each error, note and answer, by its number. Of an error that ends a command the standard error says\n'
+        'the help first. What is known of its place may follow, in other lines.\n\n'
+        'tools/declarations writes this file from docs/errors.table.\n"""\n\nNAMES = {\n' + name_lines + "}\n\nHELP = {\n" + help_lines + "}\n",
     }
