@@ -1,5 +1,5 @@
--- The first export with a name.
-use Rattle.std.specs.Prelude.{◌≡◌, ℕ, List, IsTrue, Option, None, Some}
+-- The first export with a name, and the exports of a loader section by their names.
+use Rattle.std.specs.Prelude.{◌≡◌, ℕ, Bool, List, IsTrue, Option, None, Some}
 use Rattle.pef_format.specs.Exports.{Export, value_of}
 use Rattle.pef_format.specs.declared.export.ExportValue.{ExportValue}
 use Rattle.pef_loader.specs.Export.{is_there}
@@ -18,3 +18,8 @@ pub record Means (l : Loaded) (name : List ℕ) (value : ExportValue) : Type 0 w
 abbrev pub MeansFirst : Loaded → List ℕ → Option ExportValue → Type 0
 MeansFirst l name None = named_of l name ≡ None
 MeansFirst l name (Some value) = Means l name value
+
+-- the exports of a loader section, and whether so many were searched that an index of all is due
+pub record NamedTable : Type 0 where
+  pub loader : Loaded
+  pub is_due : Bool

@@ -1,4 +1,4 @@
-ghost use Rattle.std.specs.Prelude.{◌≡◌, IfOk};
+ghost use Rattle.std.specs.Prelude.{◌≡◌, IfOk, OnErr, OnOk, false, true};
 ghost use Rattle.pef_loader.specs.Views.{loaded};
 ghost use Rattle.cfm_store.specs.Exported.{MeansFirst};
 
@@ -22,14 +22,14 @@ pub struct NamedExports<'a> {
 }
 
 impl<'a> Model for NamedExports<'a> {
-    ghost use Rattle.std.specs.Prelude.{IfSome};
-    ghost use Rattle.pef_loader.specs.Loader.{Loaded};
+    ghost use Rattle.std.specs.Prelude.{◌&&◌, IfSome, is_none, nat_le};
     ghost use Rattle.pef_loader.specs.Views.{loaded};
+    ghost use Rattle.cfm_store.specs.Exported.{NamedTable};
     ghost use Rattle.cfm_store.specs.Kept.NameIndexes.{IsIndex};
 
-    ghost Value = { Loaded };
+    ghost Value = { NamedTable };
 
-    ghost view = { λ s. loaded s.loader };
+    ghost view = { λ s. record { loader = loaded s.loader; is_due = is_none s.index && nat_le 1048576 s.searched } };
 
     ghost invariant = { λ s. IfSome s.index (IsIndex (loaded s.loader)) };
 }
@@ -37,7 +37,7 @@ impl<'a> Model for NamedExports<'a> {
 impl<'a> NamedExports<'a> {
     /// Returns the exports of a loader section.
     pub fn new(loader: Loader<'a>) -> NamedExports<'a>
-        ensures { result ≡ loaded loader.entry }
+        ensures { result ≡ record { loader = loaded loader.entry; is_due = false } }
     {
         NamedExports {
             loader,
@@ -50,28 +50,49 @@ impl<'a> NamedExports<'a> {
     ///
     /// # Errors
     ///
-    /// `AllocError` if an allocation fails, which happens only when the index is made.
+    /// `AllocError` if the index is due and an allocation fails.
     pub fn find(&mut self, alloc: Global, name: &[u8]) -> Result<Option<ExportValue>, AllocError>
-        ensures value { IfOk result (MeansFirst self.old name.now) }
-        ensures same { self.new ≡ self.old }
+        ensures value { IfOk result (MeansFirst self.old.loader name.now) }
+        ensures same { self.new.loader ≡ self.old.loader }
+        ensures lacks { OnErr result (self.old.is_due ≡ true) }
+    {
+        if self.is_due() {
+            self.make_index(alloc)?;
+        }
+        Ok(self.look_up(name))
+    }
+
+    /// Returns whether so much was searched that the index is due.
+    fn is_due(&self) -> bool
+        ensures { result ≡ self.now.is_due }
+    {
+        self.index.is_none() && self.searched >= MOST_SEARCHED
+    }
+
+    /// Makes the index.
+    fn make_index(&mut self, alloc: Global) -> Result<(), AllocError>
+        ensures same { self.new.loader ≡ self.old.loader }
+    {
+        self.index = Some(NameIndex::new(alloc, &self.loader)?);
+        Ok(())
+    }
+
+    /// Looks a name up in the index if it is made, and otherwise searches the export table.
+    fn look_up(&mut self, name: &[u8]) -> Option<ExportValue>
+        ensures value { MeansFirst self.old.loader name.now result }
+        ensures same { self.new.loader ≡ self.old.loader }
     {
         if let Some(index) = &self.index {
-            return Ok(index.find(name));
+            return index.find(name);
         }
-        if self.searched < MOST_SEARCHED {
-            let search = self.loader.exports().saturating_add(name.len());
-            self.searched = self.searched.saturating_add(search);
-            return Ok(self.search(name));
-        }
-        let index = NameIndex::new(alloc, &self.loader)?;
-        let found = index.find(name);
-        self.index = Some(index);
-        Ok(found)
+        let search = self.loader.exports().saturating_add(name.len());
+        self.searched = self.searched.saturating_add(search);
+        self.search(name)
     }
 
     /// Searches the export table for the first export with a name, and returns what it means.
     fn search(&self, name: &[u8]) -> Option<ExportValue>
-        ensures { MeansFirst self.now name.now result }
+        ensures { MeansFirst self.now.loader name.now result }
     {
         let export = self.loader.export_named(name)?;
         let export = self.loader.export(export)?;
