@@ -1,5 +1,5 @@
 ghost use Rattle.std.specs.Prelude.{◌≡◌, ℕ, ◌<◌, length, replicate, slice_set, true};
-ghost use Rattle.cfm_memory.specs.Kept.Searches.{AreLowered, IsStart, Serves, lowered, no_hint};
+ghost use Rattle.cfm_memory.specs.Kept.Searches.{AreLowered, IsSlotFor, IsStart, Serves, lowered, no_hint};
 
 /// The lowest address of an instance.
 pub(crate) const FIRST_ADDRESS: u64 = 0x0001_0000;
@@ -75,7 +75,7 @@ impl Hints {
 
     /// Keeps a hint in place of one that tells no more, or of the oldest.
     pub fn keep(&mut self, hint: Hint)
-        ensures { (slot : ℕ) × (self.new.rows ≡ slice_set self.old.rows slot hint) }
+        ensures { (slot : ℕ) × IsSlotFor hint self.old.rows self.old.next self.new.next slot × (self.new.rows ≡ slice_set self.old.rows slot hint) }
     {
         let slot = self.slot_for(hint);
         self.rows[slot] = hint;
@@ -84,6 +84,7 @@ impl Hints {
     /// Returns the row that a hint replaces.
     fn slot_for(&mut self, hint: Hint) -> usize
         ensures inside { result < 64 }
+        ensures slot { IsSlotFor hint self.old.rows self.old.next self.new.next result }
         ensures same { self.new.rows ≡ self.old.rows }
     {
         for (i, row) in self.rows.iter().enumerate() {

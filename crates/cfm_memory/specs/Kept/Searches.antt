@@ -1,5 +1,5 @@
 -- The results of the searches through the instances, each over a list.
-use Rattle.std.specs.Prelude.{◌≡◌, ℕ, ◌+◌, ◌-◌, ◌%◌, ◌^◌, ◌<◌, ◌≤◌, List, [], ◌∷◌, Option, None, Some, if◌then◌else◌, length, min, take, drop, nat_le, slice_index_or}
+use Rattle.std.specs.Prelude.{◌≡◌, ℕ, ◌+◌, ◌-◌, ◌%◌, ◌^◌, ◌<◌, ◌≤◌, ◌⊎◌, List, [], ◌∷◌, Option, None, Some, if◌then◌else◌, length, min, take, drop, nat_le, slice_index_or}
 use Rattle.std.specs.List.{All}
 use Rattle.cfm_memory.specs.Instances.{Instance}
 use Rattle.cfm_memory.specs.Limits.{first_address}
@@ -27,6 +27,14 @@ Serves hint bytes step = (hint.taken ≤ bytes) × (step % hint.step ≡ 0)
 -- the address of a hint that serves a search, or the first address
 abbrev pub IsStart : List Hint → ℕ → ℕ → ℕ → Type 0
 IsStart hints bytes step from = (first_address ≤ from) × ((other : ℕ) → first_address ≤ other → All (λ hint. Serves hint bytes step → hint.from ≤ other) hints → from ≤ other)
+
+-- a hint tells no less than another one: it serves each search that the other serves, and lets it begin no earlier
+abbrev pub TellsNoLess : Hint → Hint → Type 0
+TellsNoLess hint other = (other.from ≤ hint.from) × Serves hint other.taken other.step
+
+-- the row that a hint replaces: one that tells no more, or else the next one of the 64 in turn
+abbrev pub IsSlotFor : Hint → List Hint → ℕ → ℕ → ℕ → Type 0
+IsSlotFor hint rows next next' slot = (TellsNoLess hint (slice_index_or rows slot no_hint) × (next' ≡ next)) ⊎ ((slot ≡ next % 64) × (next' ≡ slot + 1))
 
 -- what is left of a hint after the memory from an address on is given back
 abbrev pub lowered : ℕ → Hint → Hint
