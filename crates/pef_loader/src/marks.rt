@@ -1,8 +1,9 @@
 //! Marks in some bytes, for names that end with a zero byte. Many rows can share one long name or its end, and a search for each
 //! of them would take very long. So places a step apart are marked with the first zero byte from there on, and no search goes past
 //! the next marked place.
-ghost use Rattle.std.specs.Prelude.{◌≡◌, ◌≢◌, ◌+◌, ◌-◌, ◌*◌, ◌^◌, ◌<◌, ◌≤◌, IfSome, length, slice_index};
-ghost use Rattle.pef_loader.specs.Kept.Marks.{AreMarks, FindsZero, IsFirstZero, TellsEnd};
+ghost use Rattle.std.specs.Prelude.{◌≡◌, ◌≢◌, ◌+◌, ◌-◌, ◌*◌, ◌^◌, ◌<◌, ◌≤◌, IfSome, None, length, slice_index};
+ghost use Rattle.std.specs.Option.{IfNone};
+ghost use Rattle.pef_loader.specs.Kept.Marks.{AreAllMarked, AreMarks, AreNonzero, FindsZero, IsFirstZero, TellsEnd};
 
 use memchr::memchr;
 use pef_words::Cut;
@@ -52,7 +53,8 @@ pub(crate) fn zero_between(cut: Cut<'_>, from: usize, to: usize) -> Option<usize
 /// Returns the marks of places a step apart, of which the first is the first byte. It searches each byte at most once.
 pub(crate) fn mark_places(cut: Cut<'_>, step: usize) -> [u32; MARKS]
     requires { step ≤ 2 ^ 58 }
-    ensures { AreMarks cut.entry.bytes.now step result }
+    ensures marks { AreMarks cut.entry.bytes.now step result }
+    ensures all { AreAllMarked cut.entry.bytes.now step (64 * step) result }
 {
     let mut marks = [NO_MARK; MARKS];
     let mut next = None;
@@ -66,7 +68,8 @@ pub(crate) fn mark_places(cut: Cut<'_>, step: usize) -> [u32; MARKS]
 /// Returns the first zero byte from a place on, if it is before the place a step later, or that of this later place is known.
 fn zero_from(cut: Cut<'_>, place: usize, step: usize, next: Option<usize>) -> Option<usize>
     requires { IfSome next (IsFirstZero cut.bytes.now (place + step)) }
-    ensures { IfSome result (IsFirstZero cut.entry.bytes.now place) }
+    ensures first { IfSome result (IsFirstZero cut.entry.bytes.now place) }
+    ensures none { IfNone result ((next ≡ None) × AreNonzero cut.entry.bytes.now place (place + step)) }
 {
     let from = place.min(cut.len());
     let to = from + step.min(cut.len() - from);
@@ -78,7 +81,8 @@ fn zero_from(cut: Cut<'_>, place: usize, step: usize, next: Option<usize>) -> Op
 
 /// Returns the mark for the first zero byte from a place on. Past 4 GB there is none.
 pub(crate) fn mark_of(end: Option<usize>) -> u32
-    ensures { result ≢ 2 ^ 32 - 1 → end ≡ Some result }
+    ensures known { result ≢ 2 ^ 32 - 1 → end ≡ Some result }
+    ensures kept { IfSome end (λ at. at < 2 ^ 32 - 1 → result ≡ at) }
 {
     match end {
         Some(end) => u32::try_from(end).unwrap_or(NO_MARK),

@@ -1,7 +1,7 @@
 ghost use Rattle.std.specs.Prelude.{◌≡◌, ◌+◌, ◌*◌, ◌/◌, ◌^◌, ◌<◌, ◌≤◌, length};
 ghost use Rattle.std.specs.Option.{option_copied};
 ghost use Rattle.pef_words.specs.Bytes.{name_at};
-ghost use Rattle.pef_loader.specs.Kept.Marks.{AreMarks, AreNonzero, FindsZero};
+ghost use Rattle.pef_loader.specs.Kept.Marks.{AreMarks, AreNonzero, FindsZero, IsMarked};
 
 use crate::cut_name::Names;
 use crate::marks::{NO_MARK, known_end, mark_of, step_of, step_power, zero_between};
@@ -54,6 +54,7 @@ impl<'a> NameReader<'a> {
         requires inside { from < length self.old.names.cut.bytes.now }
         requires far { AreNonzero self.old.names.cut.bytes.now from ((from / 2 ^ self.old.power + 1) * 2 ^ self.old.power) }
         ensures end { FindsZero self.old.names.cut.bytes.now from (length self.old.names.cut.bytes.now) result }
+        ensures mark { IsMarked self.new.marks (from / 2 ^ self.old.power + 1) result }
         ensures same { self.new.names ≡ self.old.names }
     {
         let cut = self.names.cut;

@@ -21,6 +21,15 @@ FindsZero bytes from to None = AreNonzero bytes from to
 abbrev pub AreMarks : List ℕ → ℕ → List ℕ → Type 0
 AreMarks bytes step marks = (k : ℕ) → k < length marks → slice_index marks k ≢ 2 ^ 32 - 1 → IsFirstZero bytes (k * step) (slice_index marks k)
 
+-- each place is marked from which on there is a zero byte below an end: a mark has 32 bits, and the last one says that nothing is known
+abbrev pub AreAllMarked : List ℕ → ℕ → ℕ → List ℕ → Type 0
+AreAllMarked bytes step end marks = (k at : ℕ) → k < length marks → at < end → at < 2 ^ 32 - 1 → IsFirstZero bytes (k * step) at → slice_index marks k ≡ at
+
+-- place k is marked with a zero byte that was found, if there is such a place and the mark has room for it
+abbrev pub IsMarked : List ℕ → ℕ → Option ℕ → Type 0
+IsMarked marks k None = Unit {0}
+IsMarked marks k (Some at) = k < length marks → at < 2 ^ 32 - 1 → slice_index marks k ≡ at
+
 -- the first zero byte from a place on, or that there is none before the next place that is marked
 abbrev pub TellsEnd : List ℕ → ℕ → ℕ → Option ℕ → Type 0
 TellsEnd bytes step from (Some end) = IsFirstZero bytes from end
