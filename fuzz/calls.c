@@ -559,8 +559,11 @@ static void ask(struct pef_context *context, const char *name)
         fails("pef_missing, with one place", (uint32_t)few);
     for (size_t i = 0; i < count; i++) {
         struct pef_bytes fragment = PEF_NO_BYTES;
+        size_t number = 0;
         if (pef_fragment_name(context, rows[i].fragment, &fragment) != PEF_OK)
             fails("pef_missing, its fragment", (uint32_t)i);
+        if (pef_next_fragment(context, rows[i].fragment, &number) != PEF_OK || number != rows[i].fragment)
+            fails("pef_next_fragment", (uint32_t)i);
         for (size_t k = 0; k < i && i < 32; k++)
             if (rows[k].name.length == rows[i].name.length && memcmp(rows[k].name.at, rows[i].name.at, rows[i].name.length) == 0)
                 fails("pef_missing, a name twice", (uint32_t)i);

@@ -455,8 +455,11 @@ struct pef_finding {
  *
  * Packed data is expanded and relocation programs are run, without keeping what they make. So a container without errors is refused
  * by no preparation, as far as its own bytes are concerned. If its programs or its packed data ask for too much, a note says
- * from which one on they weren't verified. Errors come in the order in which pef_list() and pef_prepare() find the first one. An error
- * that is about no field is at the beginning of the container.
+ * from which one on they weren't verified. An error that is about no field is at the beginning of the container.
+ *
+ * Errors come in the order of pef_list(): if it reports one, that is the first here. Packed data (21 to 25) and what programs would do
+ * (37 to 39) come after all that pef_list() reads. A preparation has an order of its own: it fills all sections before it reads a program,
+ * so of a container with errors in both it reports packed data, and pef_findings() has the program first.
  *
  * Each call reads the whole container, so read many at once.
  */
@@ -1026,7 +1029,8 @@ uint32_t pef_numbered_container(const uint8_t *bytes, size_t length, size_t numb
  * open at once, also in different threads.
  *
  * A fragment is named by its number, counted from 0 in the order in which fragments were added. The number of a removed one is
- * free, and goes to the next fragment whose name isn't there. A fragment is present while the
+ * free, and goes to the next fragment whose name isn't there, so numbers can have gaps: pef_next_fragment() gives each number that a
+ * fragment has. A fragment is present while the
  * closure of an open connection has it: the fragment that was prepared, with all fragments that it needs. A present
  * fragment keeps its addresses. Its sections are numbered as in its container, and only instantiated sections are in
  * memory. A call on a fragment looks it up, however many there are.
@@ -1192,6 +1196,12 @@ struct pef_missing {
 uint32_t pef_missing(struct pef_context *context, const uint8_t *name, size_t name_length, size_t from, struct pef_missing *places, size_t place_count, pef_size *count, struct pef_names *names);
 
 /*
+ * Gives what pef_missing() does. If it returns an error other than PEF_NOT_OPEN, it also stores in `*place` where the error is, in the
+ * container of the fragment that `*names` names. Otherwise `*place` is left unchanged.
+ */
+uint32_t pef_missing_with_place(struct pef_context *context, const uint8_t *name, size_t name_length, size_t from, struct pef_missing *places, size_t place_count, pef_size *count, struct pef_names *names, struct pef_place *place);
+
+/*
  * A library that fragments of a context name, and that no fragment of the context has the name of. If `is_weak` is true, each of them can
  * be prepared without it. The name is a part of what was added.
  */
@@ -1291,6 +1301,9 @@ struct pef_new_section {
  */
 uint32_t pef_new_sections(struct pef_context *context, const uint8_t *name, size_t name_length, size_t from, struct pef_new_section *places, size_t place_count, pef_size *count, struct pef_names *names);
 
+/* Gives what pef_new_sections() does, and the place of an error as pef_missing_with_place() does. */
+uint32_t pef_new_sections_with_place(struct pef_context *context, const uint8_t *name, size_t name_length, size_t from, struct pef_new_section *places, size_t place_count, pef_size *count, struct pef_names *names, struct pef_place *place);
+
 /*
  * Prepares as pef_prepare_with_place() does, but places the sections at these addresses: there is one for each section that
  * pef_new_sections() gives, in its order. An address has to be a multiple of the section's alignment and 00010000 (hex) or above. The
@@ -1347,8 +1360,20 @@ uint32_t pef_released_by(struct pef_context *context, uint32_t connection, pef_s
 uint32_t pef_fragments(struct pef_context *context, uint32_t connection, pef_size *places, size_t place_count, pef_size *count);
 uint32_t pef_init_order(struct pef_context *context, uint32_t connection, pef_size *places, size_t place_count, pef_size *count);
 
-/* Gives a fragment's name, which is what was added. It needn't be present. Returns PEF_NOT_THERE past the last fragment. */
+/*
+ * Gives a fragment's name, which is what was added. It needn't be present. Returns PEF_NOT_THERE if no fragment has this number: past the
+ * last one, and also before it if the fragment was removed.
+ */
 uint32_t pef_fragment_name(struct pef_context *context, size_t fragment, struct pef_bytes *name);
+
+/*
+ * Gives the first number from `from` on that a fragment has, present or not. So this is a loop over all fragments of a context:
+ *
+ *     for (size_t number = 0; pef_next_fragment(&context, number, &number) == PEF_OK; number++)
+ *
+ * Returns PEF_OK; or PEF_NOT_THERE if no fragment has such a number.
+ */
+uint32_t pef_next_fragment(struct pef_context *context, size_t from, pef_size *fragment);
 
 /*
  * Tells whether the fragment of a name is present: the closure of an open connection has it. If several fragments have the same
@@ -1551,6 +1576,13 @@ static inline uint32_t pef_fragment_name_const(const struct pef_context *context
     return pef_fragment_name(&copy, fragment, name);
 }
 #define pef_fragment_name(...) pef_fragment_name_const(__VA_ARGS__)
+
+static inline uint32_t pef_next_fragment_const(const struct pef_context *context, size_t from, pef_size *fragment)
+{
+    struct pef_context copy = *context;
+    return pef_next_fragment(&copy, from, fragment);
+}
+#define pef_next_fragment(...) pef_next_fragment_const(__VA_ARGS__)
 
 static inline uint32_t pef_is_present_const(const struct pef_context *context, const uint8_t *name, size_t name_length, bool *is_present)
 {

@@ -364,17 +364,19 @@ public:
     void reserve(uint32_t address, uint32_t size) { check(pef_reserve(&state_->it, address, size)); }
     /* Throws 201 if the addresses aren't exactly a range that was reserved. */
     void unreserve(uint32_t address, uint32_t size) { check(pef_unreserve(&state_->it, address, size)); }
-    /* The libraries that are missing for a fragment and for all that it needs. Throws 60, 1 to 20 with the fragment's name, or 99. */
+    /* The libraries that are missing for a fragment and for all that it needs. Throws 60, 1 to 20 with the fragment's name and the place, or
+     * 99. */
     std::vector<missing_library> missing(bytes name)
     {
         std::vector<missing_library> rows;
         for (size_t room = 64, count = room; count == room;) {
             struct ::pef_names names = PEF_NO_NAMES;
+            pef::place where = error::nowhere();
             size_t from = rows.size();
             rows.resize(from + room);
-            uint32_t answer = pef_missing(&state_->it, name.data(), name.size(), from, rows.data() + from, room, &count, &names);
+            uint32_t answer = pef_missing_with_place(&state_->it, name.data(), name.size(), from, rows.data() + from, room, &count, &names, &where);
             if (answer != PEF_OK)
-                throw error(answer, error::nowhere(), names);
+                throw error(answer, where, names);
             rows.resize(from + count);
         }
         return rows;
@@ -415,11 +417,12 @@ public:
         std::vector<new_section> rows;
         for (size_t room = 64, count = room; count == room;) {
             struct ::pef_names names = PEF_NO_NAMES;
+            pef::place where = error::nowhere();
             size_t from = rows.size();
             rows.resize(from + room);
-            uint32_t answer = pef_new_sections(&state_->it, name.data(), name.size(), from, rows.data() + from, room, &count, &names);
+            uint32_t answer = pef_new_sections_with_place(&state_->it, name.data(), name.size(), from, rows.data() + from, room, &count, &names, &where);
             if (answer != PEF_OK)
-                throw error(answer, error::nowhere(), names);
+                throw error(answer, where, names);
             rows.resize(from + count);
         }
         return rows;
@@ -428,6 +431,21 @@ public:
     connection prepare(bytes name);
     /* The same with an address for each of new_sections(). Throws 210, too, if there are more or fewer. */
     connection prepare_at(bytes name, const std::vector<uint32_t> &addresses);
+    /* The numbers that fragments have, in their order. Those of removed ones are left out. */
+    std::vector<size_t> fragment_numbers() const
+    {
+        std::vector<size_t> found;
+        for (size_t number = 0; pef_next_fragment(&state_->it, number, &number) == PEF_OK; number++)
+            found.push_back(number);
+        return found;
+    }
+    /* The name of a fragment, present or not. Throws 201 if no fragment has the number. */
+    bytes fragment_name(size_t number) const
+    {
+        struct ::pef_bytes text = PEF_NO_BYTES;
+        check(pef_fragment_name(&state_->it, number, &text));
+        return text;
+    }
     bool is_present(bytes name) const
     {
         bool answer = false;
@@ -484,10 +502,10 @@ private:
     /* Where the name of the first fragment of a name is. */
     const void *name_of_first(bytes name) const
     {
-        for (size_t number = 0; number < PEF_MAX_FRAGMENTS; number++) {
-            struct ::pef_bytes found = PEF_NO_BYTES;
-            if (pef_fragment_name(&state_->it, number, &found) == PEF_OK && bytes(found) == name)
-                return found.at;
+        for (size_t number : fragment_numbers()) {
+            bytes found = fragment_name(number);
+            if (found == name)
+                return found.data();
         }
         return nullptr;
     }

@@ -48,20 +48,23 @@ def place(pef, call):
     return None
 
 
-def prepare(pef, name, contents, library=NO_LIBRARY):
+def prepare(pef, name, contents, library=NO_LIBRARY, call="prepare"):
+    """Prepares a fragment, or asks what is missing for it, or which sections it would place."""
     with pef.Context() as context:
         context.add(name, contents)
         if library is not NO_LIBRARY:
             context.add("Tools", library)
-        context.prepare(name)
+        getattr(context, call)(name)
 
 
 def checks(pef):
     for change, *error in LISTED:
         contents = changed(RICH, change)
         yield f"{error[0]} of {error[1]} {error[2]}", place(pef, lambda: pef.Container(contents)), tuple(error)
-        yield f"{error[0]} of {error[1]} {error[2]} in a closure", place(pef, lambda: prepare(pef, "r", contents)), tuple(error)
+        for call in ("prepare", "missing", "new_sections"):
+            yield f"{error[0]} of {error[1]} {error[2]} by {call}", place(pef, lambda: prepare(pef, "r", contents, call=call)), tuple(error)
     for name, changes, library, *error in BOUND:
         tools = NO_LIBRARY if library is NO_LIBRARY else changed(VECTORS, *library)
-        found = place(pef, lambda: prepare(pef, name, changed(RICH, *changes), tools))
-        yield f"{error[0]} of {error[1]} {error[2]} in {name}", found, tuple(error)
+        for call in ("prepare", "new_sections"):
+            found = place(pef, lambda: prepare(pef, name, changed(RICH, *changes), tools, call))
+            yield f"{error[0]} of {error[1]} {error[2]} in {name} by {call}", found, tuple(error)

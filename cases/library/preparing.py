@@ -1,4 +1,5 @@
 """Preparations that fail: the number of the error and its place, and for relocation programs the word that `inspect` gives too."""
+import ctypes
 import dataclasses
 
 from data.bare import Section, container
@@ -63,6 +64,17 @@ def refusal(pef, contents):
     return None
 
 
+def first_errors(pef, contents):
+    """The errors of a preparation, of pef_container_place and of a listing, and all that `inspect` finds."""
+    place = pef._Place()
+    reading = pef.library().pef_container_place(contents, len(contents), ctypes.byref(place))
+    try:
+        listed = pef.Container(contents).listing()
+    except pef.PefError as error:
+        listed = error.number
+    return refusal(pef, contents)[0], reading, listed, [it.number for it in pef.inspect(contents) if it.is_error]
+
+
 def errors(pef, contents):
     """The errors that `inspect` finds: their numbers, parts, rows, fields and offsets, and the words of additions."""
     return [(it.number, int(it.part), it.row, it.field, it.offset, it.detail) for it in pef.inspect(contents) if it.is_error]
@@ -93,6 +105,8 @@ def orders(pef):
     yield "room, an image and a program", refusal(pef, contents), (67, SECTION, 0, 8, 40 + 8, False)
     contents = container([bad], [bytes.fromhex("4C00")], symbol=True)
     yield "an image and a program", refusal(pef, contents), (22, PACKED, 0, 0, 96, False)
+    contents = container([Section(bytes.fromhex("22 01"), 2, 2, kind=2)], [bytes.fromhex("4C00")], symbol=True)
+    yield "the order of a preparation, and that of the other calls", first_errors(pef, contents), (21, 31, 31, [31, 21])
     contents = container([Section(total=8)], [bytes.fromhex("4A01"), bytes.fromhex("4C00")], symbol=True)
     yield "an addition, and the next program", refusal(pef, contents), (38, PROGRAM, 0, 0, 204, False)
     contents = container([Section(total=8)], [bytes.fromhex("4000"), bytes.fromhex("4C00")], symbol=True)

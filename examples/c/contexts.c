@@ -39,6 +39,7 @@ static void expect_not_open(struct pef_context *context)
     expect(pef_fragments(context, 0, order, 1, &count) == PEF_NOT_OPEN, "pef_fragments on a closed context");
     expect(pef_init_order(context, 0, order, 1, &count) == PEF_NOT_OPEN, "pef_init_order on a closed context");
     expect(pef_fragment_name(context, 0, &name) == PEF_NOT_OPEN, "pef_fragment_name on a closed context");
+    expect(pef_next_fragment(context, 0, &count) == PEF_NOT_OPEN && count == 7, "pef_next_fragment on a closed context");
     expect(pef_is_present(context, room, 1, &is_present) == PEF_NOT_OPEN && is_present, "pef_is_present on a closed context");
     expect(pef_fragment_sections(context, 0, &count) == PEF_NOT_OPEN, "pef_fragment_sections on a closed context");
     expect(pef_fragment_section(context, 0, 0, 0, &section) == PEF_NOT_OPEN, "pef_fragment_section on a closed context");
@@ -51,6 +52,8 @@ static void expect_not_open(struct pef_context *context)
     expect(pef_unreserve(context, 0, 1) == PEF_NOT_OPEN, "pef_unreserve on a closed context");
     expect(pef_missing(context, room, 1, 0, &missing, 1, &count, &names) == PEF_NOT_OPEN && missing.fragment == 7, "pef_missing on a closed context");
     expect(pef_new_sections(context, room, 1, 0, &new_section, 1, &count, &names) == PEF_NOT_OPEN && new_section.fragment == 7, "pef_new_sections on a closed context");
+    expect(pef_missing_with_place(context, room, 1, 0, &missing, 1, &count, &names, &place) == PEF_NOT_OPEN && place.row == 7, "pef_missing_with_place on a closed context");
+    expect(pef_new_sections_with_place(context, room, 1, 0, &new_section, 1, &count, &names, &place) == PEF_NOT_OPEN && place.row == 7, "pef_new_sections_with_place on a closed context");
     expect(pef_prepare_at(context, room, 1, NULL, 0, &connection, &names, &place) == PEF_NOT_OPEN && place.row == 7, "pef_prepare_at on a closed context");
     expect(pef_new_fragments(context, 0, order, 1, &count) == PEF_NOT_OPEN, "pef_new_fragments on a closed context");
     expect(pef_released_by(context, 0, order, 1, &count) == PEF_NOT_OPEN, "pef_released_by on a closed context");

@@ -582,6 +582,17 @@ static void test_added_too_late(void)
     pef_free(&context);
 }
 
+/* A loop over all fragments passes by the numbers of those that were removed. */
+static void expect_numbers(const struct pef_context *context, size_t first, size_t second)
+{
+    size_t found[3] = {7, 7, 7}, count = 0, past = 7;
+    for (size_t number = 0; count < 3 && pef_next_fragment(context, number, &number) == PEF_OK; number++)
+        found[count++] = number;
+    EXPECT(count == 2 && found[0] == first && found[1] == second);
+    EXPECT(pef_next_fragment(context, second + 1, &past) == PEF_NOT_THERE && past == 7);
+    EXPECT(pef_next_fragment(context, SIZE_MAX, &past) == PEF_NOT_THERE && past == 7);
+}
+
 /* A fragment is removed that isn't present and that no open connection misses. Its number is free for the next one. */
 static void test_removed(void)
 {
@@ -600,10 +611,12 @@ static void test_removed(void)
     EXPECT(pef_close(&context, 0) == PEF_OK);
     EXPECT(pef_remove(&context, TEXT("M")) == PEF_OK);
     EXPECT(pef_fragment_name(&context, 0, &name) == PEF_NOT_THERE);
+    expect_numbers(&context, 1, 2);
     EXPECT(pef_add_new(&context, TEXT("M"), TEXT("")) == PEF_NAME_TAKEN);
     EXPECT(pef_add_new(&context, TEXT("N"), TEXT("")) == PEF_OK);
     EXPECT(pef_fragment_name(&context, 0, &name) == PEF_OK && is_named(name, "N"));
     EXPECT(pef_remove(&context, TEXT("M")) == PEF_OK && pef_remove(&context, TEXT("M")) == PEF_ROOT_MISSING);
+    expect_numbers(&context, 0, 1);
     prepare(&context, "W", 1);
     pef_free(&context);
     EXPECT(pef_remove(&context, TEXT("N")) == PEF_NOT_OPEN);

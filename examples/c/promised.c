@@ -108,6 +108,8 @@ static void test_null_fragment(void)
     expect(names.fragment.length == 0 && place.part == PEF_NOWHERE && connection == 7, "what is reported of it");
     expect(pef_fragment_name(&context, 0, &name) == PEF_OK && name.length == 0, "the name of it");
     expect(pef_fragment_name(&context, 1, &name) == PEF_NOT_THERE, "a fragment after it");
+    expect(pef_next_fragment(&context, 0, &count) == PEF_OK && count == 0, "the first number");
+    expect(pef_next_fragment(&context, 1, &count) == PEF_NOT_THERE && count == 0, "a number after it");
     expect(pef_is_present(&context, NULL, 0, &is_present) == PEF_OK && !is_present, "whether it is present");
     expect(pef_fragment_sections(&context, 0, &count) == PEF_OK && count == 0, "its sections");
     pef_free(&context);

@@ -574,8 +574,9 @@ static bool find_section(struct pef_context *context, size_t fragment, size_t nu
 static void say_sections(struct pef_context *context)
 {
     struct pef_bytes name = PEF_NO_BYTES;
-    for (size_t fragment = 0; pef_fragment_name(context, fragment, &name) == PEF_OK; fragment++) {
+    for (size_t fragment = 0; pef_next_fragment(context, fragment, &fragment) == PEF_OK; fragment++) {
         size_t count = 0;
+        EXPECT(pef_fragment_name(context, fragment, &name) == PEF_OK);
         EXPECT(pef_fragment_sections(context, fragment, &count) == PEF_OK);
         for (size_t number = 0; number < count; number++) {
             struct pef_fragment_section section = {0};
@@ -1002,6 +1003,8 @@ static bool tell_all(struct told *told, const struct pef_context *from)
     is_told = is_told && pef_released_by(from, connection, places, PEF_MAX_FRAGMENTS, &count) == PEF_OK;
     tell(told, places, count * sizeof places[0]);
     is_told = is_told && pef_is_present(from, fragments[0].name.at, fragments[0].name.length, &is_present) == PEF_OK && is_present;
+    is_told = is_told && pef_next_fragment(from, 0, &count) == PEF_OK;
+    tell(told, &count, sizeof count);
     return is_told && tell_stub(told, from);
 }
 

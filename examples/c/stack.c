@@ -315,7 +315,8 @@ static void call_missing(void)
 {
     static struct pef_missing missing[16];
     static struct pef_names names;
-    answer = pef_missing(&context, (const uint8_t *)"0", 1, 0, missing, 16, &count, &names);
+    static struct pef_place place;
+    answer = pef_missing_with_place(&context, (const uint8_t *)"0", 1, 0, missing, 16, &count, &names, &place);
 }
 
 static void call_lacking(void)
@@ -339,7 +340,8 @@ static void call_new_sections(void)
 {
     static struct pef_new_section sections[16];
     static struct pef_names names;
-    answer = pef_new_sections(&context, (const uint8_t *)"0", 1, 0, sections, 16, &count, &names);
+    static struct pef_place place;
+    answer = pef_new_sections_with_place(&context, (const uint8_t *)"0", 1, 0, sections, 16, &count, &names, &place);
 }
 
 /* With an address too few or too many, and so before anything is placed. */
@@ -372,6 +374,7 @@ static void call_readers(void)
     pef_new_fragments(&context, connection, places, PEF_MAX_FRAGMENTS, &count);
     pef_released_by(&context, connection, places, PEF_MAX_FRAGMENTS, &count);
     pef_fragment_name(&context, 0, &bytes);
+    pef_next_fragment(&context, 0, &count);
     pef_is_present(&context, (const uint8_t *)"0", 1, &is_present);
     pef_fragment_sections(&context, 0, &count);
     pef_fragment_section(&context, connection, 0, 0, &section);
@@ -405,10 +408,10 @@ static void call_open(void)
 /* Prepares the fragment 0 of the context. */
 static void measure_context(const char *what)
 {
-    measure("pef_missing", what, call_missing);
+    measure("pef_missing_with_place", what, call_missing);
     measure("pef_lacking", what, call_lacking);
     measure("pef_stub", what, call_stub);
-    measure("pef_new_sections", what, call_new_sections);
+    measure("pef_new_sections_with_place", what, call_new_sections);
     measure("pef_prepare_at", what, call_prepare_at);
     measure("pef_prepare_with_place", what, call_prepare);
     measure("a reader of a context", what, call_readers);

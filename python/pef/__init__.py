@@ -639,7 +639,8 @@ class Container:
 
     @functools.cached_property
     def findings(self) -> List[Finding]:
-        """The errors of the container, and the notes on it: what inspect() gives."""
+        """The errors of the container, and the notes on it: what inspect() gives. The first error is the one that listing() reports. A
+        preparation has an order of its own, in which packed data comes before programs."""
         return inspect(self.contents)
 
     def _read(self, answer: int) -> None:
@@ -1232,17 +1233,16 @@ class Context:
         Each name is there once, and weak libraries are among them. Add those that you have, and ask again, since these may name
         others; then prepare(). Raises PefError: 60 if no fragment has the name, 1 to 20 for a fragment that can't be read, or 99.
         """
-        raw, room, count = _raw(name), 64, _Size()
+        raw, room, count, place = _raw(name), 64, _Size(), _Place()
         found: List[MissingLibrary] = []
         with self._lock:  # the names are parts of what was added
             while True:
                 rows, names = (_Missing * room)(), _Names(_no_bytes(), _no_bytes(), _no_bytes())
                 for it in rows:
                     it.name = _no_bytes()
-                answer = library().pef_missing(
-                    ctypes.byref(self._context), raw, len(raw), len(found), rows, room, ctypes.byref(count), ctypes.byref(names)
-                )
-                _check(answer, fragment=names.fragment.text(), library=names.library.text(), symbol=names.symbol.text())
+                words = (ctypes.byref(self._context), raw, len(raw), len(found), rows, room, ctypes.byref(count), ctypes.byref(names))
+                answer = library().pef_missing_with_place(*words, ctypes.byref(place))
+                _check(answer, place, fragment=names.fragment.text(), library=names.library.text(), symbol=names.symbol.text())
                 found += [self._missing(it) for it in rows[: count.value]]
                 if count.value < room:
                     return found
@@ -1350,15 +1350,14 @@ class Context:
 
         Raises PefError: 1 to 20, 60 to 66, 68 to 70, 75, or 99: what prepare() raises before it places anything.
         """
-        raw, room, count = _raw(name), 64, _Size()
+        raw, room, count, place = _raw(name), 64, _Size(), _Place()
         found: List[NewSection] = []
         with self._lock:
             while True:
                 rows, names = (_NewSection * room)(), _Names(_no_bytes(), _no_bytes(), _no_bytes())
-                answer = library().pef_new_sections(
-                    ctypes.byref(self._context), raw, len(raw), len(found), rows, room, ctypes.byref(count), ctypes.byref(names)
-                )
-                _check(answer, fragment=names.fragment.text(), library=names.library.text(), symbol=names.symbol.text())
+                words = (ctypes.byref(self._context), raw, len(raw), len(found), rows, room, ctypes.byref(count), ctypes.byref(names))
+                answer = library().pef_new_sections_with_place(*words, ctypes.byref(place))
+                _check(answer, place, fragment=names.fragment.text(), library=names.library.text(), symbol=names.symbol.text())
                 found += [self._new_section(it) for it in rows[: count.value]]
                 if count.value < room:
                     return found
@@ -1388,6 +1387,20 @@ class Context:
             )
             _check(answer, place, fragment=names.fragment.text(), library=names.library.text(), symbol=names.symbol.text())
         return Connection(self, number.value)
+
+    def fragment_names(self) -> Dict[int, str]:
+        """The names of all fragments, present or not, by their numbers. Those of removed fragments are left out, so there may be gaps."""
+        found: Dict[int, str] = {}
+        number, name = _Size(), _no_bytes()
+        with self._lock:  # the names are parts of what was added
+            while True:
+                answer = library().pef_next_fragment(ctypes.byref(self._context), number, ctypes.byref(number))
+                if answer == NOT_THERE:
+                    return found
+                _check(answer)
+                self._call("pef_fragment_name", number, ctypes.byref(name))
+                found[number.value] = name.text()
+                number.value += 1
 
     def is_present(self, name: Text) -> bool:
         """Whether the fragment of a name is present: the closure of an open connection has it. False if none was added."""

@@ -3,6 +3,7 @@ pub mod Exports
 pub mod Lacking
 pub mod Missing
 pub mod NewSections
+pub mod NextFragment
 pub mod Options
 pub mod PrepareAt
 pub mod Reading

@@ -752,7 +752,8 @@ pub struct pef_member {
 /// open at once, also in different threads.
 ///
 /// A fragment is named by its number, counted from 0 in the order in which fragments were added. The number of a removed one is
-/// free, and goes to the next fragment whose name isn't there. A fragment is present while the
+/// free, and goes to the next fragment whose name isn't there, so numbers can have gaps: `pef_next_fragment()` gives each number that a
+/// fragment has. A fragment is present while the
 /// closure of an open connection has it: the fragment that was prepared, with all fragments that it needs. A present
 /// fragment keeps its addresses. Its sections are numbered as in its container, and only instantiated sections are in
 /// memory. A call on a fragment looks it up, however many there are.
@@ -1040,8 +1041,11 @@ extern "C" {
     ///
     /// Packed data is expanded and relocation programs are run, without keeping what they make. So a container without errors is refused
     /// by no preparation, as far as its own bytes are concerned. If its programs or its packed data ask for too much, a note says
-    /// from which one on they weren't verified. Errors come in the order in which `pef_list()` and `pef_prepare()` find the first one. An error
-    /// that is about no field is at the beginning of the container.
+    /// from which one on they weren't verified. An error that is about no field is at the beginning of the container.
+    ///
+    /// Errors come in the order of `pef_list()`: if it reports one, that is the first here. Packed data (21 to 25) and what programs would do
+    /// (37 to 39) come after all that `pef_list()` reads. A preparation has an order of its own: it fills all sections before it reads a program,
+    /// so of a container with errors in both it reports packed data, and `pef_findings()` has the program first.
     ///
     /// Each call reads the whole container, so read many at once.
     pub fn pef_findings(container: *const u8, container_length: usize, from: usize, places: *mut pef_finding, place_count: usize, count: *mut usize) -> u32;
@@ -1317,6 +1321,10 @@ extern "C" {
     /// read is kept for later calls; otherwise the context is unchanged.
     pub fn pef_missing(context: *mut pef_context, name: *const u8, name_length: usize, from: usize, places: *mut pef_missing, place_count: usize, count: *mut usize, names: *mut pef_names) -> u32;
 
+    /// Gives what `pef_missing()` does. If it returns an error other than PEF_NOT_OPEN, it also stores in `*place` where the error is, in the
+    /// container of the fragment that `*names` names. Otherwise `*place` is left unchanged.
+    pub fn pef_missing_with_place(context: *mut pef_context, name: *const u8, name_length: usize, from: usize, places: *mut pef_missing, place_count: usize, count: *mut usize, names: *mut pef_names, place: *mut pef_place) -> u32;
+
     /// Prepares the fragment of a name and all that it needs: places them, fills them and relocates them, unless they are
     /// present already.
     ///
@@ -1337,6 +1345,9 @@ extern "C" {
     /// PEF_OUT_OF_MEMORY. If it isn't PEF_OK, `*names` has the names that belong to it, and `places` and `*count` are unchanged. What was
     /// read is kept for later calls; otherwise the context is unchanged.
     pub fn pef_new_sections(context: *mut pef_context, name: *const u8, name_length: usize, from: usize, places: *mut pef_new_section, place_count: usize, count: *mut usize, names: *mut pef_names) -> u32;
+
+    /// Gives what `pef_new_sections()` does, and the place of an error as `pef_missing_with_place()` does.
+    pub fn pef_new_sections_with_place(context: *mut pef_context, name: *const u8, name_length: usize, from: usize, places: *mut pef_new_section, place_count: usize, count: *mut usize, names: *mut pef_names, place: *mut pef_place) -> u32;
 
     /// Prepares as `pef_prepare_with_place()` does, but places the sections at these addresses: there is one for each section that
     /// `pef_new_sections()` gives, in its order. An address has to be a multiple of the section's alignment and 00010000 (hex) or above. The
@@ -1423,11 +1434,25 @@ pub unsafe fn pef_init_order(context: *const pef_context, connection: u32, place
     exported::pef_init_order(&mut copy, connection, places, place_count, count)
 }
 
-/// Gives a fragment's name, which is what was added. It needn't be present. Returns PEF_NOT_THERE past the last fragment.
+/// Gives a fragment's name, which is what was added. It needn't be present. Returns PEF_NOT_THERE if no fragment has this number: past the
+/// last one, and also before it if the fragment was removed.
 #[inline]
 pub unsafe fn pef_fragment_name(context: *const pef_context, fragment: usize, name: *mut pef_bytes) -> u32 {
     let mut copy = *context;
     exported::pef_fragment_name(&mut copy, fragment, name)
+}
+
+/// Gives the first number from `from` on that a fragment has, present or not. So this is a loop over all fragments of a context:
+///
+/// ```c
+/// for (size_t number = 0; pef_next_fragment(&context, number, &number) == PEF_OK; number++)
+///
+/// ```
+/// Returns PEF_OK; or PEF_NOT_THERE if no fragment has such a number.
+#[inline]
+pub unsafe fn pef_next_fragment(context: *const pef_context, from: usize, fragment: *mut usize) -> u32 {
+    let mut copy = *context;
+    exported::pef_next_fragment(&mut copy, from, fragment)
 }
 
 /// Tells whether the fragment of a name is present: the closure of an open connection has it. If several fragments have the same
@@ -1556,6 +1581,7 @@ mod exported {
         pub fn pef_fragments(context: *mut pef_context, connection: u32, places: *mut usize, place_count: usize, count: *mut usize) -> u32;
         pub fn pef_init_order(context: *mut pef_context, connection: u32, places: *mut usize, place_count: usize, count: *mut usize) -> u32;
         pub fn pef_fragment_name(context: *mut pef_context, fragment: usize, name: *mut pef_bytes) -> u32;
+        pub fn pef_next_fragment(context: *mut pef_context, from: usize, fragment: *mut usize) -> u32;
         pub fn pef_is_present(context: *mut pef_context, name: *const u8, name_length: usize, is_present: *mut bool) -> u32;
         pub fn pef_fragment_sections(context: *mut pef_context, fragment: usize, count: *mut usize) -> u32;
         pub fn pef_fragment_section(context: *mut pef_context, connection: u32, fragment: usize, number: usize, section: *mut pef_fragment_section) -> u32;

@@ -235,14 +235,13 @@ impl<'a> Context<'a> {
     ///
     /// # Errors
     ///
-    /// 60 if no fragment has the name; 1 to 20 for a fragment that can't be read, with its name; or 99.
+    /// 60 if no fragment has the name; 1 to 20 for a fragment that can't be read, with its name and the place; or 99.
     pub fn missing<N: AsRef<[u8]> + ?Sized>(&self, name: &N) -> Result<Vec<MissingLibrary<'a>>, Error> {
-        let nowhere = sys::pef_place { part: sys::PEF_NOWHERE, row: 0, field: 0, offset: sys::PEF_NO_OFFSET };
         let (mut found, mut most) = (Vec::new(), 64);
         let mut context = self.shared.write();
         loop {
             let rows = context.missing(name.as_ref(), found.len(), most);
-            let rows = rows.map_err(|(number, names)| Error::of_preparation(number, &names, nowhere))?;
+            let rows = rows.map_err(|(number, names, place)| Error::of_preparation(number, &names, place))?;
             let is_last = rows.len() < most;
             found.extend(rows.iter().map(|(name, row)| MissingLibrary::of(name, row)));
             if is_last {
@@ -352,12 +351,11 @@ impl<'a> Context<'a> {
     ///
     /// Those of `prepare` before it places anything: 1 to 20, 60 to 66, 68 to 70, 75 or 99, with its names.
     pub fn new_sections<N: AsRef<[u8]> + ?Sized>(&self, name: &N) -> Result<Vec<NewSection>, Error> {
-        let nowhere = sys::pef_place { part: sys::PEF_NOWHERE, row: 0, field: 0, offset: sys::PEF_NO_OFFSET };
         let (mut found, mut most) = (Vec::new(), 64);
         let mut context = self.shared.write();
         loop {
             let rows = context.new_sections(name.as_ref(), found.len(), most);
-            let rows = rows.map_err(|(number, names)| Error::of_preparation(number, &names, nowhere))?;
+            let rows = rows.map_err(|(number, names, place)| Error::of_preparation(number, &names, place))?;
             let is_last = rows.len() < most;
             found.extend(rows.iter().map(NewSection::of));
             if is_last {
@@ -409,11 +407,27 @@ impl<'a> Context<'a> {
     pub fn fragment_name(&self, number: usize) -> Option<&'a [u8]> {
         self.shared.read().name(number)
     }
+
+    /// The numbers that fragments have, present or not. Those of removed fragments are left out, so there may be gaps.
+    ///
+    /// ```
+    /// let library = pef::link("versions 1 0 0\n")?;
+    /// let context = pef::Context::new()?;
+    /// context.add("A", &library)?;
+    /// context.add("B", &library)?;
+    /// context.remove("A")?;
+    /// assert_eq!(context.fragment_numbers(), [1]);
+    /// # Ok::<(), Box<dyn std::error::Error>>(())
+    /// ```
+    pub fn fragment_numbers(&self) -> Vec<usize> {
+        let context = self.shared.read();
+        std::iter::successors(context.next_fragment(0), |number| context.next_fragment(number + 1)).collect()
+    }
 }
 
 impl fmt::Debug for Context<'_> {
     fn fmt(&self, out: &mut fmt::Formatter<'_>) -> fmt::Result {
-        let names: Vec<_> = (0..sys::PEF_MAX_FRAGMENTS).filter_map(|number| self.fragment_name(number)).map(Text).collect();
+        let names: Vec<_> = self.fragment_numbers().into_iter().filter_map(|number| self.fragment_name(number)).map(Text).collect();
         out.debug_struct("Context").field("fragments", &names).finish()
     }
 }

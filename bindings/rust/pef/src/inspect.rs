@@ -75,8 +75,8 @@ impl fmt::Display for Finding {
 /// Finds all errors of a container, and then the notes on it.
 ///
 /// Packed data is expanded and relocation programs are run, without keeping what they make. So a container without errors is refused by no
-/// preparation, as far as its own bytes are concerned. Errors come in the order in which other calls find the first one. Bytes that are no
-/// container have one error.
+/// preparation, as far as its own bytes are concerned. Errors come in the order of [`Listing`](crate::Listing): what it reports is the first here.
+/// A preparation has an order of its own, in which packed data comes before programs. Bytes that are no container have one error.
 ///
 /// # Errors
 ///

@@ -2,14 +2,16 @@
 ghost use Rattle.std.specs.Prelude.{◌≡◌, length, map};
 ghost use Rattle.cfm_closure.specs.Views.{missing_seen};
 ghost use Rattle.pef_c.specs.Contexts.Context.{held, names_shown};
-ghost use Rattle.pef_c.specs.Contexts.Missing.{MissingAnswers, TellsIn, missing_at, missing_row, missing_shown};
+ghost use Rattle.pef_c.specs.Contexts.Missing.{MissingAnswers, PlacedMissingAnswers, TellsIn, missing_at, missing_row, missing_shown};
 ghost use Rattle.pef_records.specs.Buffers.{filled, fitting};
 
 use crate::contexts::context::prepare_number;
 use crate::contexts::handle::{PefContext, put, take};
-use crate::contexts::refusal_names::names_of;
+use crate::contexts::refusal_names::{names_of, place_of};
 use cfm_prepare::{Context, MissingLibrary};
-use pef_records::{NOT_OPEN, PefMissing, PefNames, Table, fill_table, given};
+use pef_records::{
+    NOT_OPEN, PefMissing, PefNames, PefPlace, Table, fill_table, given, place_or_nowhere,
+};
 use std::alloc::Global;
 
 /// Reads the libraries that the fragment with this name and those that it needs name and that no fragment serves, from
@@ -29,10 +31,31 @@ pub extern "C" fn pef_missing(
     ensures same { held context.new ≡ held context.old }
     ensures told { MissingAnswers name.now (held context.old) from (map missing_shown places.old) (map missing_shown places.new) count.old count.new (names_shown names.old) (names_shown names.new) result }
 {
+    let mut place = place_or_nowhere(None);
+    pef_missing_with_place(alloc, context, name, from, places, count, names, &mut place)
+}
+
+/// Reads the libraries that `pef_missing` reads, and says where an error is.
+///
+/// Returns 0, or 202 if the context isn't open, or the number of the error, whose names and place are written.
+#[unsafe(no_mangle)]
+pub extern "C" fn pef_missing_with_place(
+    alloc: Global,
+    context: &mut PefContext,
+    name: &[u8],
+    from: usize,
+    places: &mut [PefMissing],
+    count: &mut usize,
+    names: &mut PefNames,
+    place: &mut PefPlace,
+) -> u32
+    ensures same { held context.new ≡ held context.old }
+    ensures told { PlacedMissingAnswers name.now (held context.old) from (map missing_shown places.old) (map missing_shown places.new) count.old count.new (names_shown names.old) (names_shown names.new) place.old place.new result }
+{
     let Some(mut boxed) = take(alloc, context) else {
         return NOT_OPEN;
     };
-    let answer = missing_in(&mut boxed, given(name), from, places, count, names);
+    let answer = missing_in(&mut boxed, given(name), from, places, count, names, place);
     put(context, boxed);
     answer
 }
@@ -45,9 +68,10 @@ fn missing_in(
     places: &mut [PefMissing],
     count: &mut usize,
     names: &mut PefNames,
+    place: &mut PefPlace,
 ) -> u32
     ensures same { context.new ≡ context.old }
-    ensures told { TellsIn name.now context.old from (map missing_shown places.old) (map missing_shown places.new) count.old count.new (names_shown names.old) (names_shown names.new) result }
+    ensures told { TellsIn name.now context.old from (map missing_shown places.old) (map missing_shown places.new) count.old count.new (names_shown names.old) (names_shown names.new) place.old place.new result }
 {
     match context.missing(name) {
         Ok(libraries) => {
@@ -56,6 +80,7 @@ fn missing_in(
         }
         Err(fault) => {
             *names = names_of(fault);
+            *place = place_of(fault);
             prepare_number(fault)
         }
     }

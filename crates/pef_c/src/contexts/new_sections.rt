@@ -2,14 +2,16 @@
 //! the preparation.
 ghost use Rattle.std.specs.Prelude.{◌≡◌, length};
 ghost use Rattle.pef_c.specs.Contexts.Context.{held, names_shown};
-ghost use Rattle.pef_c.specs.Contexts.NewSections.{NewSectionsAnswers, TellsSectionsIn, section_at, section_row};
+ghost use Rattle.pef_c.specs.Contexts.NewSections.{NewSectionsAnswers, PlacedNewSectionsAnswers, TellsSectionsIn, section_at, section_row};
 ghost use Rattle.pef_records.specs.Buffers.{filled, fitting};
 
 use crate::contexts::context::prepare_number;
 use crate::contexts::handle::{PefContext, put, take};
-use crate::contexts::refusal_names::names_of;
+use crate::contexts::refusal_names::{names_of, place_of};
 use cfm_prepare::{Context, NewSection};
-use pef_records::{NOT_OPEN, PefNames, PefNewSection, Table, fill_table, given};
+use pef_records::{
+    NOT_OPEN, PefNames, PefNewSection, PefPlace, Table, fill_table, given, place_or_nowhere,
+};
 use std::alloc::Global;
 
 /// Reads the sections that `pef_prepare` would place for this name, in its order, from number `from` on, into the first
@@ -29,10 +31,31 @@ pub extern "C" fn pef_new_sections(
     ensures same { held context.new ≡ held context.old }
     ensures told { NewSectionsAnswers name.now (held context.old) from places.old places.new count.old count.new (names_shown names.old) (names_shown names.new) result }
 {
+    let mut place = place_or_nowhere(None);
+    pef_new_sections_with_place(alloc, context, name, from, places, count, names, &mut place)
+}
+
+/// Reads the sections that `pef_new_sections` reads, and says where an error is.
+///
+/// Returns 0, or 202 if the context isn't open, or the number of the error, whose names and place are written.
+#[unsafe(no_mangle)]
+pub extern "C" fn pef_new_sections_with_place(
+    alloc: Global,
+    context: &mut PefContext,
+    name: &[u8],
+    from: usize,
+    places: &mut [PefNewSection],
+    count: &mut usize,
+    names: &mut PefNames,
+    place: &mut PefPlace,
+) -> u32
+    ensures same { held context.new ≡ held context.old }
+    ensures told { PlacedNewSectionsAnswers name.now (held context.old) from places.old places.new count.old count.new (names_shown names.old) (names_shown names.new) place.old place.new result }
+{
     let Some(mut boxed) = take(alloc, context) else {
         return NOT_OPEN;
     };
-    let answer = new_sections_in(&mut boxed, given(name), from, places, count, names);
+    let answer = new_sections_in(&mut boxed, given(name), from, places, count, names, place);
     put(context, boxed);
     answer
 }
@@ -45,9 +68,10 @@ fn new_sections_in(
     places: &mut [PefNewSection],
     count: &mut usize,
     names: &mut PefNames,
+    place: &mut PefPlace,
 ) -> u32
     ensures same { context.new ≡ context.old }
-    ensures told { TellsSectionsIn name.now context.old from places.old places.new count.old count.new (names_shown names.old) (names_shown names.new) result }
+    ensures told { TellsSectionsIn name.now context.old from places.old places.new count.old count.new (names_shown names.old) (names_shown names.new) place.old place.new result }
 {
     match context.new_sections(name) {
         Ok(sections) => {
@@ -56,6 +80,7 @@ fn new_sections_in(
         }
         Err(fault) => {
             *names = names_of(fault);
+            *place = place_of(fault);
             prepare_number(fault)
         }
     }

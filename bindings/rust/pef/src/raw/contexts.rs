@@ -103,20 +103,26 @@ impl<'a> Context<'a> {
         done(unsafe { sys::pef_unreserve(&mut self.0, address, size) })
     }
 
-    /// Missing libraries from a number on, at most so many, with their names. An error comes with its names.
-    pub(crate) fn missing(&mut self, name: &[u8], from: usize, most: usize) -> Result<MissingRows<'a>, (Number, Names<'a>)> {
+    /// Missing libraries from a number on, at most so many, with their names. An error comes with its names and its place.
+    pub(crate) fn missing(
+        &mut self,
+        name: &[u8],
+        from: usize,
+        most: usize,
+    ) -> Result<MissingRows<'a>, (Number, Names<'a>, sys::pef_place)> {
         let mut names = sys::PEF_NO_NAMES;
+        let mut place = sys::pef_place { part: sys::PEF_NOWHERE, row: 0, field: 0, offset: sys::PEF_NO_OFFSET };
         let context = &mut self.0;
         // SAFETY: the context is borrowed alone. The call fills as many places as it counts.
         let rows = unsafe {
             new_rows(most, |places, room, count| {
-                sys::pef_missing(context, name.as_ptr(), name.len(), from, places, room, count, &mut names)
+                sys::pef_missing_with_place(context, name.as_ptr(), name.len(), from, places, room, count, &mut names, &mut place)
             })
         };
         // SAFETY: names are parts of what was added, and those that aren't reported are empty.
         let names = unsafe { Names { fragment: added(names.fragment), library: added(names.library), symbol: added(names.symbol) } };
         // SAFETY: the names of the rows, too.
-        rows.map(|rows| rows.into_iter().map(|row| (unsafe { added(row.name) }, row)).collect()).map_err(|answer| (answer, names))
+        rows.map(|rows| rows.into_iter().map(|row| (unsafe { added(row.name) }, row)).collect()).map_err(|answer| (answer, names, place))
     }
 
     /// Lacking libraries from a number on, at most so many: their names, and whether they are weak.
@@ -161,19 +167,25 @@ impl<'a> Context<'a> {
         done(answer).map(|()| number).map_err(|answer| (answer, names, place))
     }
 
-    /// The sections that a preparation would place, from a number on, at most so many. An error comes with its names.
-    pub(crate) fn new_sections(&mut self, name: &[u8], from: usize, most: usize) -> Result<Vec<sys::pef_new_section>, (Number, Names<'a>)> {
+    /// The sections that a preparation would place, from a number on, at most so many. An error comes with its names and its place.
+    pub(crate) fn new_sections(
+        &mut self,
+        name: &[u8],
+        from: usize,
+        most: usize,
+    ) -> Result<Vec<sys::pef_new_section>, (Number, Names<'a>, sys::pef_place)> {
         let mut names = sys::PEF_NO_NAMES;
+        let mut place = sys::pef_place { part: sys::PEF_NOWHERE, row: 0, field: 0, offset: sys::PEF_NO_OFFSET };
         let context = &mut self.0;
         // SAFETY: the context is borrowed alone. The call fills as many places as it counts.
         let rows = unsafe {
             new_rows(most, |places, room, count| {
-                sys::pef_new_sections(context, name.as_ptr(), name.len(), from, places, room, count, &mut names)
+                sys::pef_new_sections_with_place(context, name.as_ptr(), name.len(), from, places, room, count, &mut names, &mut place)
             })
         };
         // SAFETY: names are parts of what was added, and those that aren't reported are empty.
         let names = unsafe { Names { fragment: added(names.fragment), library: added(names.library), symbol: added(names.symbol) } };
-        rows.map_err(|answer| (answer, names))
+        rows.map_err(|answer| (answer, names, place))
     }
 
     /// Prepares a fragment at some addresses. An error comes with its names and its place.
@@ -212,6 +224,12 @@ impl<'a> Context<'a> {
     pub(crate) fn name(&self, fragment: usize) -> Option<&'a [u8]> {
         // SAFETY: the call fills the place if it returns PEF_OK, with a name that was added.
         unsafe { filled(|name| sys::pef_fragment_name(&self.0, fragment, name)).ok().map(|name| added(name)) }
+    }
+
+    /// The first number from one on that a fragment has.
+    pub(crate) fn next_fragment(&self, from: usize) -> Option<usize> {
+        // SAFETY: the call fills the number if it returns PEF_OK.
+        unsafe { filled(|number| sys::pef_next_fragment(&self.0, from, number)) }.ok()
     }
 
     pub(crate) fn is_present(&self, name: &[u8]) -> bool {
