@@ -107,6 +107,17 @@ def read_imports(pef, contents, count):
     return work
 
 
+def found_errors(pef, contents):
+    """Looks for all errors of a container, which has none."""
+    first, count = pef._declarations._Finding(), ctypes.c_size_t()
+
+    def work():
+        assert pef.library().pef_findings(contents, len(contents), 0, ctypes.byref(first), 1, ctypes.byref(count)) == 0
+        assert not first.is_error
+
+    return work
+
+
 def compared(pef):
     """Yields what is done, how many times the slow way has to take at least, and the seconds of both."""
     # Each name is found by its hash word, if the table is regular.
@@ -136,6 +147,10 @@ def compared(pef):
     yield "sections after a gap", 2, seconds(many, 3), 16 * seconds(few, 3)
     few, many = (prepared(pef, [("it", container([Section(total=0, align=12)] * count))], limit=0xFFFFFFF0) for count in (15_000, 60_000))
     yield "sections with gaps between them", 2, seconds(many, 3), 16 * seconds(few, 3)
+
+    # Of a repeat the first pass and the last one are verified. A preparation adds to a word in each of its 4,194,303 passes.
+    contents = container([Section(total=1 << 24)], [bytes.fromhex("4000 B03F FFFF")], symbol=True)
+    yield "the passes of a repeat", 100, seconds(found_errors(pef, contents), 3), seconds(prepared(pef, [("it", contents)], limit=0xFFFFFFF0))
 
     # The library of each import is the next one, if they are in order.
     count = 200_000

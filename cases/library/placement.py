@@ -136,12 +136,13 @@ MUCH = [
 
 
 def much(pef, count, size, align):
-    """The addresses of the sections, and whether the first and the last hold zeros."""
+    """How many sections are new, their addresses, and whether the first and the last hold zeros."""
     with pef.Context(0xFFFFFFFF) as context:
         context.add("it", fragment(size, align, count))
+        new = len(context.new_sections("it"))
         sections = context.prepare("it").root.sections
         zeros = all(it.contents == bytes(size) for it in (sections[0], sections[-1]))
-        return [it.address for it in sections], zeros
+        return new, [it.address for it in sections], zeros
 
 
 # Options, the sections of a fragment, addresses for them, and 0 or the error. There is a section of 16 bytes at 00010000, and a reserved
@@ -241,4 +242,4 @@ def checks(pef):
     yield "a page after them", them.place(1, 0), 0x12000
     yield f"beside {RANGES:,} ranges", beside_ranges(pef), [address for _, address in BESIDE_RANGES]
     for count, size, align, first, distance in MUCH:
-        yield f"{count} sections of {size} bytes", much(pef, count, size, align), ([first + number * distance for number in range(count)], True)
+        yield f"{count} sections of {size} bytes", much(pef, count, size, align), (count, [first + number * distance for number in range(count)], True)
