@@ -479,17 +479,20 @@ static void tell_meanings(const struct pef_context *context, uint32_t connection
 static void tell_before(struct pef_context *context)
 {
     struct pef_names names = PEF_NO_NAMES;
+    struct pef_place place = {0, 0, 0, 0};
     struct pef_missing missing;
     struct pef_new_section section;
     pef_size count = 0;
     memset(&missing, 0, sizeof missing);
     memset(&section, 0, sizeof section);
-    tell("missing", pef_missing(context, (const uint8_t *)"it", 2, 0, &missing, 1, &count, &names));
+    tell("missing", pef_missing_with_place(context, (const uint8_t *)"it", 2, 0, &missing, 1, &count, &names, &place));
+    tell_place(&place);
     tell("count", count);
     tell("name", missing.name.length);
     tell("weak", missing.is_weak);
     count = 0;
-    tell("new", pef_new_sections(context, (const uint8_t *)"it", 2, 0, &section, 1, &count, &names));
+    tell("new", pef_new_sections_with_place(context, (const uint8_t *)"it", 2, 0, &section, 1, &count, &names, &place));
+    tell_place(&place);
     tell("count", count);
     tell("size", section.size);
     tell("alignment", section.alignment);

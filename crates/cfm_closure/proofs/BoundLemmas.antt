@@ -51,6 +51,9 @@ pub record StandsFor (pairs : List Pair) (p l q : ℕ) : Type 0 where
   pub fragment : Fragment
   pub read : fragment_of pairs p ≡ Ok fragment
   pub below : l < fragment.loader.header.library_count
+  pub library : Library
+  pub entry : library_of fragment.loader l ≡ Some library
+  pub named : place_of pairs library.name ≡ Some q
   pub inside : q < length pairs
   pub first : place_of pairs (pair_of pairs q).name ≡ Some q
 
@@ -66,6 +69,9 @@ stands_for pairs p l q is =
       fragment = f;
       read = read;
       below = library_of-below f.loader l x there;
+      library = x;
+      entry = there;
+      named = bound-place pairs f l x q is;
       inside = place_of-below pairs x.name q (bound-place pairs f l x q is);
       first = place_of-first pairs x.name q (bound-place pairs f l x q is);
     }

@@ -5,7 +5,7 @@ use Rattle.std.specs.Option.{option_and_then, option_map_or}
 use Rattle.std.specs.Result.{result_ok}
 use Rattle.std.proofs.lemmas.Bool.{cases_lt}
 use Rattle.std.proofs.lemmas.Bool.Decides.{eqb_tells}
-use Rattle.std.proofs.lemmas.List.{get_or-append_right, get_or-set_other, get_or-set_same, get_or_append_left, get_or_past, length-append, length-replicate, length-set}
+use Rattle.std.proofs.lemmas.List.{get_or-append_right, get_or-set_other, get_or-set_same, get_or_append_left, get_or_default, get_or_past, length-append, length-replicate, length-set}
 use Rattle.std.proofs.lemmas.List.Elements.{Contains-get_or}
 use Rattle.pef_loader.specs.Loader.{Loaded, library_of}
 use Rattle.cfm_store.specs.Additions.{placed_at}
@@ -13,13 +13,13 @@ use Rattle.cfm_closure.specs.Additions.{MayBeAdded, NamesLibrary}
 use Rattle.cfm_store.specs.Stores.{Pair, pair_of, place_of}
 use Rattle.cfm_closure.specs.declared.fragment.FragmentView.{FragmentView}
 use Rattle.cfm_closure.specs.Fragments.{Fragment, fragment_of}
-use Rattle.cfm_closure.specs.Kept.Caches.{AreCached, AreKeptRows, AreOfKept, IsKeptRow, IsOfKept, KeepsFirst, MayTake, NoneNames}
+use Rattle.cfm_closure.specs.Kept.Caches.{AreCached, AreKeptRows, AreOfKept, IsKeptRow, IsOfKept, IsOrderOfClosure, KeepsFirst, MayTake, NoneNames}
 use Rattle.cfm_closure.specs.Kept.Targets.{AreAllKnown, Row}
 use Rattle.cfm_closure.specs.Kept.Views.{AreRead}
 use Rattle.cfm_closure.specs.Orders.{IsComplete}
 use Rattle.cfm_closure.proofs.ClosedLemmas.{closed-complete}
-use Rattle.cfm_closure.proofs.SameClosedLemmas.{closed-same, target-same}
 use Rattle.cfm_closure.proofs.SameLemmas.{AreSame, fragment_of-same}
+use Rattle.cfm_closure.proofs.SameTargetLemmas.{target_of-same}
 use Rattle.cfm_store.proofs.Laws.{IsFreeFor, placed-longer}
 use Rattle.cfm_closure.proofs.StoreLemmas.{may_take, placed-read, placed-same}
 use Rattle.cfm_closure.proofs.LeadLemmas.{led-target, target-led}
@@ -29,11 +29,28 @@ use Rattle.cfm_closure.proofs.RowLemmas.{none-at}
 none-in : {T : Type 0} (table : List (Option T)) (p : ℕ) → table ≡ [] → get_or table p None ≡ None
 none-in table p none = let long : length table ≡ 0 = ap length none in get_or_past table p None (omega arith)
 
-rows-none : (pairs : List Pair) (rows : List (Option Row)) → rows ≡ [] → AreKeptRows pairs rows
+pub rows-none : (pairs : List Pair) (rows : List (Option Row)) → rows ≡ [] → AreKeptRows pairs rows
 rows-none pairs rows none p row here = absurd (let e : None ≡ Some row = sym (none-in rows p none) ∙ here in cc)
 
-kept-none : (pairs : List Pair) (rows : List (Option Row)) → rows ≡ [] → AreOfKept pairs rows
+pub kept-none : (pairs : List Pair) (rows : List (Option Row)) → rows ≡ [] → AreOfKept pairs rows
 kept-none pairs rows none p some = absurd (let e = ap is_some (none-in rows p none) in cc)
+
+-- an order is complete in a store that is the same at its fragments
+complete-same : (pairs pairs' : List Pair) → length pairs ≤ length pairs' → (order : List ℕ) → IsComplete pairs order → AreSame pairs pairs' order → IsComplete pairs' order
+complete-same pairs pairs' more order complete same = record {
+  members = λ p there.
+      let m = complete.members p there in
+      record {
+        place = let place = m.place in omega arith;
+        fragment = m.fragment;
+        read = fragment_of-same pairs pairs' p (same p there).pair ∙ m.read;
+        libraries = λ l below.
+            let h = m.libraries l below in
+            record { bound = h.bound; is = (same p there).bound l ∙ h.is; inside = h.inside };
+      };
+  once = complete.once;
+  count = let count = complete.count in omega arith;
+}
 
 -- kept targets are all known
 pub rows_known : (pairs : List Pair) (rows : List (Option Row)) → AreKeptRows pairs rows → AreAllKnown rows
@@ -56,12 +73,9 @@ module _ (pairs : List Pair) (views : List (Option FragmentView)) (rows : List (
   }
 
   -- another store has the fragments that were read
-  module _ (pairs' : List Pair) (more : length pairs ≤ length pairs') (reads : (q : ℕ) (f : Fragment) → fragment_of pairs q ≡ Ok f → pair_of pairs' q ≡ pair_of pairs q) where
-    read-now : AreRead pairs' views
-    read-now p f here = fragment_of-same pairs pairs' p (reads p f (is.read p f here)) ∙ is.read p f here
-
+  module _ (pairs' : List Pair) (more : length pairs ≤ length pairs') (read-now : AreRead pairs' views) where
     -- without targets, what was read stays what it is
-    cache_without : (rows' : List (Option Row)) → rows' ≡ [] → AreCached pairs' views rows'
+    pub cache_without : (rows' : List (Option Row)) → rows' ≡ [] → AreCached pairs' views rows'
     cache_without rows' none = record {
       few = let few = is.few in omega arith;
       read = read-now;
@@ -71,15 +85,13 @@ module _ (pairs : List Pair) (views : List (Option FragmentView)) (rows : List (
     }
 
     -- the targets do too, if it has the same fragments and bindings in the closures that are kept
-    module _ (same : (p : ℕ) (o : IsOfKept pairs rows p) → AreSame pairs pairs' o.closure.order) where
+    module _ (same : (p : ℕ) (o : IsOfKept pairs rows p) → AreSame pairs pairs' o.order) where
       kept-now : AreOfKept pairs' rows
       kept-now p some =
           let o = is.closures p some in
           record {
-            root = o.root;
-            inside = let inside = o.inside in omega arith;
-            closure = record { pairs = pairs'; order = o.closure.order; init_order = o.closure.init_order };
-            is = closed-same pairs pairs' o.root o.closure o.inside more o.is (same p o);
+            order = o.order;
+            complete = complete-same pairs pairs' more o.order o.complete (same p o);
             member = o.member;
             all = o.all;
           }
@@ -93,10 +105,10 @@ module _ (pairs : List Pair) (views : List (Option FragmentView)) (rows : List (
             known = k.known;
             right = λ j t known.
                 led-target pairs' p j t
-                (target-same pairs pairs' o.root o.closure o.inside more o.is (same p o) p j o.member ∙ target-led pairs p j (Ok t) (k.right j t known));
+                (target_of-same pairs pairs' o.order o.complete (same p o) (complete-same pairs pairs' more o.order o.complete (same p o)) p j o.member ∙ target-led pairs p j (Ok t) (k.right j t known));
           }
 
-      cache_now : AreCached pairs' views rows
+      pub cache_now : AreCached pairs' views rows
       cache_now = record {
         few = let few = is.few in omega arith;
         read = read-now;
@@ -110,19 +122,22 @@ module _ (pairs : List Pair) (views : List (Option FragmentView)) (rows : List (
     free : IfSome o (IsFreeFor pairs n.name)
     free = may_take pairs n o take
 
+    read-with : AreRead (placed_at pairs n o) views
+    read-with p f here = fragment_of-same pairs (placed_at pairs n o) p (placed-read pairs n o free p f (is.read p f here)) ∙ is.read p f here
+
     pub cache_with : (rows' : List (Option Row)) → rows' ≡ [] → AreCached (placed_at pairs n o) views rows'
-    cache_with = cache_without (placed_at pairs n o) (placed-longer pairs n o) (placed-read pairs n o free)
+    cache_with = cache_without (placed_at pairs n o) (placed-longer pairs n o) read-with
 
     -- the targets do too, if the store has the name, or no fragment that is kept has a library entry with it
     module _ (may : IsSome (place_of pairs n.name) ⊎ NoneNames pairs rows n.name) where
-      may-be : (p : ℕ) (o : IsOfKept pairs rows p) → MayBeAdded pairs o.closure.order n.name
+      may-be : (p : ℕ) (o : IsOfKept pairs rows p) → MayBeAdded pairs o.order n.name
       may-be p o = elim may [
         | inl has ↦ inl has
-        | inr none ↦ inr (λ (names : NamesLibrary pairs o.closure.order n.name). none names.fragment (o.all names.fragment names.member) names.index names.library (ap (option_and_then (λ x. library_of x names.index)) names.read ∙ names.entry) names.named)
+        | inr none ↦ inr (λ (names : NamesLibrary pairs o.order n.name). none names.fragment (o.all names.fragment names.member) names.index names.library (ap (option_and_then (λ x. library_of x names.index)) names.read ∙ names.entry) names.named)
       ]
 
       pub cache_stays : AreCached (placed_at pairs n o) views rows
-      cache_stays = cache_now (placed_at pairs n o) (placed-longer pairs n o) (placed-read pairs n o free) (λ p kept. placed-same pairs n o free kept.closure.order (closed-complete pairs kept.root kept.closure kept.is) (may-be p kept))
+      cache_stays = cache_now (placed_at pairs n o) (placed-longer pairs n o) read-with (λ p kept. placed-same pairs n o free kept.order kept.complete (may-be p kept))
 
 -- with the pair, and if it wasn't added
 pub cache_added : {E : Type 0} (pairs pairs' : List Pair) (views : List (Option FragmentView)) (rows : List (Option Row)) (r : Result (Unit {0}) E) (new : List Pair) → OnOk r (new ≡ pairs') → OnErr r (new ≡ pairs) → AreCached pairs' views rows → AreCached pairs views rows
@@ -150,6 +165,18 @@ order_below pairs order ps i places complete same under is =
     let there = subst (λ order. Contains order (get_or ps i 0)) same (Contains-get_or ps i 0 under) in
     let place = (complete.members (get_or ps i 0) there).place in
     omega arith
+
+-- if all rows of a closure are kept, each fragment that is kept is one of a complete order whose fragments are all kept
+pub kept_more : (pairs : List Pair) (order : List ℕ) (n : ℕ) (old new : List (Option Row)) → IsOrderOfClosure pairs order → n ≡ length order → KeepsFirst pairs order n old new → AreOfKept pairs old → AreOfKept pairs new
+kept_more pairs order n old new found whole keeps are p some = elim (keeps.only p some) [
+  | inl before ↦ (let o = are p before in record { order = o.order; complete = o.complete; member = o.member; all = λ q there. keeps.still q (o.all q there) })
+  | inr there ↦ record {
+    order = order;
+    complete = subst (IsComplete pairs) found.same (closed-complete pairs found.root found.closure found.is);
+    member = there;
+    all = λ q inside. subst (λ q. IsSome (get_or new q None)) (get_or_default order inside.0 0 q inside.1 ∙ inside.2) (keeps.all inside.0 (let under = inside.1 in omega arith));
+  }
+]
 
 module _ (pairs : List Pair) (order : List ℕ) where
   -- at first no row of the order is kept

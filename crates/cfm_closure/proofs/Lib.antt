@@ -29,6 +29,7 @@ mod Pigeons
 mod Ranks
 mod ReadLemmas
 mod RefusalLemmas
+mod RemovalLemmas
 mod RowLemmas
 mod SameClosedLemmas
 mod SameInitLemmas

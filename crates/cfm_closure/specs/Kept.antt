@@ -7,6 +7,7 @@ pub mod Imports
 pub mod Names
 pub mod Notes
 pub mod Paths
+pub mod Removal
 pub mod Resolutions
 pub mod Resolvers
 pub mod Rows

@@ -1,18 +1,19 @@
-ghost use Rattle.std.specs.Prelude.{◌≡◌, ◌≢◌, ◌≤◌, ℕ, List, [], false, length, IfOk, OnOk, Option, Some};
+ghost use Rattle.std.specs.Prelude.{◌≡◌, ◌≢◌, ◌<◌, ◌≤◌, ℕ, List, [], false, length, IfOk, OnOk, Option, Some};
 ghost use Rattle.std.specs.Option.{option_and_then};
 ghost use Rattle.pef_loader.specs.Library.{Library};
 ghost use Rattle.pef_loader.specs.Loader.{library_of};
-ghost use Rattle.cfm_store.specs.Additions.{placed_at};
+ghost use Rattle.cfm_store.specs.Additions.{placed_at, without_pair};
 ghost use Rattle.cfm_closure.specs.Fragments.{loader_at};
 ghost use Rattle.cfm_closure.specs.Kept.Caches.{AreKeptRows, IsCache, IsOrderOfClosure, KeepsFirst, MayTake, NoneNames};
 ghost use Rattle.cfm_closure.specs.Kept.Targets.{AreResolved};
 ghost use Rattle.cfm_closure.specs.Kept.Views.{AreRead, AreViews};
-ghost use Rattle.cfm_store.specs.Stores.{Pair};
+ghost use Rattle.cfm_store.specs.Stores.{Pair, place_of};
 
 use crate::bindings::Bindings;
 use crate::fragment::FragmentView;
+use crate::removal::{is_first, rows_left, views_without};
 use crate::targets::SharedTargets;
-use cfm_store::{PlaceTable, Store};
+use cfm_store::{MAX_PAIRS, PlaceTable, Store};
 use std::alloc::{AllocError, Global};
 use std::mem;
 
@@ -110,6 +111,41 @@ impl<'a> Cache<'a> {
         if store.find(name).is_none() && self.names_library(name) {
             self.forget_targets();
         }
+    }
+
+    /// Drops what the removal of the fragment in a place makes wrong: what was read of it, its targets, and those of the fragments
+    /// that need it. If an allocation fails, or the fragment isn't the first of its name, all is dropped.
+    pub fn forget_removed(&mut self, alloc: Global, store: &Store<'a>, place: usize)
+        requires cache { IsCache store.now self.old }
+        requires inside { place < length store.now }
+        ensures without { IsCache store.now self.new }
+        ensures with { IsCache (without_pair store.now place) self.new }
+    {
+        match self.without(alloc, store, place) {
+            Ok(left) => *self = left,
+            Err(_) => *self = Cache::empty(alloc),
+        }
+    }
+
+    /// Returns what is left of the cache if the fragment in a place is removed.
+    fn without(
+        &self,
+        alloc: Global,
+        store: &Store<'a>,
+        place: usize,
+    ) -> Result<Cache<'a>, AllocError>
+        requires cache { IsCache store.now self.now }
+        requires inside { place < length store.now }
+        ensures without { IfOk result (λ left. IsCache store.now left) }
+        ensures with { IfOk result (λ left. IsCache (without_pair store.now place) left) }
+    {
+        if !is_first(store, place) {
+            return Ok(Cache::empty(alloc));
+        }
+        prove!(store.len() <= MAX_PAIRS);
+        let views = views_without(alloc, &self.views, place)?;
+        let rows = rows_left(alloc, store, &self.views, &self.rows, place)?;
+        Ok(Cache { alloc, views, rows })
     }
 
     /// Returns whether a fragment whose targets are kept has a library entry with a name. If what was read of it isn't

@@ -100,8 +100,8 @@ impl<'a> CachedStore<'a> {
         self.store.put(name, bytes)
     }
 
-    /// Removes the pair in a place, as [`Store::remove`] does. What was read and found is forgotten, since it may have
-    /// slices of the pair's bytes.
+    /// Removes the pair in a place, as [`Store::remove`] does. If it is the first of its name, what was read of the others stays, and
+    /// so do the targets of those that don't need it. Nothing that stays has slices of the pair's bytes.
     ///
     /// # Errors
     ///
@@ -111,7 +111,7 @@ impl<'a> CachedStore<'a> {
         ensures ok { OnOk result (self.new ≡ without_pair self.old place) }
         ensures err { OnErr result (self.new ≡ self.old) }
     {
-        self.cache = Cache::empty(alloc);
+        self.cache.forget_removed(alloc, &self.store, place);
         self.store.remove(place)
     }
 

@@ -6,11 +6,13 @@ ghost use Rattle.pef_format.specs.declared.place.Part.TheVariants.{Import as Imp
 ghost use Rattle.cfm_closure.specs.Faults.{Answers};
 ghost use Rattle.cfm_closure.specs.Fragments.{fragment_of, part_place};
 ghost use Rattle.cfm_closure.specs.Kept.Entries.{HasEntry};
+ghost use Rattle.cfm_closure.specs.Kept.Removal.{IsUnmarked, NamesNone};
 ghost use Rattle.cfm_closure.specs.Kept.Views.{AreKept, AreRead, fragment_at};
 ghost use Rattle.cfm_closure.specs.Views.{fragment_seen};
 
 use crate::fault::BindFault;
 use crate::libraries::Libraries;
+use crate::removal::is_marked;
 use crate::targets::Targets;
 use cfm_store::{PlaceTable, Store};
 use pef_format::{Part, Place};
@@ -74,6 +76,30 @@ impl<'a> FragmentView<'a> {
             }
         }
         false
+    }
+
+    /// Returns whether it has a library entry with the name of a fragment that is marked.
+    pub fn names_marked(&self, store: &Store<'a>, marks: &[bool]) -> bool
+        requires { length marks.now ≡ length store.now }
+        ensures { result ≡ false → NamesNone store.now marks.now (Some (loaded self.now.loader)) }
+    {
+        for l in 0..self.loader.libraries() {
+            if self.entry_is_marked(store, marks, l) {
+                return true;
+            }
+        }
+        false
+    }
+
+    /// Returns whether library entry `l` has the name of a fragment that is marked.
+    fn entry_is_marked(&self, store: &Store<'a>, marks: &[bool], l: usize) -> bool
+        requires { length marks.now ≡ length store.now }
+        ensures { result ≡ false → (library : Library) → library_of (loaded self.now.loader) l ≡ Some library → IsUnmarked store.now marks.now library.name }
+    {
+        match self.loader.library(l) {
+            Some(library) => is_marked(store, marks, library.name),
+            None => false,
+        }
     }
 
     /// Returns the place of a field of library entry `l`.

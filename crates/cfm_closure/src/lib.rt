@@ -22,6 +22,7 @@ mod init_order;
 mod libraries;
 mod missing;
 mod notes;
+mod removal;
 mod resolve;
 mod search;
 mod symbols;

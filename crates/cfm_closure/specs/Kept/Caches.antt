@@ -11,6 +11,7 @@ use Rattle.cfm_closure.specs.Closures.{Closed, closed_of}
 use Rattle.cfm_closure.specs.Fragments.{import_count, loader_at}
 use Rattle.cfm_closure.specs.Kept.Targets.{AllKnown, AreRight, Row}
 use Rattle.cfm_closure.specs.Kept.Views.{AreRead}
+use Rattle.cfm_closure.specs.Orders.{IsComplete}
 
 -- the targets of all imports of a fragment
 pub record IsKeptRow (pairs : List Pair) (p : ℕ) (row : Row) : Type 0 where
@@ -22,16 +23,14 @@ pub record IsKeptRow (pairs : List Pair) (p : ℕ) (row : Row) : Type 0 where
 abbrev pub AreKeptRows : List Pair → List (Option Row) → Type 0
 AreKeptRows pairs rows = (p : ℕ) (row : Row) → slice_index_or rows p None ≡ Some row → IsKeptRow pairs p row
 
--- a fragment is one of a closure whose fragments are all kept
+-- a fragment is one of a complete order whose fragments are all kept
 pub record IsOfKept (pairs : List Pair) (rows : List (Option Row)) (p : ℕ) : Type 0 where
-  pub root : ℕ
-  pub inside : root < length pairs
-  pub closure : Closed
-  pub is : closed_of pairs root ≡ Ok closure
-  pub member : Contains closure.order p
-  pub all : (q : ℕ) → Contains closure.order q → IsSome (slice_index_or rows q None)
+  pub order : List ℕ
+  pub complete : IsComplete pairs order
+  pub member : Contains order p
+  pub all : (q : ℕ) → Contains order q → IsSome (slice_index_or rows q None)
 
--- each fragment that is kept is one of a closure whose fragments are all kept
+-- each fragment that is kept is one of a complete order whose fragments are all kept
 abbrev pub AreOfKept : List Pair → List (Option Row) → Type 0
 AreOfKept pairs rows = (p : ℕ) → IsSome (slice_index_or rows p None) → IsOfKept pairs rows p
 
