@@ -68,6 +68,23 @@ CASES += [
     )
 ]
 
+# A resource fork that is damaged isn't passed over: its errors are reported, and a fragment's name is refused by the first one. The entry
+# of AppleDouble has a byte that isn't there; the header is cut; the fork has 17 bytes of its map.
+DOUBLE = b"\x00\x05\x16\x07\x00\x02" + bytes(18) + b"\x00\x01\x00\x00\x00\x02\x00\x00\x00\x26\x00\x00\x00\x01"
+for place, damaged, lines, refusal in (
+    ("d/._a", DOUBLE, b"size 38 format appledouble data d/a\nmac\nerror 85 AppleEntryOutside fork 0 at 0000001E\n", b"85 AppleEntryOutside"),
+    ("d/._a", DOUBLE[:25], b"size 25 format damaged data d/a\nerror 82 AppleHeaderCut fork\n", b"82 AppleHeaderCut"),
+    ("d/a.rsrc", FORK[:220], b"size 220 format resources data d/a\n00000000 fork resource size 220\nerror 87 ResourceMapOutside resource at 00000004\n",
+     b"87 ResourceMapOutside"),
+):
+    beside = {"d/a": DATA_FORK, place: damaged, "d/%a": FORK}
+    CASES += [
+        Case(f"a companion with {refusal.decode()}", ["inspect", "d/a"], beside, status=1,
+             stdout=DATA_REPORT + b"file " + place.encode() + b" " + lines + b"total containers 0 errors 1 notes 0\n"),
+        Case(f"extract by a companion with {refusal.decode()}", ["extract", "d/a", "Calc", "out"], beside, status=1,
+             stdout=b"refused " + refusal + b"\n", stderr=HELP[int(refusal[:2])], after={}),
+    ]
+
 # Names and paths that are nearly as long as the system allows.
 LONG, LONG_NAME = "".join("%s/" % (letter * 240) for letter in "abcdefghijklmno"), 240 * "z"
 CASES += [

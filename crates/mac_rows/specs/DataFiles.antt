@@ -1,6 +1,7 @@
 -- The other file that has the data fork, if a file has the resource fork alone: what its members are looked up in, and what
 -- is printed of it. Which files can be such a pair is this project's own.
-use Rattle.std.specs.Prelude.{ℕ, Bool, true, false, List, ◌++◌, Option, None, Some, Result, Ok, Err, codes, decimal}
+use Rattle.std.specs.Prelude.{ℕ, Bool, true, false, ◌||◌, List, ◌++◌, Option, None, Some, Result, Ok, Err, codes, decimal}
+use Rattle.std.specs.Option.{is_some}
 use Rattle.pef_words.specs.Refusals.{◌>>=◌}
 use Rattle.mac_forks.specs.MacFile.{MacFileIs, mac_file_of}
 use Rattle.mac_forks.specs.Parts.{Lying}
@@ -61,19 +62,16 @@ is_fork_kind Other = true
 unfoldable pub is_data_fork : List ℕ → Bool
 is_data_fork bytes = is_fork_kind (kind_of bytes)
 
--- a resource fork can be read
-abbrev pub is_whole_fork : Option (Result ForkIs ResourceFault) → Bool
-is_whole_fork None = false
-is_whole_fork (Some (Ok fork)) = true
-is_whole_fork (Some (Err fault)) = false
+-- a file with these forks has a resource fork that isn't empty, or one that can't be read. If its header or a row of its entries is
+-- damaged, it may have lost one
+abbrev pub has_fork : WrappingIs → Option (Result Lying ForkFault) → Bool
+has_fork w None = is_some w.fault || is_some w.cut
+has_fork w (Some (Ok part)) = is_some (resources_in part)
+has_fork w (Some (Err fault)) = true
 
-abbrev pub is_readable_fork : Option Lying → Bool
-is_readable_fork None = false
-is_readable_fork (Some part) = is_whole_fork (resources_in part)
-
--- a file has a resource fork that can be read
+-- a file has a resource fork, which may be damaged
 unfoldable pub is_resource_file : List ℕ → Bool
-is_resource_file bytes = is_readable_fork (readable (wrapping_of bytes).resource_fork)
+is_resource_file bytes = has_fork (wrapping_of bytes) (wrapping_of bytes).resource_fork
 
 -- the first line of a file whose data fork is in another file
 unfoldable pub paired_line : List ℕ → ℕ → List ℕ → List ℕ → List ℕ

@@ -4,7 +4,7 @@ ghost use Rattle.pef_words.specs.Refusals.{result_map};
 ghost use Rattle.pef_ports.specs.Sent.{Sends};
 ghost use Rattle.mac_forks.specs.MacFile.{mac_file_of};
 ghost use Rattle.mac_forks.specs.Views.{part_seen};
-ghost use Rattle.mac_rows.specs.DataFiles.{data_fork_in, is_data_fork, is_fork_kind, is_readable_fork, is_resource_file, member_table_in, members_fork, paired_line, paired_object, whole_table};
+ghost use Rattle.mac_rows.specs.DataFiles.{data_fork_in, has_fork, is_data_fork, is_fork_kind, is_resource_file, member_table_in, members_fork, paired_line, paired_object, whole_table};
 ghost use Rattle.mac_rows.specs.Views.{data_file_seen, member_table_seen, wrapping_seen};
 
 use crate::member_table::{FileError, MemberTable};
@@ -44,21 +44,23 @@ fn is_fork_kind(kind: FileKind) -> bool
     }
 }
 
-/// Returns whether a file has a resource fork that can be read.
+/// Returns whether a file has a resource fork, which may be damaged. If its header or a row of its entries is damaged, it may have
+/// lost one.
 #[tactic(auto, unfolding(crate::specs::DataFiles::is_resource_file))]
 pub fn is_resource_file(bytes: &[u8]) -> bool
     ensures { result ≡ is_resource_file bytes.now }
 {
-    is_readable_fork(Wrapping::of(bytes).forks().resource_fork)
+    has_fork(Wrapping::of(bytes))
 }
 
-/// Returns whether a resource fork can be read.
-fn is_readable_fork(fork: Option<ForkBytes<'_>>) -> bool
-    ensures { result ≡ is_readable_fork (option_map part_seen fork.entry) }
+/// Returns whether a file that is wrapped in this has a resource fork, or may have lost one.
+fn has_fork(wrapping: Wrapping<'_>) -> bool
+    ensures { result ≡ has_fork (wrapping_seen wrapping.entry) (wrapping_seen wrapping.entry).resource_fork }
 {
-    match fork {
-        Some(part) => matches!(resources_in(part), Some(Ok(_))),
-        None => false,
+    match wrapping.resource_fork {
+        Some(Ok(part)) => resources_in(part).is_some(),
+        Some(Err(_)) => true,
+        None => wrapping.fault.is_some() || wrapping.cut.is_some(),
     }
 }
 
