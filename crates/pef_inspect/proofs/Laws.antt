@@ -6,3 +6,5 @@ pub use Rattle.pef_inspect.proofs.Soundness.{no_errors_sound, no_errors_within_s
 pub use Rattle.pef_inspect.proofs.Soundness.{no_false_alarm}
 -- errors and notes are told apart
 pub use Rattle.pef_inspect.proofs.Apart.{tells_apart}
+-- each rule that is broken has its error
+pub use Rattle.pef_inspect.proofs.CompleteLemmas.{finds_each}

@@ -1,4 +1,5 @@
 mod Apart
+mod CompleteLemmas
 mod ExtentLemmas
 mod FirstLemmas
 pub mod Laws

@@ -1,3 +1,4 @@
+pub mod Complete
 pub mod Details
 pub mod Errors
 pub mod Extents

@@ -39,6 +39,7 @@ pub use parts::Parts;
 pub use programs::programs_shown;
 pub use sink::Findings;
 pub use theorems::{
-    errors_and_notes_are_apart, first_error_is_reported, first_error_within_is_reported,
-    no_errors_are_sound, no_errors_within_are_sound, sound_containers_have_no_errors,
+    each_broken_rule_has_its_error, errors_and_notes_are_apart, first_error_is_reported,
+    first_error_within_is_reported, no_errors_are_sound, no_errors_within_are_sound,
+    sound_containers_have_no_errors,
 };

@@ -1,4 +1,5 @@
 //! Laws of the errors of a container. The functions do nothing.
+ghost use Rattle.pef_inspect.specs.Complete.{FindsEach};
 ghost use Rattle.pef_inspect.specs.First.{FirstIsReported, FirstIsReportedWithin};
 ghost use Rattle.pef_inspect.specs.Sound.{FindsAll, FindsAllWithin, NoFalseAlarm, TellsApart};
 
@@ -26,6 +27,15 @@ pub fn no_errors_within_are_sound()
 #[tactic(auto, using(crate::proofs::FirstLemmas::first_within_is_reported))]
 pub fn first_error_within_is_reported()
     ensures { FirstIsReportedWithin }
+{}
+
+/// All that is wrong with a container is found, also if much of it is damaged. Each rule that is broken by a field of a header, a
+/// section, a library, an import, an entry point, a relocation header or an export has its error, at its place. So has each packed
+/// image that doesn't expand, and each program that isn't readable or is refused in its section, as far as the limits go. If the rows
+/// of a table aren't looked at, that has an error itself.
+#[tactic(auto, using(crate::proofs::CompleteLemmas::finds_each))]
+pub fn each_broken_rule_has_its_error()
+    ensures { FindsEach }
 {}
 
 /// No error is found in a sound container, whatever the limits are. If they allow its programs and its packed data, nothing is
