@@ -15,7 +15,7 @@ use Rattle.pef_report.specs.Inspection.{count_chosen}
 use Rattle.pef_report.specs.Judged.{JudgesRight}
 
 -- the count of errors is 0 exactly if there are none
-none-counted : (fs : List Finding) → count_chosen true fs ≡ 0 → AllByRecursion (λ f. is_error f ≡ false) fs
+pub none-counted : (fs : List Finding) → count_chosen true fs ≡ 0 → AllByRecursion (λ f. is_error f ≡ false) fs
 none-counted [] none = tt
 none-counted (f ∷ fs) none = by (is_error f) refl none (none-counted fs)
   where
@@ -23,7 +23,7 @@ none-counted (f ∷ fs) none = by (is_error f) refl none (none-counted fs)
     by true is none later = absurd (cc none)
     by false is none later = (is, later none)
 
-counted-none : (fs : List Finding) → AllByRecursion (λ f. is_error f ≡ false) fs → count_chosen true fs ≡ 0
+pub counted-none : (fs : List Finding) → AllByRecursion (λ f. is_error f ≡ false) fs → count_chosen true fs ≡ 0
 counted-none [] none = refl
 counted-none (f ∷ fs) none = rw none.0 (counted-none fs none.1)
 
@@ -37,11 +37,11 @@ none-open : (fs : List Finding) → AllByRecursion (λ f. is_error f || is_unver
 none-open [] opened closed = refl
 none-open (f ∷ fs) opened closed = absurd (cc (opened.0, closed.0))
 
-all-front : (P : Finding → Type 0) (xs ys : List Finding) → AllByRecursion P (xs ++ ys) → AllByRecursion P xs
+pub all-front : (P : Finding → Type 0) (xs ys : List Finding) → AllByRecursion P (xs ++ ys) → AllByRecursion P xs
 all-front P [] ys all = tt
 all-front P (x ∷ xs) ys all = (all.0, all-front P xs ys all.1)
 
-permuted : (P : Finding → Type 0) (xs ys : List Finding) → IsPermutation xs ys → AllByRecursion P xs → AllByRecursion P ys
+pub permuted : (P : Finding → Type 0) (xs ys : List Finding) → IsPermutation xs ys → AllByRecursion P xs → AllByRecursion P ys
 permuted P xs ys same all = recursion_from_All P ys (All-permutation P xs ys same (All-from_recursion P xs all))
 
 pub judges_right : JudgesRight

@@ -3,3 +3,4 @@ mod Judging
 pub mod Laws
 mod Merging
 mod Rising
+mod StateLemmas

@@ -4,6 +4,7 @@ pub mod Members
 pub mod Order
 pub mod Places
 pub mod Readable
+pub mod States
 pub mod Theorems
 pub mod Verdict
 pub mod Views
