@@ -143,7 +143,7 @@ CUT_LOADER = {"a": VECTORS[:200]}
 CASES += [
     Case("a damaged container in a file", ["inspect", "a"], DAMAGED, status=1, stdout=b"""\
 file a size 266 format other
-00000010 container current 1 olddef 0 oldimp 0 date 0 versions - - - time 1904-01-01T00:00:00 sections 3 instantiated 2
+00000010 container current 1 olddef 0 oldimp 0 date 0 versions - - - time 1904-01-01T00:00:00 sections 3 instantiated 2 architecture pwpc
 00000038 section 0 kind 0 share 4 align 4 total 8 unpacked 8 packed 512 default 00000000 name - raw 00000090
 error 6 SectionOutside section 0 containerOffset at 0000004C
 00000054 section 1 kind 1 share 1 align 4 total 16 unpacked 16 packed 16 default 00000000 name - raw 000000A0
@@ -161,7 +161,7 @@ total containers 1 errors 2 notes 2
 """),
     Case("a cut loader header", ["inspect", "a"], CUT_LOADER, status=1, stdout=b"""\
 file a size 200 format container
-00000000 container current 1 olddef 0 oldimp 0 date 0 versions - - - time 1904-01-01T00:00:00 sections 3 instantiated 2
+00000000 container current 1 olddef 0 oldimp 0 date 0 versions - - - time 1904-01-01T00:00:00 sections 3 instantiated 2 architecture pwpc
 00000028 section 0 kind 0 share 4 align 4 total 8 unpacked 8 packed 8 default 00000000 name - raw 00000080
 00000044 section 1 kind 1 share 1 align 4 total 16 unpacked 16 packed 16 default 00000000 name - raw 00000090
 00000060 section 2 kind 4 share 4 align 4 total 0 unpacked 0 packed 90 default 00000000 name - raw 000000A0
@@ -175,7 +175,7 @@ total containers 1 errors 2 notes 0
 file a size 270 format resources
 00000000 fork resource size 270
 00000014 resource ndrv 1 size 200 attributes 0
-00000014 container current 1 olddef 0 oldimp 0 date 0 versions - - - time 1904-01-01T00:00:00 sections 3 instantiated 2
+00000014 container current 1 olddef 0 oldimp 0 date 0 versions - - - time 1904-01-01T00:00:00 sections 3 instantiated 2 architecture pwpc
 0000003C section 0 kind 0 share 4 align 4 total 8 unpacked 8 packed 8 default 00000000 name - raw 00000094
 00000058 section 1 kind 1 share 1 align 4 total 16 unpacked 16 packed 16 default 00000000 name - raw 000000A4
 00000074 section 2 kind 4 share 4 align 4 total 0 unpacked 0 packed 90 default 00000000 name - raw 000000B4
@@ -284,9 +284,22 @@ def named(offset, letters, end=b""):
 # What is printed before the name of section 0.
 TEXT_TO_NAME = """\
 file a size %d format container
-00000000 container current 1 olddef 0 oldimp 0 date 0 versions - - - time 1904-01-01T00:00:00 sections 3 instantiated 2
+00000000 container current 1 olddef 0 oldimp 0 date 0 versions - - - time 1904-01-01T00:00:00 sections 3 instantiated 2 architecture pwpc
 00000028 section 0 kind 0 share 4 align 4 total 8 unpacked 8 packed 8 default 00000000 name """
 JSON_TO_NAME = JSON_FILE + JSON_HEADER % 0 + (JSON_SECTION % (40, 0, "code", 4, "global", 8, 8, 8, 128)).removesuffix("null}")
+
+# An empty name has its column, and `?` isn't shown like a name that can't be read.
+CASES += [
+    Case(f"the name of a section, {name}", ["inspect", "a"], files, stdout=Begins((TEXT_TO_NAME % size + shown + " raw 00000080\n").encode()))
+    for name, files, size, shown in (("empty", named(126, 0, b"\0"), 251, "%-"), ("a question mark", named(126, 0, b"?\0"), 252, "%3F"))
+]
+# The name of the export is at 230, and its length at 237.
+CASES += [
+    Case(f"the name of an export, {name}", ["inspect", "a"], {"a": changed(VECTORS, *changes)}, stdout=Begins(
+        b"file a size 250 format container\n", (b"\n000000F0 export %s class 2 section 1 value 00000000\n" % shown,),
+    ))
+    for name, changes, shown in (("empty", ((237, b"\x00"),), b"%-"), ("a question mark", ((230, b"?"), (237, b"\x01")), b"%3F"))
+]
 
 # Names with a zero byte after so many letters. Of a long one the first 1,024 are printed, and its length if it is at most 4,096.
 for letters, text, json in (

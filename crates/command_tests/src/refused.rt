@@ -128,7 +128,7 @@ fn extract_beside(rt: HostRuntime) -> Result<(), Fail> {
 
 /// What is printed of the container `VECTORS_LEAST`, from its fields.
 const INSPECTED: &[u8] = b"file a size 250 format container
-00000000 container current 1 olddef 0 oldimp 0 date 0 versions - - - time 1904-01-01T00:00:00 sections 3 instantiated 2
+00000000 container current 1 olddef 0 oldimp 0 date 0 versions - - - time 1904-01-01T00:00:00 sections 3 instantiated 2 architecture pwpc
 00000028 section 0 kind 0 share 4 align 4 total 8 unpacked 8 packed 8 default 00000000 name - raw 00000080
 00000044 section 1 kind 1 share 1 align 4 total 16 unpacked 16 packed 16 default 00000000 name - raw 00000090
 00000060 section 2 kind 4 share 4 align 4 total 0 unpacked 0 packed 90 default 00000000 name - raw 000000A0

@@ -11,7 +11,7 @@ use Rattle.cfm_members.specs.declared.member.Usage.{Usage}
 use Rattle.cfm_members.specs.declared.member.Usage.TheVariants as usage
 use Rattle.pef_ports.specs.Names.{name_text}
 use Rattle.pef_ports.specs.Text.{word_text}
-use Rattle.pef_rows.specs.Tokens.{at_or_dash, at_text, member_text, tag_text}
+use Rattle.pef_rows.specs.Tokens.{at_or_dash, at_text, column_text, member_text, tag_text}
 use Rattle.pef_rows.specs.Versions.{version_text}
 use Rattle.pef_rows.specs.Objects.{separator}
 use Rattle.pef_rows.specs.Tokens.{number_or_null}
@@ -43,7 +43,7 @@ fragment_of t m = record {
 
 -- a name, or `?` for one that can't be read
 abbrev pub name_or_mark : Result (List ℕ) MemberFault → List ℕ
-name_or_mark (Ok name) = name_text name
+name_or_mark (Ok name) = column_text name
 name_or_mark (Err fault) = codes "?"
 
 abbrev pub name_of : Result (List ℕ) MemberFault → Option (List ℕ)

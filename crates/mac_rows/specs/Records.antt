@@ -13,7 +13,7 @@ use Rattle.cfm_members.specs.Contents.{readable}
 use Rattle.pef_ports.specs.Names.{name_text}
 use Rattle.pef_rows.specs.Dates.{date_text}
 use Rattle.pef_rows.specs.Findings.{shown}
-use Rattle.pef_rows.specs.Tokens.{member_text, number_or_null, tag_text}
+use Rattle.pef_rows.specs.Tokens.{column_text, member_text, number_or_null, tag_text}
 use Rattle.mac_rows.specs.declared.record.FileDates.{FileDates}
 
 -- .. each part of it, if the file has it and it can be read
@@ -62,7 +62,7 @@ record_of bytes = record_in (mac_file_of bytes)
 -- its line: the name
 unfoldable pub name_words : Option (List ℕ) → List ℕ
 name_words None = codes "mac"
-name_words (Some name) = codes "mac name " ++ name_text name
+name_words (Some name) = codes "mac name " ++ column_text name
 
 -- .. the type and the creator
 abbrev pub finder_words : Option FinderInfo → List ℕ

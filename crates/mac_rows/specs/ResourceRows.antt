@@ -10,7 +10,7 @@ use Rattle.cfm_members.specs.Contents.{readable}
 use Rattle.pef_listing.specs.Listing.{magnitude, sign_text}
 use Rattle.pef_ports.specs.Names.{name_text}
 use Rattle.pef_rows.specs.Objects.{separator}
-use Rattle.pef_rows.specs.Tokens.{at_or_dash, member_text, number_or_null, tag_text}
+use Rattle.pef_rows.specs.Tokens.{at_or_dash, column_text, member_text, number_or_null, tag_text}
 use Rattle.mac_rows.specs.MacParts.{WrappingIs, resources_in}
 use Rattle.mac_rows.specs.Sums.{up_to}
 use Rattle.mac_rows.specs.declared.output_format.OutputFormat.{OutputFormat}
@@ -37,7 +37,7 @@ name_word (Some name) = codes " name "
 
 abbrev pub name_if : Option (List ℕ) → List ℕ
 name_if None = []
-name_if (Some name) = name_text name
+name_if (Some name) = column_text name
 
 -- the line of a resource: where its bytes are, and its type
 abbrev pub resource_start : Option ℕ → ℕ → List ℕ

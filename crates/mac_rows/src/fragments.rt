@@ -18,7 +18,7 @@ use crate::output_format::OutputFormat;
 use crate::wrapping::Wrapping;
 use cfm_members::{Locator, Member, MemberFault, Usage};
 use pef_ports::{Page, Sink, StreamFault};
-use pef_rows::{Token, at_or_dash, number_or_null, print_separator, print_tokens};
+use pef_rows::{Token, at_or_dash, name_column, number_or_null, print_separator, print_tokens};
 
 /// A member of a table of fragments, with its place in the file and that of its container.
 #[derive(Clone, Copy)]
@@ -401,7 +401,7 @@ fn name_or_mark<'a>(name: Result<&'a [u8], MemberFault>) -> Token<'a>
     ensures { token_text result ≡ name_or_mark (name_seen name.entry) }
 {
     match name {
-        Ok(name) => Token::Name(name),
+        Ok(name) => name_column(name),
         Err(_) => Token::Text(b"?"),
     }
 }

@@ -12,7 +12,7 @@ ghost use Rattle.mac_rows.specs.Views.{record_seen};
 use cfm_members::readable;
 use mac_forks::{AppleDates, FinderInfo, ForkBytes, ForkFault, MacFile};
 use pef_ports::{Page, Sink, StreamFault, send};
-use pef_rows::{Token, number_or_null, print_tokens, text_if};
+use pef_rows::{Token, name_column, number_or_null, print_tokens, text_if};
 
 /// The beginning of 2000, in seconds since 1904.
 const YEAR_2000: u32 = 3_029_529_600;
@@ -173,7 +173,7 @@ fn print_name<W: Sink>(out: &mut W, page: &mut Page, name: Option<&[u8]>) -> Res
     ensures { Sends result (W.stream out.old) (W.stream out.new) page.old.items page.new.items (name_words (option_copied name.entry)) }
 {
     match name {
-        Some(name) => print_tokens(out, page, &[Token::Text(b"mac name "), Token::Name(name)]),
+        Some(name) => print_tokens(out, page, &[Token::Text(b"mac name "), name_column(name)]),
         None => send(out, page, b"mac"),
     }
 }

@@ -19,7 +19,7 @@ use mac_forks::ForkBytes;
 use mac_resources::{Resource, ResourceFault, ResourceFork};
 use pef_listing::{magnitude, sign};
 use pef_ports::{Page, Sink, StreamFault};
-use pef_rows::{Token, at_or_dash, number_or_null, print_separator, print_tokens};
+use pef_rows::{Token, at_or_dash, name_column, number_or_null, print_separator, print_tokens};
 
 /// Prints the resources of a file whose rows can be read.
 pub fn print_resources<W: Sink>(
@@ -294,7 +294,7 @@ fn name_if<'a>(name: Option<&'a [u8]>) -> Token<'a>
     ensures { token_text result ≡ name_if (option_copied name.entry) }
 {
     match name {
-        Some(name) => Token::Name(name),
+        Some(name) => name_column(name),
         None => Token::Text(b""),
     }
 }

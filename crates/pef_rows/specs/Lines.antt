@@ -2,13 +2,15 @@
 -- (docs/FORMATS.md, "Listings"), and then what a listing leaves out.
 use Rattle.std.specs.Prelude.{ℕ, ℤ, pos, negsuc, ◌==◌, Bool, false, List, [], ◌∷◌, ◌++◌, Option, None, Some, codes, decimal, if◌then◌else◌}
 use Rattle.std.specs.Str.{bytes_eq}
+use Rattle.byteorder.specs.Endian.{big_bytes}
 use Rattle.pef_listing.specs.Listing.{export_words, import_words, library_words, magnitude, sign_text}
 use Rattle.pef_loader.specs.CutNames.{CutName}
 use Rattle.pef_loader.specs.Partial.{CutExportRow, CutImportRow, CutLibraryRow}
 use Rattle.pef_loader.specs.declared.header.LoaderHeader.{LoaderHeader}
+use Rattle.pef_ports.specs.Names.{name_text}
 use Rattle.pef_ports.specs.Text.{word_text}
 use Rattle.pef_rows.specs.Dates.{date_text}
-use Rattle.pef_rows.specs.Tokens.{at_text, label_text}
+use Rattle.pef_rows.specs.Tokens.{at_text, label_column}
 use Rattle.pef_rows.specs.Versions.{version_text}
 use Rattle.pef_views.specs.declared.header.Header.{Header}
 use Rattle.pef_views.specs.declared.section.SectionHeader.{SectionHeader}
@@ -16,12 +18,12 @@ use Rattle.pef_views.specs.declared.section.SectionHeader.{SectionHeader}
 -- a name, or `?` for one that can't be read
 abbrev pub name_or_mark : Option CutName → List ℕ
 name_or_mark None = codes "?"
-name_or_mark (Some name) = label_text name.bytes
+name_or_mark (Some name) = label_column name.bytes
 
 -- the name of a section as a listing has it: `-` for none, and a name `-` with its byte escaped
 abbrev pub section_label : Option CutName → List ℕ
 section_label None = codes "-"
-section_label (Some name) = if bytes_eq name.bytes (codes "-") then codes "%2D" else label_text name.bytes
+section_label (Some name) = if bytes_eq name.bytes (codes "-") then codes "%2D" else label_column name.bytes
 
 -- -1, the section of an entry point that isn't there
 abbrev pub is_none_entry : ℤ → Bool
@@ -29,14 +31,21 @@ is_none_entry (pos n) = false
 is_none_entry (negsuc n) = n == 0
 
 -- a container's header: the words of a listing, the versions and the date as people write them, and the counts of sections
-unfoldable pub header_line : ℕ → Header → List ℕ
-header_line at h =
+unfoldable pub header_words : ℕ → Header → List ℕ
+header_words at h =
     at_text at ++ codes " container current " ++ decimal h.current_version ++ codes " olddef "
     ++ decimal h.old_def_version ++ codes " oldimp " ++ decimal h.old_imp_version ++ codes " date "
     ++ decimal h.date_time_stamp ++ codes " versions " ++ version_text h.current_version ++ codes " "
     ++ version_text h.old_def_version ++ codes " " ++ version_text h.old_imp_version ++ codes " time "
     ++ date_text h.date_time_stamp ++ codes " sections " ++ decimal h.section_count ++ codes " instantiated "
-    ++ decimal h.instantiated_section_count ++ codes "\n"
+    ++ decimal h.instantiated_section_count
+
+-- .. and then the architecture
+unfoldable pub architecture_end : ℕ → List ℕ
+architecture_end n = codes " architecture " ++ name_text (big_bytes 4 n) ++ codes "\n"
+
+unfoldable pub header_line : ℕ → Header → List ℕ
+header_line at h = header_words at h ++ architecture_end h.architecture
 
 -- section `number`: the words of a listing, and where its raw bytes begin in the file
 unfoldable pub section_line : ℕ → ℕ → SectionHeader → Option CutName → ℕ → List ℕ

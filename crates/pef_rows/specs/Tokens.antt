@@ -1,6 +1,7 @@
 -- A line or a JSON text as its tokens.
-use Rattle.std.specs.Prelude.{ℕ, ◌/◌, ◌%◌, ◌^◌, ◌==◌, Bool, List, [], ◌∷◌, ◌++◌, Option, None, Some, codes, decimal, length, nat_lt, option_map, take, if◌then◌else◌}
+use Rattle.std.specs.Prelude.{ℕ, ◌/◌, ◌%◌, ◌^◌, ◌==◌, Bool, List, [], ◌∷◌, ◌++◌, Option, None, Some, codes, decimal, length, nat_lt, option_map, take, unwrap_or, if◌then◌else◌}
 use Rattle.std.specs.Option.{option_copied}
+use Rattle.std.specs.Str.{bytes_eq}
 use Rattle.byteorder.specs.Endian.{big_bytes}
 use Rattle.pef_loader.specs.CutNames.{CutName, cut_name}
 use Rattle.pef_loader.specs.PartialViews.{cut_seen}
@@ -52,6 +53,19 @@ row_name name = option_map (cut_name 4096) name
 -- a name in a line. `%..` is no escaped byte, and says that the name is longer
 unfoldable pub label_text : List ℕ → List ℕ
 label_text name = if nat_lt 1024 (length name) then name_text (take 1024 name) ++ codes "%.." else name_text name
+
+-- what is printed in place of a name in a line, so that each name has its column and none looks like one that can't be read: `%-` for
+-- one without bytes, and `%3F` for `?`
+abbrev pub name_mark : List ℕ → Option (List ℕ)
+name_mark [] = Some (codes "%-")
+name_mark (b ∷ name) = if bytes_eq (b ∷ name) (codes "?") then Some (codes "%3F") else None
+
+-- a name in a line with columns, and the name of a row there
+abbrev pub column_text : List ℕ → List ℕ
+column_text name = unwrap_or (name_mark name) (name_text name)
+
+abbrev pub label_column : List ℕ → List ℕ
+label_column name = unwrap_or (name_mark name) (label_text name)
 
 -- a truth value of JSON
 abbrev pub truth : Bool → List ℕ

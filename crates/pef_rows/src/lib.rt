@@ -41,4 +41,4 @@ pub use rows::{
 };
 pub use strings::character_of;
 pub use theorems::names_are_printed;
-pub use tokens::{Token, print_tokens};
+pub use tokens::{Token, name_column, name_mark, print_tokens};

@@ -1,28 +1,68 @@
 //! The lines of the rows. The words of a line of a listing come first, after the offset.
-ghost use Rattle.std.specs.Prelude.{◌≡◌, option_map};
+ghost use Rattle.std.specs.Prelude.{◌≡◌, ◌++◌, codes, option_map};
 ghost use Rattle.pef_loader.specs.PartialViews.{cut_export_seen, cut_import_seen, cut_library_seen, cut_seen};
+ghost use Rattle.pef_ports.specs.Names.{name_text};
 ghost use Rattle.pef_ports.specs.Sent.{Sends};
 ghost use Rattle.pef_rows.specs.Tokens.{token_text};
-ghost use Rattle.pef_rows.specs.Lines.{section_label, entry_line, export_line, header_line, import_line, library_line, loader_line, relocation_line, section_line};
+ghost use Rattle.pef_rows.specs.Lines.{architecture_end, entry_line, export_line, header_line, header_words, section_label, import_line, library_line, loader_line, relocation_line, section_line};
 
 use crate::optional::is_none_entry;
 use crate::parts::{NameOrMark, Offset, Version};
 use crate::rows::{
     EntryRow, ExportRow, HeaderRow, ImportRow, LibraryRow, LoaderRow, RelocationRow, SectionRow,
 };
-use crate::tokens::{Token, print_tokens};
+use crate::tokens::{Token, label_column, print_tokens};
 use pef_listing::{ExportWords, ImportWords, LibraryWords, magnitude, sign};
 use pef_loader::CutName;
 use pef_ports::{Decimal, Joined, Page, Printed, Sink, StreamFault, Verbatim};
 
 /// Prints the line of a container's header.
-#[tactic(auto, unfolding(crate::specs::Lines::header_line))]
 pub fn print_header<W: Sink>(
     out: &mut W,
     page: &mut Page,
     row: HeaderRow,
 ) -> Result<(), StreamFault>
     ensures { Sends result (W.stream out.old) (W.stream out.new) page.old.items page.new.items (header_line row.at row.header) }
+{
+    print_header_words(out, page, row)?;
+    print_architecture(out, page, row.header.architecture)
+}
+
+/// Prints the architecture at the end of a line.
+#[tactic(auto, unfolding(crate::specs::Lines::architecture_end))]
+fn print_architecture<W: Sink>(out: &mut W, page: &mut Page, tag: u32) -> Result<(), StreamFault>
+    ensures { Sends result (W.stream out.old) (W.stream out.new) page.old.items page.new.items (architecture_end tag) }
+{
+    print_characters(out, page, &tag.to_be_bytes())
+}
+
+/// Prints the characters of an architecture at the end of a line.
+fn print_characters<W: Sink>(
+    out: &mut W,
+    page: &mut Page,
+    characters: &[u8],
+) -> Result<(), StreamFault>
+    ensures { Sends result (W.stream out.old) (W.stream out.new) page.old.items page.new.items (codes " architecture " ++ name_text characters.now ++ codes "\n") }
+{
+    print_tokens(
+        out,
+        page,
+        &[
+            Token::Text(b" architecture "),
+            Token::Name(characters),
+            Token::Text(b"\n"),
+        ],
+    )
+}
+
+/// Prints the line of a container's header up to the architecture.
+#[tactic(auto, unfolding(crate::specs::Lines::header_words))]
+fn print_header_words<W: Sink>(
+    out: &mut W,
+    page: &mut Page,
+    row: HeaderRow,
+) -> Result<(), StreamFault>
+    ensures { Sends result (W.stream out.old) (W.stream out.new) page.old.items page.new.items (header_words row.at row.header) }
 {
     let header = row.header;
     print_tokens(
@@ -50,7 +90,6 @@ pub fn print_header<W: Sink>(
             Token::Number(u64::from(header.section_count)),
             Token::Text(b" instantiated "),
             Token::Number(u64::from(header.instantiated_section_count)),
-            Token::Text(b"\n"),
         ],
     )
 }
@@ -102,7 +141,7 @@ fn section_name<'a>(name: Option<CutName<'a>>) -> Token<'a>
     match name {
         None => Token::Text(b"-"),
         Some(name) if name.bytes == b"-".as_slice() => Token::Text(b"%2D"),
-        Some(name) => Token::CutName(name.bytes),
+        Some(name) => label_column(name.bytes),
     }
 }
 

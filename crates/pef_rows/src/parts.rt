@@ -1,6 +1,6 @@
 //! Parts of the lines and objects of libraries, imports and exports. A container can have thousands of these, and a part that
 //! has a type of its own is printed faster than a [`Token`](crate::Token), whose kind is looked up for each one.
-use crate::tokens::{print_at, print_label, print_label_member, print_no_name};
+use crate::tokens::{print_at, print_label_column, print_label_member, print_no_name};
 use crate::versions::print_version;
 use pef_loader::CutName;
 use pef_ports::{Page, Printed, Sink, StreamFault, send};
@@ -34,7 +34,7 @@ impl<'a> Printed for NameOrMark<'a> {
     #[inline(always)]
     fn print<W: Sink>(&self, out: &mut W, page: &mut Page) -> Result<(), StreamFault> {
         match self.0 {
-            Some(name) => print_label(out, page, name.bytes),
+            Some(name) => print_label_column(out, page, name.bytes),
             None => send(out, page, b"?"),
         }
     }

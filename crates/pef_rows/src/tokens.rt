@@ -1,8 +1,9 @@
 ghost use Rattle.std.specs.Prelude.{◌≡◌, ◌≤◌, ◌/◌, ◌%◌, ◌^◌, ◌++◌, length};
+ghost use Rattle.std.specs.Option.{option_copied};
 ghost use Rattle.pef_ports.specs.Sent.{Sends};
 ghost use Rattle.pef_ports.specs.Text.{hex_text, word_text};
 ghost use Rattle.pef_loader.specs.PartialViews.{cut_seen};
-ghost use Rattle.pef_rows.specs.Tokens.{at_text, cut_member, hex_bytes, hex_member, label_member, label_text, length_member, name_length, name_member, no_name, path_byte, path_text, tag_text, token_text, tokens_text};
+ghost use Rattle.pef_rows.specs.Tokens.{at_text, cut_member, column_text, hex_bytes, hex_member, label_column, label_member, label_text, length_member, name_length, name_mark, name_member, no_name, path_byte, path_text, tag_text, token_text, tokens_text};
 
 use crate::dates::print_date;
 use crate::strings::{is_ascii, print_string};
@@ -160,6 +161,57 @@ pub(crate) fn print_label<W: Sink>(
     }
     let (front, _) = name.split_at(MAX_NAME_BYTES);
     Joined(Escaped(front), Verbatim(b"%..")).print(out, page)
+}
+
+/// Returns what is printed in place of a name, so that it has its column and doesn't look like one that can't be read.
+pub fn name_mark(name: &[u8]) -> Option<&'static [u8]>
+    ensures { option_copied result ≡ name_mark name.now }
+{
+    match name {
+        [] => Some(b"%-"),
+        name => {
+            if name == b"?".as_slice() {
+                Some(b"%3F")
+            } else {
+                None
+            }
+        }
+    }
+}
+
+/// Returns a name as a column of a line.
+pub fn name_column<'a>(name: &'a [u8]) -> Token<'a>
+    ensures { token_text result ≡ column_text name.entry.now }
+{
+    match name_mark(name) {
+        Some(mark) => Token::Text(mark),
+        None => Token::Name(name),
+    }
+}
+
+/// Returns the name of a row as a column of a line.
+pub(crate) fn label_column<'a>(name: &'a [u8]) -> Token<'a>
+    ensures { token_text result ≡ label_column name.entry.now }
+{
+    match name_mark(name) {
+        Some(mark) => Token::Text(mark),
+        None => Token::CutName(name),
+    }
+}
+
+/// Prints the name of a row as a column of a line.
+#[inline(always)]
+pub(crate) fn print_label_column<W: Sink>(
+    out: &mut W,
+    page: &mut Page,
+    name: &[u8],
+) -> Result<(), StreamFault>
+    ensures { Sends result (W.stream out.old) (W.stream out.new) page.old.items page.new.items (label_column name.now) }
+{
+    match name_mark(name) {
+        Some(mark) => send(out, page, mark),
+        None => print_label(out, page, name),
+    }
 }
 
 /// Prints a member of a JSON object that has no name.
