@@ -52,6 +52,7 @@ COMMANDS = {
             NO_WEAK,
             ("    --json", "Print an object of JSON a line"),
             ("    --bytes", "With `--json`: also print the bytes of each section, in base64"),
+            ("-o <FOLDER>", "With `--json`: write the bytes of each section to a file of its own in this folder"),
         ],
         "Calculator.bin",
     ),
@@ -127,7 +128,7 @@ def unknown(word, *has):
 
 
 NO_BYTES = b"""\
-error: give `--bytes` only with `--json`
+error: give `--bytes` or `-o FOLDER` only with `--json`, and not both
 
 Usage: pef prepare [OPTIONS] <[NAME=]FILE>...
 
@@ -165,10 +166,12 @@ USAGE = (
     (["load", "it=a", "a"], UNNAMED),
     (["inspect", "--resources", "a.rsrc", "a", "b"], FILES_OR_LIST),
     *((words, NO_FRAGMENTS) for words in (["prepare"], ["prepare", "--json"], ["prepare", "--library", "a"], ["stubs"], ["stubs", "--memory"])),
-    *((words, NO_BYTES) for words in (["prepare", "--bytes", "a"], ["prepare", "a", "--bytes"])),
+    *((words, NO_BYTES) for words in (
+        ["prepare", "--bytes", "a"], ["prepare", "a", "--bytes"], ["prepare", "-o", "d", "a"], ["prepare", "--bytes", "-o", "d", "a"], ["prepare", "--json", "a", "--bytes", "-od"],
+    )),
     # more files than a preparation can have, a file between options, an option without its value or twice, and unknown ones
     *((["prepare", *words], Begins(b"error: ")) for words in (
-        ["a"] * 257, ["a", "--json", "a"], ["a", "--root"], ["--root", "a", "--root", "b", "a"], ["--json", "--json", "a"], ["--first", "0", "a"], ["-x", "a"], ["-o", "d", "a"],
+        ["a"] * 257, ["a", "--json", "a"], ["a", "--root"], ["--root", "a", "--root", "b", "a"], ["--json", "--json", "a"], ["--first", "0", "a"], ["-x", "a"], ["--json", "a", "-o"], ["--json", "-o", "d", "-o", "e", "a"],
     )),
     *((["stubs", *words], Begins(b"error: ")) for words in (["--library", "a", "a"], ["-L", ".", "a"], ["--json", "a"], ["--root", "a", "a"], ["--first", "-1", "a"])),
     # no numbers of 32 bits, and numbers for memory

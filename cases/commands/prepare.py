@@ -9,7 +9,7 @@ from data.applications import APP, APP_SHOWN, CORE, DATA, DRAW, THREE, TOOLS, TV
 from data.containers import VECTORS
 from data.help import HELP
 from data.mac_files import fragment_file
-from data.refusals import MISSING, READ_FOLDER, at_byte, refused
+from data.refusals import FOLDER, MISSING, READ_FOLDER, at_byte, refused
 from suite import Begins, Case, changed
 
 
@@ -173,13 +173,31 @@ JSON = (
     '"entries":{"main":65540,"init":null,"term":null}}\n'
     '{"stub":"InterfaceLib","symbols":[{"name":"draw","class":2,"class_text":"tvector","address":4026531840}]}\n'
 )
-MEMORY = base64.b64encode(bytes.fromhex("F000000000010000")).decode()
+MEMORY = bytes.fromhex("F000000000010000")
 CASES += [
     prepared("JSON", ["--json", "d/App"], {"d/App": DRAWING}, (JSON % "").encode()),
-    prepared("JSON with bytes", ["d/App", "--bytes", "--json"], {"d/App": DRAWING}, (JSON % f',"bytes":"{MEMORY}"').encode()),
+    prepared("JSON with bytes", ["d/App", "--bytes", "--json"], {"d/App": DRAWING}, (JSON % f',"bytes":"{base64.b64encode(MEMORY).decode()}"').encode()),
+    Case("JSON with files", ["prepare", "--json", "-o", "m", "d/App"], {"d/App": DRAWING, "m": None}, stdout=(JSON % ',"file":"m/App.0.bin"').encode(), after={"m/App.0.bin": MEMORY}),
     Case("an error with JSON", ["prepare", "--json", "--no-stubs", "d/App"], {"d/App": DRAWING}, stdout=b"refused 61 LibraryMissing in App library InterfaceLib\n",
          stderr=Begins(HELP[61]), status=1),
 ]
+
+# Words, files, what is printed in part, and what is written: the memory of sections, as the lines above have it.
+CORE_MEMORY = bytes.fromhex("0000000100000002")
+WRITTEN = (
+    ("the files of three fragments in MacBinary", ["-o", "m", "a"], {"a": mac_file(*THREE), "m": None}, (b'"file":"m/Core.0.bin"', b'"file":"m/Tools.0.bin"', b'"file":"m/App.0.bin"'),
+     {"m/Core.0.bin": CORE_MEMORY, "m/Tools.0.bin": bytes.fromhex("000100040000002A"), "m/App.0.bin": bytes.fromhex("F00000000001001400010020")}),
+    ("the files of two sections", ["-o", ".", "Calc=a"], {"a": VECTORS}, (b'"address":65536,"size":8,"file":"./Calc.0.bin"}', b'"address":65552,"size":16,"file":"./Calc.1.bin"}'),
+     {"Calc.0.bin": bytes.fromhex("0011223344556677"), "Calc.1.bin": bytes.fromhex("00010000000100100001000400010010")}),
+    ("the file of a section without bytes", ["a", "-om"], {"a": container([Section(raw=b"")], Loader())[0], "m": None}, (b'"size":0,"file":"m/a.0.bin"}',), {"m/a.0.bin": b""}),
+    ("over a file", ["-o", "m", "a"], {"a": CORE, "m/a.0.bin": b"an older file"}, (b'"file":"m/a.0.bin"',), {"m/a.0.bin": CORE_MEMORY}),
+    # a name that a path can't have, and one that JSON can't have as it is
+    ("odd names of files", ["-o", 'a "%', 'a/b "%\\=c'], {"c": CORE, 'a "%': None}, (b'"file":"a%20\\"%25/a%252Fb%2520\\"%2525\\\\.0.bin"',), {'a "%/a%2Fb%20"%25\\.0.bin': CORE_MEMORY}),
+)
+CASES += [Case(name, ["prepare", "--json", *words], files, stdout=Begins(b'{"fragment":', printed), after=written) for name, words, files, printed, written in WRITTEN]
+# A file that can't be written, after two that were.
+CASES.append(Case("a file that is a folder", ["prepare", "--json", "-o", "m", "a"], {"a": mac_file(*THREE), "m/App.0.bin": None}, **refused(b"72 FileUnwritable m/App.0.bin", FOLDER),
+                  after={"m/Core.0.bin": CORE_MEMORY, "m/Tools.0.bin": bytes.fromhex("000100040000002A")}))
 
 # Another root: what it doesn't need is left out.
 CASES.append(prepared("a library as the root", ["--root", "Core", "a"], {"a": mac_file(THREE[1], THREE[2])}, b"""\
@@ -209,6 +227,9 @@ REFUSED = (
     (["--root", "app", "a"], {"a": mac_file(*THREE)}, b"60 RootMissing", b""),
     (["--no-stubs", "App=a"], {"a": APP}, b"61 LibraryMissing in App library InterfaceLib", NO_LIBRARY),
     (["--no-stubs", "a"], {"a": mac_file(*THREE)}, b"61 LibraryMissing in App library InterfaceLib", NO_LIBRARY),
+    # a refused preparation writes nothing
+    (["--json", "-o", "m", "--no-stubs", "App=a"], {"a": APP, "m": None}, b"61 LibraryMissing in App library InterfaceLib", NO_LIBRARY),
+    (["--json", "-o", "no folder", "App=a"], {"a": CORE}, b"72 FileUnwritable no%20folder/App.0.bin", MISSING),
     (["App=a"], {"a": changed(VECTORS, (64, b"\x04"))}, b"7 BadSectionKind in App", at_byte(b"the kind of section 0, counted from 0", 64)),
 )
 CASES += [Case(f"{words}: {error.decode()}", ["prepare", *words], files, **refused(error, where)) for words, files, error, where in REFUSED]

@@ -10,7 +10,7 @@ _pef() {
     elif [ "$command" = inspect ] && [[ $word == -* ]]; then
         offered='--json --files0 --resources -h --help'
     elif [ "$command" = prepare ] && [[ $word == -* ]]; then
-        offered='--root --library -L --no-stubs --no-weak --json --bytes -h --help'
+        offered='--root --library -L --no-stubs --no-weak --json --bytes -o -h --help'
     elif [ "$command" = stubs ] && [[ $word == -* ]]; then
         offered='--first --step --no-weak --memory -o -h --help'
     elif [[ " $commands " == *" $command "* ]] && [[ $word == -* ]]; then

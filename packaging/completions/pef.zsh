@@ -26,7 +26,8 @@ operand)
     prepare)
         _arguments $help '--root[the fragment that is prepared]:name: ' '*--library[a file with libraries only]:file:_files' \
             '*-L[a folder with libraries]:folder:_files -/' '--no-stubs[make no stubs]' '--no-weak[make no stubs of weak libraries]' \
-            '--json[print JSON]' '--bytes[with --json, print bytes in base64]' \
+            '--json[print JSON]' '(-o)--bytes[with --json, print bytes in base64]' \
+            '(--bytes)-o[with --json, the folder that gets the bytes of sections]:folder:_files -/' \
             '*:[NAME=]FILE:{compset -P 1 "*="; _files}'
         ;;
     stubs)

@@ -7,8 +7,8 @@ use Rattle.cfm_memory.specs.declared.place.Place.{Place}
 use Rattle.cfm_prepare.specs.Contexts.{ContextState}
 use Rattle.cfm_prepare.specs.Sections.{held_at}
 use Rattle.pef_rows.specs.Objects.{separator}
-use Rattle.cfm_rows.specs.Sections.{header_in, section_elements, section_object}
-use Rattle.cfm_rows.specs.declared.sections.SectionBytes.{SectionBytes}
+use Rattle.cfm_files.specs.Sections.{fragment_name}
+use Rattle.cfm_rows.specs.Sections.{BytesShown, header_in, section_elements, section_object}
 
 -- the address and the bytes of a section that has a place
 abbrev section_at : Layout → Place → ℕ × List ℕ
@@ -32,11 +32,11 @@ abbrev nowhere : Place
 nowhere = record { address = 0; size = 0 }
 
 -- section i comes before those after it
-pub sections-more : (s : ContextState) (number p : ℕ) (shown : SectionBytes) (places : List Place) (i : ℕ) (x : ℕ × List ℕ) → i < length places
+pub sections-more : (s : ContextState) (number p : ℕ) (shown : BytesShown) (places : List Place) (i : ℕ) (x : ℕ × List ℕ) → i < length places
     → ◌≡◌ {A = Option (ℕ × List ℕ)} (Some x) (option_and_then (held_at s.memory) (slice_get places i))
     → section_elements s number p shown i (drop i places)
-    ≡ (separator (i == 0) ++ section_object i (header_in s number p i) x.0 x.1 shown) ++ section_elements s number p shown (i + 1) (drop (i + 1) places)
+    ≡ (separator (i == 0) ++ section_object (fragment_name s p) i (header_in s number p i) x.0 x.1 shown) ++ section_elements s number p shown (i + 1) (drop (i + 1) places)
 sections-more s number p shown places i x under found =
     let rest = section_elements s number p shown (i + 1) (drop (i + 1) places) in
     at_drop_more (section_elements s number p shown i) places i nowhere under
-    ∙ ap (λ (y : ℕ × List ℕ). (separator (i == 0) ++ section_object i (header_in s number p i) y.0 y.1 shown) ++ rest) (held-section s.memory places i nowhere x under found)
+    ∙ ap (λ (y : ℕ × List ℕ). (separator (i == 0) ++ section_object (fragment_name s p) i (header_in s number p i) y.0 y.1 shown) ++ rest) (held-section s.memory places i nowhere x under found)

@@ -1,13 +1,12 @@
 -- A prepared fragment as an object of JSON, on a line of its own.
-use Rattle.std.specs.Prelude.{ℕ, List, [], ◌++◌, Option, None, Some, codes, unwrap_or}
+use Rattle.std.specs.Prelude.{ℕ, List, ◌++◌, Option, None, Some, codes}
+use Rattle.cfm_files.specs.Sections.{fragment_name}
 use Rattle.cfm_prepare.specs.Contexts.{ContextState}
-use Rattle.cfm_store.specs.Stores.{name_at}
 use Rattle.cfm_rows.specs.Entries.{entries_in, entries_object}
 use Rattle.cfm_rows.specs.Exports.{exports_list}
 use Rattle.cfm_rows.specs.Imports.{imports_list}
 use Rattle.cfm_rows.specs.Relocations.{relocations_list}
-use Rattle.cfm_rows.specs.Sections.{sections_list}
-use Rattle.cfm_rows.specs.declared.sections.SectionBytes.{SectionBytes}
+use Rattle.cfm_rows.specs.Sections.{BytesShown, sections_list}
 use Rattle.pef_rows.specs.Tokens.{name_member, path_text}
 use Rattle.pef_rows.specs.Unicode.{text_value}
 
@@ -26,10 +25,6 @@ abbrev pub fragment_front : List ℕ → Option (List ℕ) → List ℕ
 fragment_front name (Some path) = front_of_file name path
 fragment_front name None = front_of_stub name
 
--- the name of the fragment in a place of the store
-abbrev pub fragment_name : ContextState → ℕ → List ℕ
-fragment_name s p = unwrap_or (name_at s.pairs p) []
-
 -- its imports and exports, and the words that are relocated
 unfoldable pub loader_members : ContextState → ℕ → ℕ → List ℕ
 loader_members s number p =
@@ -37,7 +32,7 @@ loader_members s number p =
     ++ (codes "],\"relocations\":[" ++ (relocations_list s number p ++ codes "],\"entries\":")))))
 
 -- a fragment of a connection, which comes from a file or is a stub
-unfoldable pub fragment_object : ContextState → ℕ → ℕ → Option (List ℕ) → SectionBytes → List ℕ
+unfoldable pub fragment_object : ContextState → ℕ → ℕ → Option (List ℕ) → BytesShown → List ℕ
 fragment_object s number p source shown =
     fragment_front (fragment_name s p) source
     ++ (sections_list s number p shown ++ (loader_members s number p ++ (entries_object (entries_in s number p) ++ codes "}\n")))

@@ -3,8 +3,9 @@ ghost use Rattle.std.specs.Prelude.{◌≡◌, option_map};
 ghost use Rattle.std.specs.Option.{option_copied};
 ghost use Rattle.pef_loader.specs.Views.{loaded};
 ghost use Rattle.pef_ports.specs.Sent.{Sends};
-ghost use Rattle.cfm_rows.specs.Fragments.{fragment_front, fragment_name, front_of_file, front_of_stub, fragment_object, loader_members};
+ghost use Rattle.cfm_rows.specs.Fragments.{fragment_front, front_of_file, front_of_stub, fragment_object, loader_members};
 ghost use Rattle.cfm_rows.specs.Imports.{loader_in};
+ghost use Rattle.cfm_rows.specs.Sections.{bytes_shown};
 
 use crate::entries::print_entries;
 use crate::exports::print_exports;
@@ -12,6 +13,7 @@ use crate::imports::print_imports;
 use crate::place::FragmentPlace;
 use crate::relocations::print_relocations;
 use crate::sections::{SectionBytes, print_sections};
+use cfm_files::name_of;
 use cfm_prepare::{Connection, Context};
 use pef_loader::Loader;
 use pef_ports::{Page, Sink, StreamFault, send};
@@ -24,8 +26,8 @@ pub struct FragmentRow<'a> {
     pub position: usize,
     /// The path of the file that it comes from, or `None` for a stub.
     pub source: Option<&'a [u8]>,
-    /// Whether the bytes of its sections are printed.
-    pub bytes: SectionBytes,
+    /// What is printed of the bytes of its sections.
+    pub bytes: SectionBytes<'a>,
 }
 
 /// Prints a fragment of a connection's closure: its name and its file, its sections, imports and exports, the words that are relocated,
@@ -37,7 +39,7 @@ pub fn print_fragment_object<W: Sink>(
     connection: Connection,
     row: FragmentRow<'_>,
 ) -> Result<(), StreamFault>
-    ensures { Sends result (W.stream out.old) (W.stream out.new) page.old.items page.new.items (fragment_object context.now connection.0 row.entry.position (option_copied row.entry.source) row.entry.bytes) }
+    ensures { Sends result (W.stream out.old) (W.stream out.new) page.old.items page.new.items (fragment_object context.now connection.0 row.entry.position (option_copied row.entry.source) (bytes_shown row.entry.bytes)) }
 {
     let place = FragmentPlace {
         connection,
@@ -112,16 +114,6 @@ fn print_front_of_stub<W: Sink>(
             Token::Text(b",\"source\":null,\"source_bytes\":null,\"is_stub\":true,\"sections\":["),
         ],
     )
-}
-
-/// Returns the name of the fragment in a place of the store.
-fn name_of<'a>(context: &Context<'a>, position: usize) -> &'a [u8]
-    ensures { result.now ≡ fragment_name context.now position }
-{
-    match context.name(position) {
-        Some(name) => name,
-        None => b"",
-    }
 }
 
 /// Prints a fragment's imports and exports, and the words that are relocated.

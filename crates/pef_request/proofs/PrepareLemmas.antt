@@ -40,32 +40,35 @@ json_rule = filled (flag (codes "json"))
 bytes_rule : Rule
 bytes_rule = filled (flag (codes "bytes"))
 
+out_rule : Rule
+out_rule = filled (lettered (codes "out") 111)
+
 files_rule : Rule
 files_rule = with_index 1 (filled (files_operand (codes "[NAME=]FILE")))
 
 prepare_shape : Shape
-prepare_shape = record prepare_command.top { rules = root_rule ∷ library_rule ∷ folder_rule ∷ no_stubs_rule ∷ no_weak_rule ∷ json_rule ∷ bytes_rule ∷ files_rule ∷ []; is_built = true; disable_help_flag = true; disable_help_subcommand = true }
+prepare_shape = record prepare_command.top { rules = root_rule ∷ library_rule ∷ folder_rule ∷ no_stubs_rule ∷ no_weak_rule ∷ json_rule ∷ bytes_rule ∷ out_rule ∷ files_rule ∷ []; is_built = true; disable_help_flag = true; disable_help_subcommand = true }
 
 first_taken : (word : Text) → IsPlain word → walked prepare_shape.rules [] (walk_from nothing_held) word ≡ taken (codes "[NAME=]FILE") (word ∷ [])
-unfolding clap_on_literals root_rule library_rule folder_rule no_stubs_rule no_weak_rule json_rule bytes_rule files_rule prepare_shape taken
+unfolding clap_on_literals root_rule library_rule folder_rule no_stubs_rule no_weak_rule json_rule bytes_rule out_rule files_rule prepare_shape taken
 first_taken word plain =
     let a = no_flag word plain in
     rw (a.dashes, a.long, a.short) refl
 
 first_sound : (word : Text) → IsPlain word → turn_fault prepare_shape [] (walk_from nothing_held) word ≡ []
-unfolding clap_on_literals root_rule library_rule folder_rule no_stubs_rule no_weak_rule json_rule bytes_rule files_rule prepare_shape
+unfolding clap_on_literals root_rule library_rule folder_rule no_stubs_rule no_weak_rule json_rule bytes_rule out_rule files_rule prepare_shape
 first_sound word plain =
     let a = no_flag word plain in
     rw (a.dashes, a.long, a.short) refl
 
 next_taken : Takes prepare_shape.rules (codes "[NAME=]FILE")
-unfolding clap_on_literals root_rule library_rule folder_rule no_stubs_rule no_weak_rule json_rule bytes_rule files_rule prepare_shape taken
+unfolding clap_on_literals root_rule library_rule folder_rule no_stubs_rule no_weak_rule json_rule bytes_rule out_rule files_rule prepare_shape taken
 next_taken before word plain =
     let a = no_flag word plain in
     rw (a.dashes, a.long, a.short) refl
 
 next_sound : TakesSoundly prepare_shape (codes "[NAME=]FILE")
-unfolding clap_on_literals root_rule library_rule folder_rule no_stubs_rule no_weak_rule json_rule bytes_rule files_rule prepare_shape taken
+unfolding clap_on_literals root_rule library_rule folder_rule no_stubs_rule no_weak_rule json_rule bytes_rule out_rule files_rule prepare_shape taken
 next_sound before word plain =
     let a = no_flag word plain in
     rw (a.dashes, a.long, a.short) refl
@@ -79,7 +82,7 @@ prepare_end w faults =
     (Some (codes "prepare", finished s.rules w.held))
 
 prepare_ends : (words : List Text) → at_end (named (codes "prepare") words) [] ≡ prepare_end (walk prepare_shape.rules [] nothing_held words) (walk_fault prepare_shape [] (walk_from nothing_held) words)
-unfolding pef clap_on_literals named at_end prepare_end prepare_shape root_rule library_rule folder_rule no_stubs_rule no_weak_rule json_rule bytes_rule files_rule
+unfolding pef clap_on_literals named at_end prepare_end prepare_shape root_rule library_rule folder_rule no_stubs_rule no_weak_rule json_rule bytes_rule out_rule files_rule
 prepare_ends words = refl
 
 -- the request of `prepare`, by the faults of the number of its words and of the words
@@ -87,11 +90,11 @@ prepare_at : Kinds → Kinds → List Text → Option Asked
 prepare_at range values words = asked_at (or_else (or_else (or_else range values) []) []) (Some (codes "prepare", finished prepare_shape.rules (taken (codes "[NAME=]FILE") words).held))
 
 prepare_settles : (word : Text) (words : List Text) → prepare_end (taken (codes "[NAME=]FILE") (word ∷ words)) [] ≡ prepare_at (range_kinds 1 256 (length (word ∷ words))) (values_kinds false String (word ∷ words)) (word ∷ words)
-unfolding prepare_end prepare_at clap_on_literals prepare_shape root_rule library_rule folder_rule no_stubs_rule no_weak_rule json_rule bytes_rule files_rule taken
+unfolding prepare_end prepare_at clap_on_literals prepare_shape root_rule library_rule folder_rule no_stubs_rule no_weak_rule json_rule bytes_rule out_rule files_rule taken
 prepare_settles word words = refl
 
 prepare_within : (word : Text) (words : List Text) → prepare_at [] [] (word ∷ words) ≡ Some (prepare (plain_preparation (word ∷ words)))
-unfolding prepare_at taken prepare_shape root_rule library_rule folder_rule no_stubs_rule no_weak_rule json_rule bytes_rule files_rule
+unfolding prepare_at taken prepare_shape root_rule library_rule folder_rule no_stubs_rule no_weak_rule json_rule bytes_rule out_rule files_rule
 prepare_within word words = refl
 
 prepare_past : (k : ErrorKind) (words : List Text) → prepare_at (k ∷ []) [] words ≡ None

@@ -4,9 +4,8 @@ use Rattle.clap.specs.Walk.{Row, Text, all_of, first_of}
 use Rattle.pef_request.specs.Arguments.{is_set}
 use Rattle.pef_request.specs.Files.{file_operand}
 use Rattle.pef_request.specs.Prepare.{prepare_asked, prepared_form, stubbed}
-use Rattle.pef_request.specs.Requests.{prepare, stubs}
+use Rattle.pef_request.specs.Requests.{PreparedAs, prepare, stubs}
 use Rattle.pef_request.specs.Stubs.{stub_symbols, stubs_asked}
-use Rattle.pef_request.specs.declared.prepare.PreparedForm.{PreparedForm}
 use Rattle.pef_request.specs.declared.stubs.StubSymbols.{StubSymbols}
 
 pub stubs_by_values : (rows : List Row) (words : List Text) (memory : Bool) (symbols : StubSymbols)
@@ -15,9 +14,9 @@ pub stubs_by_values : (rows : List Row) (words : List Text) (memory : Bool) (sym
     → stubs_asked rows ≡ Some (stubs (record { files = map file_operand words; symbols = symbols; weak = not (is_set (first_of (codes "no-weak") rows)); out = first_of (codes "out") rows }))
 stubs_by_values rows words memory symbols words_is memory_is symbols_is = rw (words_is, ← memory_is, symbols_is) refl
 
-pub prepare_by_values : (rows : List Row) (words : List Text) (json bytes : Bool) (form : PreparedForm)
+pub prepare_by_values : (rows : List Row) (words : List Text) (json bytes : Bool) (form : PreparedAs)
     → all_of (codes "[NAME=]FILE") rows ≡ Some words → json ≡ is_set (first_of (codes "json") rows) → bytes ≡ is_set (first_of (codes "bytes") rows)
-    → prepared_form json bytes ≡ Some form
+    → prepared_form json bytes (first_of (codes "out") rows) ≡ Some form
     → prepare_asked rows ≡ Some (prepare (record {
       files = map file_operand words;
       libraries = unwrap_or (all_of (codes "library") rows) [];

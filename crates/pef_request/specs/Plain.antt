@@ -2,8 +2,7 @@
 use Rattle.std.specs.Prelude.{◌≢◌, ℕ, ⊤, true, false, List, [], ◌∷◌, length, map, nat_le, Option, None, Some, codes, if◌then◌else◌, option_map}
 use Rattle.std.specs.Str.{bytes_eq}
 use Rattle.pef_request.specs.Files.{file_operand, named_files}
-use Rattle.pef_request.specs.Requests.{Asked, Preparation, StubsOf, check, distances, extract, inspect, link, list, load, prepare, show, stubs}
-use Rattle.pef_request.specs.declared.prepare.PreparedForm.TheVariants.{Lines}
+use Rattle.pef_request.specs.Requests.{Asked, Preparation, StubsOf, as_lines, check, distances, extract, inspect, link, list, load, prepare, show, stubs}
 use Rattle.pef_request.specs.declared.prepare.Stubbing.TheVariants.{All}
 use Rattle.pef_request.specs.declared.stubs.StubSymbols.TheVariants.{Numbers}
 
@@ -67,7 +66,7 @@ plain_inspect (file ∷ files) = if nat_le (length (file ∷ files)) 65536 then 
 
 -- what `prepare` is asked for without options: lines, with stubs of all that is missing
 abbrev pub plain_preparation : List (List ℕ) → Preparation
-plain_preparation words = record { files = map file_operand words; libraries = []; folders = []; root = None; stubs = All; form = Lines }
+plain_preparation words = record { files = map file_operand words; libraries = []; folders = []; root = None; stubs = All; form = as_lines }
 
 -- `prepare [NAME=]FILE ..`, of 1 to 256 words; options are words that begin with `-`
 abbrev pub plain_prepare : List (List ℕ) → Option Asked

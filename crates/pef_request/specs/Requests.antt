@@ -5,6 +5,7 @@ use Rattle.pef_request.specs.declared.files.FileOperand.{FileOperand}
 use Rattle.pef_request.specs.declared.files.NamedFile.{NamedFile}
 use Rattle.pef_request.specs.declared.prepare.PrepareRequest.{PrepareRequest}
 use Rattle.pef_request.specs.declared.prepare.PreparedForm.{PreparedForm}
+use Rattle.pef_request.specs.declared.prepare.PreparedForm.TheVariants.{Lines, Json, JsonWithBytes, JsonWithFiles}
 use Rattle.pef_request.specs.declared.prepare.Stubbing.{Stubbing}
 use Rattle.pef_request.specs.declared.stubs.StubSymbols.{StubSymbols}
 use Rattle.pef_request.specs.declared.stubs.StubsRequest.{StubsRequest}
@@ -12,6 +13,14 @@ use Rattle.pef_request.specs.declared.command_line.Request.{Request}
 use Rattle.pef_request.specs.declared.command_line.Request.TheVariants as request
 use Rattle.pef_request.specs.declared.command_line.WordsFault.{WordsFault}
 use Rattle.pef_request.specs.declared.command_line.WordsFault.TheVariants.{Usage, OutOfMemory}
+
+-- what `prepare` prints: lines, or objects of JSON, which may have the bytes of each section, or the path of the file in a folder that
+-- gets them
+pub data PreparedAs : Type 0 where
+  as_lines : PreparedAs
+  as_json : PreparedAs
+  with_bytes : PreparedAs
+  with_files : List ℕ → PreparedAs
 
 -- what `prepare` is asked for: the files of the root and of libraries, the paths of files and of folders that have libraries only,
 -- the name of the root, which missing libraries get stubs, and what is printed
@@ -21,7 +30,7 @@ pub record Preparation : Type 0 where
   pub folders : List (List ℕ)
   pub root : Option (List ℕ)
   pub stubs : Stubbing
-  pub form : PreparedForm
+  pub form : PreparedAs
 
 -- what `stubs` is asked for: the files, what the symbols are, whether weak libraries get stubs, and the folder that gets them
 pub record StubsOf : Type 0 where
@@ -56,6 +65,13 @@ named_path file = (file.name.now, file.path.now)
 abbrev pub operand_path : FileOperand → Operand
 operand_path file = (option_map (λ name. name.now) file.name, file.path.now)
 
+-- what `prepare` prints, by the form of its request
+abbrev pub form_of : PreparedForm → PreparedAs
+form_of Lines = as_lines
+form_of Json = as_json
+form_of JsonWithBytes = with_bytes
+form_of (JsonWithFiles folder) = with_files folder.now
+
 -- what `prepare` is asked for by its request
 abbrev pub preparation_of : PrepareRequest → Preparation
 preparation_of it = record {
@@ -64,7 +80,7 @@ preparation_of it = record {
   folders = map (λ path. path.now) it.folders.items;
   root = option_map (λ name. name.now) it.root;
   stubs = it.stubs;
-  form = it.form;
+  form = form_of it.form;
 }
 
 -- what `stubs` is asked for by its request

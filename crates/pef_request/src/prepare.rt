@@ -1,10 +1,10 @@
 //! What `prepare` is asked for.
-ghost use Rattle.std.specs.Prelude.{◌≡◌, IfOk, false};
+ghost use Rattle.std.specs.Prelude.{◌≡◌, IfOk, false, option_map};
 ghost use Rattle.clap.specs.Words.{app_of, found_of, rows_of};
 ghost use Rattle.clap.specs.declared.builder.command.Command.TheViews.{out-Command};
 ghost use Rattle.pef_request.specs.Kept.Commands.{HasRules};
 ghost use Rattle.pef_request.specs.Prepare.{form_rules, libraries_rules, prepare_asked, prepare_command, prepared_form, stubbed};
-ghost use Rattle.pef_request.specs.Requests.{AnswersWords};
+ghost use Rattle.pef_request.specs.Requests.{AnswersWords, form_of};
 
 use crate::arguments::{described, files_operand, flag, is_set, lettered, repeated, valued};
 use crate::command_line::{Request, WordsFault};
@@ -26,7 +26,7 @@ pub struct PrepareRequest<'a> {
     /// The missing libraries that get a stub.
     pub stubs: Stubbing,
     /// What is printed.
-    pub form: PreparedForm,
+    pub form: PreparedForm<'a>,
 }
 
 /// The missing libraries that get a stub.
@@ -42,13 +42,15 @@ pub enum Stubbing {
 
 /// The form of what `prepare` prints.
 #[derive(Clone, Copy, Debug, PartialEq, Eq)]
-pub enum PreparedForm {
+pub enum PreparedForm<'a> {
     /// Lines, as `load` prints them.
     Lines,
     /// An object of JSON a line.
     Json,
     /// The same, with the bytes of each section.
     JsonWithBytes,
+    /// Objects with the path of a file for each section, which gets its bytes.
+    JsonWithFiles { folder: &'a str },
 }
 
 /// The help for the operand of commands whose files may have several fragments.
@@ -103,6 +105,13 @@ fn with_form<'a>(alloc: Global, command: Command<'a>) -> Result<Command<'a>, All
             alloc,
             "bytes",
             "With `--json`: also print the bytes of each section, in base64",
+        ))?
+        .arg(lettered(
+            alloc,
+            "out",
+            'o',
+            "FOLDER",
+            "With `--json`: write the bytes of each section to a file of its own in this folder",
         ))
 }
 
@@ -119,7 +128,8 @@ pub(crate) fn prepare_request<'a>(
     };
     let json = is_set(operands.get_str("json"));
     let bytes = is_set(operands.get_str("bytes"));
-    let Some(form) = prepared_form(json, bytes) else {
+    let out = operands.get_str("out");
+    let Some(form) = prepared_form(json, bytes, out) else {
         return Err(WordsFault::Usage);
     };
     let no_stubs = is_set(operands.get_str("no-stubs"));
@@ -137,15 +147,17 @@ pub(crate) fn prepare_request<'a>(
     }))
 }
 
-/// Returns the form that the flags `--json` and `--bytes` ask for. Bytes are printed in JSON only.
-fn prepared_form(json: bool, bytes: bool) -> Option<PreparedForm>
-    ensures { result ≡ prepared_form json bytes }
+/// Returns the form that the flags `--json` and `--bytes` and the folder of `-o` ask for. Bytes are printed in JSON only, or are in files
+/// beside it.
+fn prepared_form<'a>(json: bool, bytes: bool, out: Option<&'a str>) -> Option<PreparedForm<'a>>
+    ensures { option_map form_of result ≡ prepared_form json bytes (option_map (λ folder. folder.now) out.entry) }
 {
-    match (json, bytes) {
-        (false, false) => Some(PreparedForm::Lines),
-        (true, false) => Some(PreparedForm::Json),
-        (true, true) => Some(PreparedForm::JsonWithBytes),
-        (false, true) => None,
+    match (json, bytes, out) {
+        (false, false, None) => Some(PreparedForm::Lines),
+        (true, false, None) => Some(PreparedForm::Json),
+        (true, true, None) => Some(PreparedForm::JsonWithBytes),
+        (true, false, Some(folder)) => Some(PreparedForm::JsonWithFiles { folder }),
+        (false, true, None) | (false, _, Some(_)) | (true, true, Some(_)) => None,
     }
 }
 

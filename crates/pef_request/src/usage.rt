@@ -132,7 +132,7 @@ fn prepared_error(alloc: Global) -> Result<Error, AllocError> {
     let mut command = prepare_command(alloc)?.bin_name("pef prepare")?;
     command.error(
         ErrorKind::ArgumentConflict,
-        "give `--bytes` only with `--json`",
+        "give `--bytes` or `-o FOLDER` only with `--json`, and not both",
     )
 }
 

@@ -1,6 +1,5 @@
 -- How `prepare` and `stubs` end, by their steps before.
-use Rattle.std.proofs.Common.{◌≡◌, ◌+◌, ◌<◌, ◌≤◌, ◌∷◌, ◌++◌, List, [], ℕ, zero, suc, Ok, Err, inl, inr, length, get_or, map, take, drop, refl, sym, ap, subst, ◌∙◌, arith}
-use Rattle.std.proofs.lemmas.List.{map_more, take_all}
+use Rattle.std.proofs.Common.{◌≡◌, List, [], Ok, Err, inl, inr, map, refl, subst}
 use Rattle.cfm_stubs.specs.NumberStubs.{MadeStub}
 use Rattle.pef_faults.specs.declared.fault.Fault.{Fault}
 use Rattle.pef_faults.specs.declared.fault.Fault.TheVariants as fault
@@ -9,16 +8,15 @@ use Rattle.pef_gather.specs.Seen.{FailsAs}
 use Rattle.pef_gather.specs.Stores.{Stores, supplied}
 use Rattle.pef_gather.specs.declared.fault.GatherFault.{GatherFault}
 use Rattle.pef_gather.specs.declared.fault.GatherFault.TheVariants.{Untold, RootMissing, StoreFull, OutOfMemory}
-use Rattle.pef_ports.specs.Ports.{FilesPort, Writes}
+use Rattle.pef_ports.specs.Ports.{FilesPort}
 use Rattle.pef_request.specs.Requests.{Preparation, StubsOf}
 use Rattle.pef_tool.specs.Answers.Answers.{Answer}
 use Rattle.pef_tool.specs.Answers.Faults.{fault_answer}
 use Rattle.pef_tool.specs.Gathering.{StopsGathering, WantedIs, WereGathered, wanted_root}
-use Rattle.pef_tool.specs.Kept.StubFiles.{StubsFound, UnmadeStubs, file_seen}
+use Rattle.pef_tool.specs.Kept.StubFiles.{StubsFound, UnmadeStubs}
 use Rattle.pef_tool.specs.Kept.Supplying.{FoundEnds, SuppliedEnds, gather_fault}
 use Rattle.pef_tool.specs.Prepare.{AreMade, PrepareAnswers, PreparesGiven, RefusesSupply, StopsStore, wanted_files}
-use Rattle.pef_tool.specs.WriteStubs.{RefusesStubs, StopsWriting, StubFileIs, StubsAnswers, StubsGiven, Unwritten, WereWritten}
-use Rattle.pef_tool.specs.declared.write_stubs.StubFile.{StubFile}
+use Rattle.pef_tool.specs.WriteStubs.{RefusesStubs, StubsAnswers, StubsGiven}
 
 -- fragments that aren't gathered end `prepare`, and those that aren't found end `stubs`
 
@@ -41,38 +39,29 @@ store-stops found stubs RootMissing is = absurd is
 store-stops found stubs StoreFull is = inl (is, refl)
 store-stops found stubs OutOfMemory is = inr refl
 
--- fragments with stubs end `prepare` as they end themselves
-pub supplied-ends : (asked : Preparation) (given : List Given) (found : List Found) (stubs : List MadeStub) (answer : Answer)
-    → gathered given asked.root ≡ Ok found → AreMade asked.stubs (supplied found []) stubs → SuppliedEnds asked.form found stubs answer → PreparesGiven asked given answer
-supplied-ends asked given found stubs answer are made (inl ends) = inl (found, stubs, record { gathered = are; made = made; few = ends.0 }, ends.1)
-supplied-ends asked given found stubs answer are made (inr (why, stops, is)) = inr (why, inr (inr (inl (found, stubs, are, made, stops))), is)
-
--- .. and so do fragments that may have no stubs
-pub found-ends : (asked : Preparation) (given : List Given) (found : List Found) (answer : Answer) → gathered given asked.root ≡ Ok found → FoundEnds asked found answer → PreparesGiven asked given answer
-found-ends asked given found answer are (inl ends) = supplied-ends asked given found ends.0 answer are ends.1 ends.2
-found-ends asked given found answer are (inr (why, stops, is)) = inr (why, inr (inl (found, are, stops)), is)
-
 -- fragments without stubs end `stubs`
 pub unmade-refuses : (asked : StubsOf) (given : List Given) (found : List Found) (why : Fault) → found_in given ≡ Ok found → UnmadeStubs asked found why → RefusesStubs asked given why
 unmade-refuses asked given found why are (inl stops) = inr (inl (found, are, stops))
 unmade-refuses asked given found why are (inr (f, unmade, is)) = inr (inr (inl (found, f, are, unmade, is)))
 
--- the stubs before one, that stub, and the stubs after it
-parted : (xs : List StubFile) (i : ℕ) (d : StubFile) → i < length xs → map file_seen xs ≡ map file_seen (take i xs) ++ file_seen (get_or xs i d) ∷ map file_seen (drop (i + 1) xs)
-parted [] i d under = absurd (omega (arith, under))
-parted (x ∷ xs) zero d under = refl
-parted (x ∷ xs) (suc k) d under =
-    let more : suc k + 1 ≡ suc (k + 1) = omega arith in
-    ap (λ (ys : List StubFileIs). file_seen x ∷ ys) (parted xs k d (omega (arith, under)))
-    ∙ ap (λ n. file_seen x ∷ (map file_seen (take k xs) ++ file_seen (get_or xs k d) ∷ map file_seen (drop n (x ∷ xs)))) (sym more)
-
 module _ {F : Type 0} (port : FilesPort F) (before after : F) where
+  -- fragments with stubs end `prepare` as they end themselves
+  supplied-ends : (asked : Preparation) (given : List Given) (found : List Found) (stubs : List MadeStub) (answer : Answer)
+      → gathered given asked.root ≡ Ok found → AreMade asked.stubs (supplied found []) stubs → SuppliedEnds port before after asked.form found stubs answer → PreparesGiven port before after asked given answer
+  supplied-ends asked given found stubs answer are made (inl ends) = inl (found, stubs, record { gathered = are; made = made; few = ends.0 }, ends.1)
+  supplied-ends asked given found stubs answer are made (inr (why, stops, same, is)) = inr (why, inr (inr (inl (found, stubs, are, made, stops))), same, is)
+
+  -- .. and so do fragments that may have no stubs
+  pub found-ends : (asked : Preparation) (given : List Given) (found : List Found) (answer : Answer) → gathered given asked.root ≡ Ok found → FoundEnds port before after asked found answer → PreparesGiven port before after asked given answer
+  found-ends asked given found answer are (inl ends) = supplied-ends asked given found ends.0 answer are ends.1 ends.2
+  found-ends asked given found answer are (inr (why, stops, same, is)) = inr (why, inr (inl (found, are, stops)), same, is)
+
   -- files that were read, and then what they give
-  pub prepare-done : (asked : Preparation) (wanted : List WantedIs) (given : List Given) (answer : Answer)
-      → wanted ≡ wanted_files asked → WereGathered port before after wanted given → PreparesGiven asked given answer → PrepareAnswers port before after asked answer
-  prepare-done asked wanted given answer are read ends =
-      let P : List WantedIs → Type 0 = λ ws. WereGathered port before after ws given in
-      inl (given, subst P are read, ends)
+  pub prepare-done : (between : F) (asked : Preparation) (wanted : List WantedIs) (given : List Given) (answer : Answer)
+      → wanted ≡ wanted_files asked → WereGathered port before between wanted given → PreparesGiven port between after asked given answer → PrepareAnswers port before after asked answer
+  prepare-done between asked wanted given answer are read ends =
+      let P : List WantedIs → Type 0 = λ ws. WereGathered port before between ws given in
+      inl (given, between, subst P are read, ends)
 
   pub stubs-done : (between : F) (asked : StubsOf) (wanted : List WantedIs) (given : List Given) (answer : Answer)
       → wanted ≡ map wanted_root asked.files → WereGathered port before between wanted given → StubsGiven port between after asked given answer → StubsAnswers port before after asked answer
@@ -96,39 +85,6 @@ module _ {F : Type 0} (port : FilesPort F) (before after : F) where
   stubs-stop asked wanted why are stops =
       let P : List WantedIs → Type 0 = λ ws. StopsGathering port before after ws why in
       inr (why, subst P are stops, refl)
-
-module _ {F : Type 0} (port : FilesPort F) where
-  -- one stub more is written
-  written-more : (before between after : F) (stubs : List StubFileIs) (s : StubFileIs) → WereWritten port before between stubs → Writes port between after s.path s.stub.bytes (Ok tt) → WereWritten port before after (stubs ++ s ∷ [])
-  written-more before between after [] s written next =
-      let P : F → Type 0 = λ f. Writes port f after s.path s.stub.bytes (Ok tt) in
-      (after, subst P written next, refl)
-  written-more before between after (x ∷ stubs) s written next = (written.0, written.1, written-more written.0 between after stubs s written.2 next)
-
-  pub written-next : (before between after : F) (xs : List StubFile) (i : ℕ) (d : StubFile) → i < length xs → WereWritten port before between (map file_seen (take i xs))
-      → Writes port between after (file_seen (get_or xs i d)).path (file_seen (get_or xs i d)).stub.bytes (Ok tt) → WereWritten port before after (map file_seen (take (i + 1) xs))
-  written-next before between after xs i d under written next =
-      let P : List StubFileIs → Type 0 = λ ss. WereWritten port before after ss in
-      subst P (sym (map_more file_seen xs i d under)) (written-more before between after (map file_seen (take i xs)) (file_seen (get_or xs i d)) written next)
-
-  -- a stub that isn't written stops the writing
-  pub writing-stops : (before between after : F) (xs : List StubFile) (i : ℕ) (d : StubFile) (why : Fault) → i < length xs → WereWritten port before between (map file_seen (take i xs))
-      → Unwritten port between after (file_seen (get_or xs i d)) why → StopsWriting port before after (map file_seen xs) why
-  writing-stops before between after xs i d why under written stops = record {
-    done = map file_seen (take i xs);
-    next = file_seen (get_or xs i d);
-    left = map file_seen (drop (i + 1) xs);
-    are = parted xs i d under;
-    between = between;
-    written = written;
-    stops = stops;
-  }
-
-  -- stubs that were written, or one that wasn't
-  pub stubs-written : (before after : F) (xs : List StubFile) (i : ℕ) → length xs ≤ i → WereWritten port before after (map file_seen (take i xs)) → WereWritten port before after (map file_seen xs)
-  stubs-written before after xs i past written =
-      let P : List StubFile → Type 0 = λ fs. WereWritten port before after (map file_seen fs) in
-      subst P (take_all i xs past) written
 
 -- an allocation may fail before anything is done
 pub prepare-lacks : {F : Type 0} (port : FilesPort F) (files : F) (asked : Preparation) → PrepareAnswers port files files asked (fault_answer fault.OutOfMemory)

@@ -21,4 +21,5 @@ pub mod Reading
 pub mod PreparedAsLoaded
 pub mod Supplied
 pub mod WriteStubs
+pub mod Writing
 pub mod Explain

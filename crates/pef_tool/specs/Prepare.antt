@@ -1,6 +1,8 @@
 -- The answer of `prepare [NAME=]FILE ..` (docs/USAGE.md). It reads the files, gathers their fragments, makes stubs of the libraries
--- that these lack, prepares the root in a store of both, and prints the memory of its closure.
-use Rattle.std.specs.Prelude.{◌≡◌, ◌⊎◌, ℕ, ◌+◌, ◌<◌, ◌≤◌, ◌++◌, true, false, List, [], ◌∷◌, Option, Ok, Err, length, map}
+-- that these lack, prepares the root in a store of both, writes the files of its closure's sections if it is asked for them, and prints the
+-- memory of its closure.
+use Rattle.std.specs.Prelude.{◌≡◌, ◌⊎◌, ℕ, ◌+◌, ◌<◌, ◌≤◌, ◌++◌, true, false, List, [], ◌∷◌, Option, None, Some, Ok, Err, length, map}
+use Rattle.cfm_files.specs.Sections.{section_files}
 use Rattle.cfm_prepare.specs.Contexts.{ContextState, fresh_state}
 use Rattle.cfm_prepare.specs.Steps.{MayNotPrepare, Prepares}
 use Rattle.cfm_prepare.specs.declared.fault.PrepareFault.{PrepareFault}
@@ -19,15 +21,16 @@ use Rattle.pef_faults.specs.declared.fault.Fault.TheVariants.{OutOfMemory, Prepa
 use Rattle.pef_gather.specs.Gathered.{Found, Given, Refusal, gathered, root_missing, untold}
 use Rattle.pef_gather.specs.Stores.{supplied}
 use Rattle.pef_ports.specs.Ports.{FilesPort}
-use Rattle.pef_request.specs.Requests.{Preparation}
-use Rattle.pef_request.specs.declared.prepare.PreparedForm.{PreparedForm}
+use Rattle.pef_request.specs.Requests.{Preparation, PreparedAs, as_json, as_lines, with_bytes, with_files}
 use Rattle.pef_request.specs.declared.prepare.Stubbing.{Stubbing}
 use Rattle.pef_request.specs.declared.prepare.Stubbing.TheVariants.{Nothing, Required, All}
 use Rattle.pef_tool.specs.Answers.Answers.{Answer, answer_done}
 use Rattle.pef_tool.specs.Answers.Faults.{fault_answer}
 use Rattle.pef_tool.specs.Gathering.{StopsGathering, WantedIs, WereGathered, wanted_library, wanted_root}
 use Rattle.pef_tool.specs.Limits.{memory_limit}
+use Rattle.pef_tool.specs.Loaded.{order_in}
 use Rattle.pef_tool.specs.Supplied.{prepared_text}
+use Rattle.pef_tool.specs.Writing.{WritesThenAnswers}
 
 -- the files that are read, in this order: those that may have the root, and then those with libraries only. A folder of libraries
 -- is read as a file, and is none
@@ -84,21 +87,37 @@ RefusesSupply given root stubbing fault =
     ⊎ ((found : List Found) × (stubs : List MadeStub) × (gathered given root ≡ Ok found) × AreMade stubbing (supplied found []) stubs × StopsStore found stubs fault)
     ⊎ (fault ≡ OutOfMemory)
 
+-- the folder that gets the files of sections, if they are asked for
+abbrev pub files_folder : PreparedAs → Option (List ℕ)
+files_folder as_lines = None
+files_folder as_json = None
+files_folder with_bytes = None
+files_folder (with_files folder) = Some folder
+
+-- the answer for a connection that was prepared, by the folder of files and by what is printed: the files are written first. Before the
+-- first of them is, an allocation may fail
+abbrev pub AnswersPrepared : {F : Type 0} → FilesPort F → F → F → Option (List ℕ) → ContextState → ℕ → List ℕ → Answer → Type 0
+AnswersPrepared port before after None s number text answer = (after ≡ before) × (answer ≡ answer_done text)
+AnswersPrepared port before after (Some folder) s number text answer =
+    WritesThenAnswers port before after (section_files s folder (order_in s number)) (answer_done text) answer
+    ⊎ ((after ≡ before) × (answer ≡ fault_answer OutOfMemory))
+
 -- the answer for fragments with stubs: the root is prepared in a store of them, as a connection with a number in a context with a
 -- state, or it isn't
-abbrev pub PreparesFrom : PreparedForm → List Found → List MadeStub → Answer → Type 0
-PreparesFrom form found stubs answer =
-    ((s : ContextState) × (number : ℕ) × Prepares (fresh_state (supplied found stubs) memory_limit) (root_name found) number s × (answer ≡ answer_done (prepared_text form s number found stubs)))
-    ⊎ ((fault : PrepareFault) × MayNotPrepare (fresh_state (supplied found stubs) memory_limit) (root_name found) fault × (answer ≡ fault_answer (Prepare fault)))
+abbrev pub PreparesFrom : {F : Type 0} → FilesPort F → F → F → PreparedAs → List Found → List MadeStub → Answer → Type 0
+PreparesFrom port before after form found stubs answer =
+    ((s : ContextState) × (number : ℕ) × Prepares (fresh_state (supplied found stubs) memory_limit) (root_name found) number s
+    × AnswersPrepared port before after (files_folder form) s number (prepared_text form s number found stubs) answer)
+    ⊎ ((fault : PrepareFault) × MayNotPrepare (fresh_state (supplied found stubs) memory_limit) (root_name found) fault × (after ≡ before) × (answer ≡ fault_answer (Prepare fault)))
 
 -- the answer for files that were read
-abbrev pub PreparesGiven : Preparation → List Given → Answer → Type 0
-PreparesGiven asked given answer =
-    ((found : List Found) × (stubs : List MadeStub) × AreSupplied given asked.root asked.stubs found stubs × PreparesFrom asked.form found stubs answer)
-    ⊎ ((fault : Fault) × RefusesSupply given asked.root asked.stubs fault × (answer ≡ fault_answer fault))
+abbrev pub PreparesGiven : {F : Type 0} → FilesPort F → F → F → Preparation → List Given → Answer → Type 0
+PreparesGiven port before after asked given answer =
+    ((found : List Found) × (stubs : List MadeStub) × AreSupplied given asked.root asked.stubs found stubs × PreparesFrom port before after asked.form found stubs answer)
+    ⊎ ((fault : Fault) × RefusesSupply given asked.root asked.stubs fault × (after ≡ before) × (answer ≡ fault_answer fault))
 
 -- the answer of `prepare`
 abbrev pub PrepareAnswers : {F : Type 0} → FilesPort F → F → F → Preparation → Answer → Type 0
-PrepareAnswers port before after asked answer =
-    ((given : List Given) × WereGathered port before after (wanted_files asked) given × PreparesGiven asked given answer)
+PrepareAnswers {F} port before after asked answer =
+    ((given : List Given) × (between : F) × WereGathered port before between (wanted_files asked) given × PreparesGiven port between after asked given answer)
     ⊎ ((fault : Fault) × StopsGathering port before after (wanted_files asked) fault × (answer ≡ fault_answer fault))

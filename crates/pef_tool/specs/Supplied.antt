@@ -5,13 +5,11 @@ use Rattle.std.specs.Prelude.{ℕ, List, [], ◌∷◌, ◌++◌, Option, None, 
 use Rattle.cfm_prepare.specs.Contexts.{ContextState}
 use Rattle.cfm_rows.specs.Fragments.{fragment_object}
 use Rattle.cfm_rows.specs.Lines.{source_line}
+use Rattle.cfm_rows.specs.Sections.{BytesShown, encoded, filed, omitted}
 use Rattle.cfm_rows.specs.Symbols.{stub_lines, stub_object}
-use Rattle.cfm_rows.specs.declared.sections.SectionBytes.{SectionBytes}
-use Rattle.cfm_rows.specs.declared.sections.SectionBytes.TheVariants.{Omitted, Encoded}
 use Rattle.cfm_stubs.specs.NumberStubs.{MadeStub}
 use Rattle.pef_gather.specs.Gathered.{Found}
-use Rattle.pef_request.specs.declared.prepare.PreparedForm.{PreparedForm}
-use Rattle.pef_request.specs.declared.prepare.PreparedForm.TheVariants.{Lines, Json, JsonWithBytes}
+use Rattle.pef_request.specs.Requests.{PreparedAs, as_json, as_lines, with_bytes, with_files}
 use Rattle.pef_tool.specs.Loaded.{loaded_text, order_in}
 
 -- the lines of stubs, each with those of its symbols
@@ -38,7 +36,7 @@ source_of found p = option_map (λ f. f.path) (slice_get found p)
 
 -- the objects of the fragments in some places, and those of stubs
 
-abbrev pub fragment_objects : SectionBytes → ContextState → ℕ → List Found → List ℕ → List ℕ
+abbrev pub fragment_objects : BytesShown → ContextState → ℕ → List Found → List ℕ → List ℕ
 fragment_objects bytes s number found [] = []
 fragment_objects bytes s number found (p ∷ order) = fragment_object s number p (source_of found p) bytes ++ fragment_objects bytes s number found order
 
@@ -47,11 +45,12 @@ stub_objects [] = []
 stub_objects (s ∷ stubs) = stub_object s ++ stub_objects stubs
 
 -- all objects
-abbrev pub objects_text : SectionBytes → ContextState → ℕ → List Found → List MadeStub → List ℕ
+abbrev pub objects_text : BytesShown → ContextState → ℕ → List Found → List MadeStub → List ℕ
 objects_text bytes s number found stubs = fragment_objects bytes s number found (order_in s number) ++ stub_objects stubs
 
 -- the text, by its form
-abbrev pub prepared_text : PreparedForm → ContextState → ℕ → List Found → List MadeStub → List ℕ
-prepared_text Lines s number found stubs = lines_text s number found stubs
-prepared_text Json s number found stubs = objects_text Omitted s number found stubs
-prepared_text JsonWithBytes s number found stubs = objects_text Encoded s number found stubs
+abbrev pub prepared_text : PreparedAs → ContextState → ℕ → List Found → List MadeStub → List ℕ
+prepared_text as_lines s number found stubs = lines_text s number found stubs
+prepared_text as_json s number found stubs = objects_text omitted s number found stubs
+prepared_text with_bytes s number found stubs = objects_text encoded s number found stubs
+prepared_text (with_files folder) s number found stubs = objects_text (filed folder) s number found stubs

@@ -1,7 +1,8 @@
 -- The answer of `stubs [NAME=]FILE ..` (docs/USAGE.md). It reads the files as `prepare` does, makes stubs of the libraries that their
 -- fragments lack, and writes the container of each to a file of its own.
-use Rattle.std.specs.Prelude.{◌≡◌, ◌⊎◌, ℕ, ◌==◌, ◌&&◌, ◌++◌, not, List, [], ◌∷◌, Option, None, Some, Ok, Err, codes, decimal, length, map, if◌then◌else◌}
-use Rattle.std.specs.Borrow.{Bor}
+use Rattle.std.specs.Prelude.{◌≡◌, ◌⊎◌, ℕ, ◌++◌, List, [], ◌∷◌, Option, None, Some, Ok, Err, codes, decimal, length, map}
+use Rattle.cfm_files.specs.Paths.{stub_path}
+use Rattle.cfm_files.specs.Writing.{FileIs}
 use Rattle.cfm_rows.specs.Symbols.{symbol_lines}
 use Rattle.cfm_store.specs.Stores.{Pair}
 use Rattle.cfm_stubs.specs.Lacking.{lacking_in, loaders_in, wanted}
@@ -12,13 +13,11 @@ use Rattle.cfm_stubs.specs.declared.fault.StubFault.{StubFault}
 use Rattle.cfm_stubs.specs.declared.values.StubValues.{StubValues}
 use Rattle.cfm_stubs.specs.declared.values.StubValues.TheVariants as values
 use Rattle.pef_faults.specs.declared.fault.Fault.{Fault}
-use Rattle.pef_faults.specs.declared.fault.Fault.TheVariants.{OutOfMemory, Stub, Unwritable}
+use Rattle.pef_faults.specs.declared.fault.Fault.TheVariants.{OutOfMemory, Stub}
 use Rattle.pef_gather.specs.Gathered.{Found, Given, Refusal, found_in}
 use Rattle.pef_gather.specs.Stores.{supplied}
-use Rattle.pef_ports.specs.Names.{is_plain_byte, name_text}
-use Rattle.pef_ports.specs.Ports.{FilesPort, Writes}
-use Rattle.pef_ports.specs.Text.{hex_text}
-use Rattle.pef_ports.specs.declared.ports.FileFault.TheVariants as file_fault
+use Rattle.pef_ports.specs.Names.{name_text}
+use Rattle.pef_ports.specs.Ports.{FilesPort}
 use Rattle.pef_request.specs.Requests.{StubsOf}
 use Rattle.pef_request.specs.declared.stubs.StubSymbols.{StubSymbols}
 use Rattle.pef_request.specs.declared.stubs.StubSymbols.TheVariants as symbols
@@ -26,28 +25,17 @@ use Rattle.pef_tool.specs.Answers.Answers.{Answer, answer_done}
 use Rattle.pef_tool.specs.Answers.Faults.{fault_answer}
 use Rattle.pef_tool.specs.Gathering.{StopsGathering, WereGathered, wanted_root}
 use Rattle.pef_tool.specs.Prepare.{IsRefusal, StopsStore}
+use Rattle.pef_tool.specs.Writing.{WritesThenAnswers}
 
 -- what the symbols are. In memory a routine is the instruction `sc`, which an emulator catches, and data are 16 zeros
 abbrev pub values_of : StubSymbols → StubValues
 values_of (symbols.Numbers first step) = values.Numbers first step
 values_of symbols.Memory = values.Memory 0x44000002 16
 
--- a byte of a library's name in the name of its file: as names are printed, and `/` like a byte that isn't printed
-unfoldable pub path_byte : ℕ → List ℕ
-path_byte b = if is_plain_byte b && not (b == 0x2F) then b ∷ [] else 37 ∷ hex_text (b ∷ [])
-
-abbrev pub path_bytes : List ℕ → List ℕ
-path_bytes [] = []
-path_bytes (b ∷ name) = path_byte b ++ path_bytes name
-
 -- the folder of the files: the current one, if none is given
 abbrev pub folder_in : Option (List ℕ) → List ℕ
 folder_in None = codes "."
 folder_in (Some folder) = folder
-
--- the path of a library's stub
-abbrev pub stub_path : List ℕ → List ℕ → List ℕ
-stub_path folder library = folder ++ codes "/" ++ path_bytes library ++ codes ".pef"
 
 -- the stubs of what all fragments lack
 abbrev pub AreFound : StubsOf → List Pair → List MadeStub → Type 0
@@ -65,26 +53,9 @@ pub record StubFileIs : Type 0 where
 abbrev pub stub_file : List ℕ → MadeStub → StubFileIs
 stub_file folder s = record { path = stub_path folder s.name; stub = s }
 
--- stubs were written, one after the other
-abbrev pub WereWritten : {F : Type 0} → FilesPort F → F → F → List StubFileIs → Type 0
-WereWritten {F} port before after [] = after ≡ before
-WereWritten {F} port before after (s ∷ stubs) = (between : F) × Writes port before between s.path s.stub.bytes (Ok tt) × WereWritten port between after stubs
-
--- a stub isn't written: its file can't be, or an allocation failed
-abbrev pub Unwritten : {F : Type 0} → FilesPort F → F → F → StubFileIs → Fault → Type 0
-Unwritten port before after s fault =
-    ((told : Bor (List ℕ)) × (told.now ≡ s.path) × Writes port before after s.path s.stub.bytes (Err file_fault.Failed) × (fault ≡ Unwritable told (port.reason after)))
-    ⊎ (Writes port before after s.path s.stub.bytes (Err file_fault.OutOfMemory) × (fault ≡ OutOfMemory))
-
--- the first stubs were written, and the next one isn't
-pub record StopsWriting {F : Type 0} (port : FilesPort F) (before after : F) (stubs : List StubFileIs) (fault : Fault) : Type 0 where
-  pub done : List StubFileIs
-  pub next : StubFileIs
-  pub left : List StubFileIs
-  pub are : stubs ≡ done ++ next ∷ left
-  pub between : F
-  pub written : WereWritten port before between done
-  pub stops : Unwritten port between after next fault
+-- its file
+abbrev pub stub_written : StubFileIs → FileIs
+stub_written s = record { path = s.path; bytes = s.stub.bytes }
 
 -- the lines of a stub that was written: its library, how many symbols it has and its file, and then its symbols that are numbers
 unfoldable pub written_line : StubFileIs → List ℕ
@@ -105,9 +76,7 @@ RefusesStubs asked given fault =
 
 -- the answer for stubs: all were written, or one wasn't
 abbrev pub WritesStubs : {F : Type 0} → FilesPort F → F → F → List StubFileIs → Answer → Type 0
-WritesStubs port before after stubs answer =
-    (WereWritten port before after stubs × (answer ≡ answer_done (written_text stubs)))
-    ⊎ ((fault : Fault) × StopsWriting port before after stubs fault × (answer ≡ fault_answer fault))
+WritesStubs port before after stubs answer = WritesThenAnswers port before after (map stub_written stubs) (answer_done (written_text stubs)) answer
 
 -- the answer for files that were read
 abbrev pub StubsGiven : {F : Type 0} → FilesPort F → F → F → StubsOf → List Given → Answer → Type 0

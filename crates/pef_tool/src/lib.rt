@@ -28,6 +28,7 @@ mod supplied;
 pub mod theorems;
 mod version;
 mod write_stubs;
+mod writing;
 
 pub use answers::Outcome;
 pub use commands::{out_of_memory, perform, run};

@@ -4,6 +4,8 @@ ghost use Rattle.std.specs.Option.{option_copied};
 ghost use Rattle.cfm_rows.specs.Fragments.{fragment_object};
 ghost use Rattle.pef_ports.specs.Sent.{Sends};
 ghost use Rattle.pef_gather.specs.Seen.{found_seen};
+ghost use Rattle.cfm_rows.specs.Sections.{bytes_shown};
+ghost use Rattle.pef_request.specs.Requests.{form_of};
 ghost use Rattle.pef_tool.specs.Answers.Answers.{answer_done};
 ghost use Rattle.pef_tool.specs.Supplied.{fragment_objects, lines_text, objects_text, prepared_text, source_of, source_text, sources_text, stub_objects, stubs_text};
 
@@ -26,11 +28,11 @@ pub struct Supplied<'r, 'a> {
     pub found: &'r [Found<'a>],
     /// The stubs, which follow them in the store.
     pub stubs: &'r [Stub<'a>],
-    pub form: PreparedForm,
+    pub form: PreparedForm<'r>,
 }
 
 impl<'r, 'a> Reply for Supplied<'r, 'a> {
-    ghost answer = { λ s. answer_done (prepared_text s.form s.loaded.context s.loaded.connection.0 (map found_seen s.found.now) s.stubs.now) };
+    ghost answer = { λ s. answer_done (prepared_text (form_of s.form) s.loaded.context s.loaded.connection.0 (map found_seen s.found.now) s.stubs.now) };
 
     fn outcome(&self) -> Outcome {
         Outcome::Done
@@ -41,6 +43,10 @@ impl<'r, 'a> Reply for Supplied<'r, 'a> {
             PreparedForm::Lines => print_lines(out, page, self),
             PreparedForm::Json => print_objects(out, page, self, SectionBytes::Omitted),
             PreparedForm::JsonWithBytes => print_objects(out, page, self, SectionBytes::Encoded),
+            PreparedForm::JsonWithFiles { folder } => {
+                let folder = folder.as_bytes();
+                print_objects(out, page, self, SectionBytes::Filed { folder })
+            }
         }
     }
 }
@@ -114,9 +120,9 @@ fn print_objects<W: Sink>(
     out: &mut W,
     page: &mut Page,
     shown: &Supplied<'_, '_>,
-    bytes: SectionBytes,
+    bytes: SectionBytes<'_>,
 ) -> Result<(), StreamFault>
-    ensures { Sends result (W.stream out.old) (W.stream out.new) page.old.items page.new.items (objects_text bytes shown.now.loaded.context shown.now.loaded.connection.0 (map found_seen shown.now.found.now) shown.now.stubs.now) }
+    ensures { Sends result (W.stream out.old) (W.stream out.new) page.old.items page.new.items (objects_text (bytes_shown bytes.entry) shown.now.loaded.context shown.now.loaded.connection.0 (map found_seen shown.now.found.now) shown.now.stubs.now) }
 {
     let order = order_of(&shown.loaded.context, shown.loaded.connection);
     print_fragment_objects(out, page, shown, order, bytes)?;
@@ -129,9 +135,9 @@ fn print_fragment_objects<W: Sink>(
     page: &mut Page,
     shown: &Supplied<'_, '_>,
     order: &[usize],
-    bytes: SectionBytes,
+    bytes: SectionBytes<'_>,
 ) -> Result<(), StreamFault>
-    ensures { Sends result (W.stream out.old) (W.stream out.new) page.old.items page.new.items (fragment_objects bytes shown.now.loaded.context shown.now.loaded.connection.0 (map found_seen shown.now.found.now) order.now) }
+    ensures { Sends result (W.stream out.old) (W.stream out.new) page.old.items page.new.items (fragment_objects (bytes_shown bytes.entry) shown.now.loaded.context shown.now.loaded.connection.0 (map found_seen shown.now.found.now) order.now) }
 {
     for place in order {
         print_fragment(out, page, shown, *place, bytes)?;
@@ -145,9 +151,9 @@ fn print_fragment<W: Sink>(
     page: &mut Page,
     shown: &Supplied<'_, '_>,
     place: usize,
-    bytes: SectionBytes,
+    bytes: SectionBytes<'_>,
 ) -> Result<(), StreamFault>
-    ensures { Sends result (W.stream out.old) (W.stream out.new) page.old.items page.new.items (fragment_object shown.now.loaded.context shown.now.loaded.connection.0 place (source_of (map found_seen shown.now.found.now) place) bytes) }
+    ensures { Sends result (W.stream out.old) (W.stream out.new) page.old.items page.new.items (fragment_object shown.now.loaded.context shown.now.loaded.connection.0 place (source_of (map found_seen shown.now.found.now) place) (bytes_shown bytes.entry)) }
 {
     let loaded = &shown.loaded;
     let row = FragmentRow {

@@ -21,7 +21,7 @@ ghost use Rattle.pef_tool.specs.Check.{Judges, Texts};
 ghost use Rattle.pef_tool.specs.Distances.{IsYesToAll};
 ghost use Rattle.pef_tool.specs.declared.check.Verdict.{Verdict};
 ghost use Rattle.pef_tool.specs.Extract.{ExtractsInspected};
-ghost use Rattle.pef_tool.specs.PreparedAsLoaded.{PreparesAsLoad};
+ghost use Rattle.pef_tool.specs.PreparedAsLoaded.{FilesHoldMemory, PreparesAsLoad};
 ghost use Rattle.pef_write.specs.Linked.{CertifiedContainer, IsCertifiedLink};
 
 /// `check` accepts the certificates that `distances` prints of a script. It answers yes for the certificate of each
@@ -56,4 +56,10 @@ pub fn extracts_what_is_inspected()
 #[tactic(auto, using(crate::proofs::AsLoadLemmas::as_load))]
 pub fn prepares_as_load()
     ensures { PreparesAsLoad }
+{}
+
+/// The files that `prepare -o` writes for a fragment have the bytes of its sections, as `load` prints them.
+#[tactic(auto, using(crate::proofs::AsLoadLemmas::files_hold))]
+pub fn files_hold_memory()
+    ensures { FilesHoldMemory }
 {}

@@ -1,24 +1,24 @@
 //! Makes stubs of the libraries that the fragments of some files lack, and writes them.
-ghost use Rattle.std.specs.Prelude.{◌≡◌, ◌==◌, ◌&&◌, ◌++◌, IfErr, IfOk, Ok, OnOk, [], map, not, option_map};
-ghost use Rattle.pef_ports.specs.Ports.{Writes};
+ghost use Rattle.std.specs.Prelude.{◌≡◌, ◌++◌, IfErr, IfOk, [], map, option_map};
 ghost use Rattle.cfm_rows.specs.Symbols.{symbol_lines};
 ghost use Rattle.pef_gather.specs.Seen.{found_seen, given_seen};
 ghost use Rattle.pef_gather.specs.Stores.{supplied};
 ghost use Rattle.pef_ports.specs.Sent.{Sends};
 ghost use Rattle.pef_request.specs.Requests.{stubs_of};
 ghost use Rattle.pef_tool.specs.Answers.Answers.{Answer, IsDelivered, answer_done};
-ghost use Rattle.pef_tool.specs.WriteStubs.{AreFound, StubsAnswers, StubsGiven, StopsWriting, Unwritten, WereWritten, WritesStubs, folder_in, path_byte, path_bytes, stub_file, stub_path, values_of, written_line, written_text};
+ghost use Rattle.pef_tool.specs.WriteStubs.{AreFound, StubsAnswers, StubsGiven, WritesStubs, folder_in, stub_file, stub_written, values_of, written_line, written_text};
 ghost use Rattle.pef_tool.specs.Kept.StubFiles.{PlacesStubs, StubsFound, UnmadeStubs, file_seen};
-ghost use Rattle.pef_ports.specs.Names.{is_plain_byte};
 
 use crate::answers::{Outcome, Reply, deliver};
 use crate::gathering::{given_files, read_wanted, wanted_roots};
 use crate::prepare::gather_fault;
+use crate::writing::write_then_deliver;
+use cfm_files::{FileToWrite, stub_path};
 use cfm_rows::print_symbol_lines;
 use cfm_stubs::{Stub, StubValues, stubs};
 use pef_faults::Fault;
 use pef_gather::{Found, GivenFile, fragments_in, store_with};
-use pef_ports::{FileFault, Files, Line, Page, Piece, Sink, StreamFault, print_pieces, push_hex};
+use pef_ports::{Files, Page, Piece, Sink, StreamFault, print_pieces};
 use pef_request::{StubSymbols, StubsRequest};
 use std::alloc::{AllocError, Global};
 
@@ -168,55 +168,23 @@ fn stub_files_in<'r, 'a>(
     Ok(found)
 }
 
-/// Returns the path of a library's stub in a folder.
-fn stub_path(alloc: Global, folder: &[u8], library: &[u8]) -> Result<Vec<u8>, AllocError>
-    ensures { IfOk result (λ path. path.items ≡ stub_path folder.now library.now) }
-{
-    let mut path = Vec::from_slice(alloc, folder)?;
-    path.extend_from_slice(b"/")?;
-    push_name(&mut path, library)?;
-    path.extend_from_slice(b".pef")?;
-    Ok(path)
-}
-
-/// Appends a library's name to a path.
-fn push_name(path: &mut Vec<u8>, name: &[u8]) -> Result<(), AllocError>
-    ensures { OnOk result (path.new.items ≡ path.old.items ++ path_bytes name.now) }
-{
-    for b in name {
-        push_byte(path, *b)?;
-    }
-    Ok(())
-}
-
-/// Appends a byte of a library's name to a path: unchanged, or as `%` and two digits.
-#[tactic(auto, unfolding(crate::specs::WriteStubs::path_byte))]
-fn push_byte(path: &mut Vec<u8>, b: u8) -> Result<(), AllocError>
-    ensures { OnOk result (path.new.items ≡ path.old.items ++ path_byte b) }
-{
-    if is_path_byte(b) {
-        path.push(b)?;
-        return Ok(());
-    }
-    let mut digits = Line::new();
-    push_hex(&mut digits, &[b]);
-    path.push(b'%')?;
-    path.extend_from_slice(digits.as_slice())?;
-    Ok(())
-}
-
-/// Returns whether a byte of a library's name is the same in a path.
-fn is_path_byte(b: u8) -> bool
-    ensures { result ≡ (is_plain_byte b && not (b == 0x2F)) }
-{
-    b.is_ascii_graphic() && b != b'%' && b != b'/'
-}
-
 /// A stub with the path of its file.
 #[derive(Drop)]
 pub(crate) struct StubFile<'r, 'a> {
     path: Vec<u8>,
     stub: &'r Stub<'a>,
+}
+
+impl<'r, 'a> FileToWrite for StubFile<'r, 'a> {
+    ghost file = { λ it. stub_written (file_seen it) };
+
+    fn path(&self) -> &[u8] {
+        self.path.as_slice()
+    }
+
+    fn bytes(&self) -> &[u8] {
+        self.stub.bytes()
+    }
 }
 
 /// Writes stubs, and prints them, or why one isn't written.
@@ -225,40 +193,7 @@ fn write_stubs<F: Files, W: Sink>(files: &mut F, stubs: &[StubFile<'_, '_>], out
         × WritesStubs (record { state = F.state; reason = F.reason; was_read = F.was_read; was_written = F.was_written }) files.old files.new (map file_seen stubs.now) answer
         × IsDelivered (W.stream out.old) (W.stream out.new) answer result }
 {
-    match write_all(files, stubs) {
-        Ok(()) => deliver(out, &WrittenStubs { stubs }),
-        Err(fault) => deliver(out, &fault),
-    }
-}
-
-/// Writes stubs to their files, one after the other.
-fn write_all<'r, F: Files>(files: &mut F, stubs: &'r [StubFile<'_, '_>]) -> Result<(), Fault<'r>>
-    ensures written { OnOk result (WereWritten (record { state = F.state; reason = F.reason; was_read = F.was_read; was_written = F.was_written }) files.old files.new (map file_seen stubs.now)) }
-    ensures refused { IfErr result (λ fault. StopsWriting (record { state = F.state; reason = F.reason; was_read = F.was_read; was_written = F.was_written }) files.old files.new (map file_seen stubs.now) fault) }
-{
-    for file in stubs {
-        match write_stub(files, file) {
-            Ok(()) => {}
-            Err(fault) => return Err(fault),
-        }
-    }
-    Ok(())
-}
-
-/// Writes a stub to its file.
-fn write_stub<'r, F: Files>(files: &mut F, file: &'r StubFile<'_, '_>) -> Result<(), Fault<'r>>
-    ensures written { OnOk result (Writes (record { state = F.state; reason = F.reason; was_read = F.was_read; was_written = F.was_written }) files.old files.new (file_seen file.now).path (file_seen file.now).stub.bytes (Ok tt)) }
-    ensures refused { IfErr result (λ fault. Unwritten (record { state = F.state; reason = F.reason; was_read = F.was_read; was_written = F.was_written }) files.old files.new (file_seen file.now) fault) }
-{
-    let path = file.path.as_slice();
-    match files.write(path, file.stub.bytes()) {
-        Ok(()) => Ok(()),
-        Err(FileFault::Failed) => {
-            let reason = files.reason();
-            Err(Fault::Unwritable { path, reason })
-        }
-        Err(FileFault::OutOfMemory) => Err(Fault::OutOfMemory),
-    }
+    write_then_deliver(files, stubs, &WrittenStubs { stubs }, out)
 }
 
 /// The answer of `stubs` for those that were written.

@@ -39,5 +39,5 @@ returns g c =
     let answer = c.deliver_given.ensures.0 in
     let wanted = ap (λ (ws : List WantedFile). map wanted_seen ws) c.as_slice.ensures.value ∙ c.in-Ok.ensures in
     let given = ap (λ (gs : List GivenFile). map given_seen gs) c.as_slice-3.ensures.value ∙ c.in-Ok-given_files.ensures ∙ ap (λ (rs : List ReadFile). map read_seen rs) c.as_slice-2.ensures.value in
-    let P : List Given → Type 0 = λ gs. PreparesGiven asked gs answer in
-    (answer, prepare-done port c.args.files.now c.read_wanted.new.files asked _ _ answer wanted c.in-Ok-read_wanted.ensures.read (subst P given c.deliver_given.ensures.1), c.deliver_given.ensures.2)
+    let P : List Given → Type 0 = λ gs. PreparesGiven port c.read_wanted.new.files c.deliver_given.new.files asked gs answer in
+    (answer, prepare-done port c.args.files.now c.deliver_given.new.files c.read_wanted.new.files asked _ _ answer wanted c.in-Ok-read_wanted.ensures.read (subst P given c.deliver_given.ensures.1), c.deliver_given.ensures.2)
