@@ -31,7 +31,7 @@ is_there None is = absurd (cc)
 is_there (Some x) is = (x, refl)
 
 -- a row of a table that is whole is there
-library_there : (bytes : List ℕ) (h : LoaderHeader) (i : ℕ) → imports_from h ≤ length bytes → i < h.library_count → (e : LibraryEntry) × (library_at bytes i ≡ Some e)
+pub library_there : (bytes : List ℕ) (h : LoaderHeader) (i : ℕ) → imports_from h ≤ length bytes → i < h.library_count → (e : LibraryEntry) × (library_at bytes i ≡ Some e)
 unfolding library_at number_at
 library_there bytes h i room under = is_there (library_at bytes i) (rw (
   le-leb (library_place i + 4) (length bytes) (omega arith),
@@ -42,11 +42,11 @@ library_there bytes h i room under = is_there (library_at bytes i) (rw (
   le-leb (library_place i + 20 + 1) (length bytes) (omega arith),
 ) refl)
 
-import_there : (bytes : List ℕ) (h : LoaderHeader) (j : ℕ) → relocs_from h ≤ length bytes → j < h.import_count → (e : ImportEntry) × (import_at bytes h j ≡ Some e)
+pub import_there : (bytes : List ℕ) (h : LoaderHeader) (j : ℕ) → relocs_from h ≤ length bytes → j < h.import_count → (e : ImportEntry) × (import_at bytes h j ≡ Some e)
 unfolding import_at number_at
 import_there bytes h j room under = is_there (import_at bytes h j) (rw (le-leb (import_place h j + 4) (length bytes) (omega arith)) refl)
 
-reloc_there : (bytes : List ℕ) (h : LoaderHeader) (k : ℕ) → tables_end h ≤ length bytes → k < h.reloc_count → (e : RelocEntry) × (reloc_at bytes h k ≡ Some e)
+pub reloc_there : (bytes : List ℕ) (h : LoaderHeader) (k : ℕ) → tables_end h ≤ length bytes → k < h.reloc_count → (e : RelocEntry) × (reloc_at bytes h k ≡ Some e)
 unfolding reloc_at number_at
 reloc_there bytes h k room under = is_there (reloc_at bytes h k) (rw (
   le-leb (reloc_place h k + 2) (length bytes) (omega arith),
@@ -66,7 +66,7 @@ table_size power count bytes has some =
     by true has = leb-true _ _ has
     by false has = absurd (cc has)
 
-export_there : (bytes : List ℕ) (h : LoaderHeader) (i : ℕ) → has_exports bytes h ≡ true → i < h.export_count → (e : Entry) × (entry_of (export_table bytes h) i ≡ Some e)
+pub export_there : (bytes : List ℕ) (h : LoaderHeader) (i : ℕ) → has_exports bytes h ≡ true → i < h.export_count → (e : Entry) × (entry_of (export_table bytes h) i ≡ Some e)
 unfolding entry_of entry_at number_at
 export_there bytes h i has under =
     let t = drop h.export_hash_offset bytes in

@@ -7,3 +7,4 @@ mod MarkLemmas
 mod NameEnds
 mod PaintLemmas
 mod RangeLemmas
+mod RefusedLemmas

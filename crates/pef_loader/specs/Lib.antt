@@ -11,6 +11,7 @@ pub mod Partial
 pub mod PartialViews
 pub mod Places
 pub mod Programs
+pub mod Refused
 pub mod Reloc
 pub mod Theorems
 pub mod Views

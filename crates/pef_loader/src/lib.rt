@@ -42,4 +42,4 @@ pub use partial::{
 pub use place::{partial_place, place_in};
 pub use program_fault::ProgramFault;
 pub use tables::Loader;
-pub use theorems::{first_fault_is_reported, loaders_open};
+pub use theorems::{first_fault_is_reported, loaders_open, refusals_have_places};

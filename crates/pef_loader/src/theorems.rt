@@ -1,4 +1,5 @@
 //! Laws of all faults of a loader section. The functions do nothing.
+ghost use Rattle.pef_loader.specs.Refused.{RefusalsHavePlaces};
 ghost use Rattle.pef_loader.specs.Theorems.{FirstIsReported, OpensLoaders};
 
 /// The first of all faults of a loader section is the one that [`Loader::read`](crate::Loader::read) reports, and there is
@@ -12,4 +13,11 @@ pub fn first_fault_is_reported()
 #[tactic(auto, using(crate::proofs::FindingLemmas::whole_loader))]
 pub fn loaders_open()
     ensures { OpensLoaders }
+{}
+
+/// The place of an error of a loader section is that of what is refused: a field of its header, or of the first row of a table that
+/// breaks a rule. The number at its offset is the value of that field.
+#[tactic(auto, using(crate::proofs::RefusedLemmas::refusals_have_places))]
+pub fn refusals_have_places()
+    ensures { RefusalsHavePlaces }
 {}
