@@ -204,6 +204,8 @@ struct pef_bytes {
 #define PEF_NOTE_NAME_OUTSIDE 121
 #define PEF_NOTE_FRAGMENT_ARCHITECTURE 122
 #define PEF_NOTE_FRAGMENT_USAGE 123
+#define PEF_NOTE_TEXT_DAMAGE 124
+#define PEF_NOTE_ZERO_ROWS 125
 
 /* Only this library returns these: the caller's buffer is too small; there is no such thing; the context isn't open; a
  * fragment of an open connection was prepared without the weak library that is added; the context has as many fragments

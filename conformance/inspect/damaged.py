@@ -252,6 +252,88 @@ error 7 BadSectionKind section 3 sectionKind at 00000094
     case("loader-instantiated-and-section-5-relocated", "22 0004, 174 0005", instantiated + "error 17 BadRelocSection reloc 0 sectionIndex at 00000174")
 
 
+def importing(*words: int) -> bytes:
+    """A container without sections but the loader section, with one library of the name `n`, and imports of these words."""
+    start = 56 + 24 + 4 * len(words)
+    tables = struct.pack(">iIiIiIIIIIIIII", -1, 0, -1, 0, -1, 0, 1, len(words), 0, start, start, start + 2, 0, 0)
+    tables += struct.pack(">IIIIIBxxx", 0, 0, 0, len(words), 0, 0) + struct.pack(f">{len(words)}I", *words)
+    head = b"Joy!peffpwpc" + struct.pack(">IIIIIHHI", 1, 0, 0, 0, 0, 1, 0, 0)
+    own = struct.pack(">iIIIIIBBBB", -1, 0, 0, 0, start + 2, 68, 4, 4, 4, 0)
+    return head + own + tables + b"n\0"
+
+
+def zero_rows() -> None:
+    # The imports are from 94 on. Three of them are passed over.
+    other = 0x02000000
+    CASES.append(Case("three-zero-imports", importing(other, 0, 0, 0, other, 0, 0, 0), []))
+    CASES.append(Case("four-zero-imports", importing(other, 0, 0, 0, 0, other), [
+        "note 125 ZeroRows import 1 classAndName at 00000098 length 16"]))
+    CASES.append(Case("zero-imports-twice", importing(0, 0, 0, 0, other, 0, 0, 0, 0, 0), [
+        "note 125 ZeroRows import 0 classAndName at 00000094 length 16",
+        "note 125 ZeroRows import 5 classAndName at 000000A8 length 20"]))
+    # The libraries are from 7C on, and each has 24 bytes.
+    libraries = named_container([b"a", b"b", b"c", b"d"])
+    CASES.append(Case("one-zero-library", changed(libraries, "94" + " 00000000" * 6), []))
+    CASES.append(Case("two-zero-libraries", changed(libraries, "94" + " 00000000" * 12), [
+        "note 125 ZeroRows library 1 nameOffset at 00000094 length 48"]))
+    # The first instruction is at 18C then, and no program has it. `k` and `p` are at 1B1.
+    case("zero-relocation-headers", "174" + " 00000000" * 6, """
+note 113 UnownedBytes loader at 0000018C length 16
+note 125 ZeroRows reloc 0 sectionIndex at 00000174 length 24""")
+    case("zero-exports", "1CE" + " 00000000" * 5, """
+note 108 IrregularExports loader exportHashOffset at 0000012C
+note 113 UnownedBytes loader at 000001B1 length 3
+note 125 ZeroRows export 1 classAndName at 000001CE length 20""")
+
+
+def holding(data: bytes, name: int = -1, entry: int = -1) -> bytes:
+    """A container of a data section with these bytes, from 6C on, and of the loader section. Both have a name at this offset, and all
+    entry points are in this section."""
+    head = b"Joy!peffpwpc" + struct.pack(">IIIIIHHI", 1, 0, 0, 0, 0, 2, 1, 0)
+    one = struct.pack(">iIIIIIBBBB", name, 0, len(data), len(data), len(data), 0x6C, 1, 1, 4, 0)
+    own = struct.pack(">iIIIIIBBBB", name, 0, 0, 0, 56, 0x6C + len(data), 4, 4, 4, 0)
+    return head + one + own + bytes(12) + data + struct.pack(">iIiIiIIIIIIIII", entry, 0, entry, 0, entry, 0, 0, 0, 0, 56, 56, 56, 0, 0)
+
+
+def text_damage() -> None:
+    note = "note 124 TextDamage container at 00000000 length {}"
+    for name, data, count in (
+        ("32-returns", b"\0\r" * 32, 32),
+        ("31-returns", b"\0\r" * 31 + b"\0\0", 0),
+        ("returns-and-a-feed", b"\0\r" * 32 + b"\0\n" + bytes(14), 0),
+        ("returns-of-mac-text", b"A\r" * 64, 0),
+        ("returns-with-some-of-mac-text", b"\0\r" * 32 + b"A\r" * 32, 64),
+        ("32-feeds", b"\0\n" * 32, 32),
+        ("feeds-and-a-return", b"\0\n" * 32 + b"\0\r" + bytes(14), 0),
+        ("32-pairs", b"\0\r\n\0" * 32, 32),
+        ("31-pairs", b"\0\r\n\0" * 31 + bytes(4), 0),
+        ("pairs-and-returns", b"\0\r\n\0" * 32 + b"\0\r" * 8, 32),
+        ("pairs-and-feeds", b"\0\r\n\0" * 32 + b"\0\n" * 8, 32),
+        ("pairs-returns-and-feeds", b"\0\r\n\0" * 32 + b"\0\r\0\n" * 4, 0),
+        ("pairs-of-text", b"ab\r\n" * 32, 0),
+    ):
+        CASES.append(Case(f"text-{name}", holding(data), [note.format(count)] if count else []))
+    # The names and the entry points of this one are FFFFFFFF, before each byte loses its highest bit. It has 4A4 bytes.
+    seven_bits = bytes(byte & 0x7F for byte in holding(bytes(0x400)))
+    CASES.append(Case("text-of-seven-bits", seven_bits, f"""
+{note.format(0x4A4)}
+note 121 NameOutside section 0 nameOffset at 00000028
+note 121 NameOutside section 1 nameOffset at 00000044
+error 16 BadEntry main mainSection at 0000046C
+error 16 BadEntry init initSection at 00000474
+error 16 BadEntry term termSection at 0000047C""".strip().splitlines()))
+    # The headers of these have no byte above 7F.
+    CASES.append(Case("text-of-932-bytes", holding(bytes(0x300), 0, 0), []))
+    CASES.append(Case("text-of-1188-bytes", holding(bytes(0x400), 0, 0), [note.format(0x4A4)]))
+    for name, data, count in (
+        ("32-characters", "\u00E9".encode() * 30 + "\u2026\uF8FF".encode(), 32),
+        ("31-characters", "\u00E9".encode() * 31, 0),
+        ("characters-and-a-byte", "\u00E9".encode() * 32 + b"\x8E", 0),
+        ("characters-and-half-of-one", "\u00E9".encode() * 32 + b"\xE2\x80", 0),
+    ):
+        CASES.append(Case(f"text-{name}", holding(data + bytes(0x100 - len(data)), 0, 0), [note.format(count)] if count else []))
+
+
 def loader() -> None:
     # The rest of the loader section, and 2 zeros after it, belong to no part.
     case("loader-of-55-bytes", "8C 00000037", """
@@ -1009,5 +1091,5 @@ def loader_among(count: int, place: int) -> bytes:
     return head + other * place + own + other * (count - place - 1) + STUB[0x60:0xD2]
 
 
-for group in container_header, sections, order_of_sections, loader, exports, packed_data, programs, several, truncated, limits, other_files, file_notes:
+for group in container_header, sections, order_of_sections, zero_rows, text_damage, loader, exports, packed_data, programs, several, truncated, limits, other_files, file_notes:
     group()

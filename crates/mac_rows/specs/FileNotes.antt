@@ -16,7 +16,7 @@ use Rattle.cfm_members.specs.declared.file_kind.FileKind.TheVariants.{Container}
 use Rattle.cfm_members.specs.declared.member.Locator.{Locator}
 use Rattle.cfm_members.specs.declared.member.Locator.TheVariants as locator
 use Rattle.pef_views.specs.Partial.{partial_of}
-use Rattle.pef_report.specs.Verdict.{needed_of}
+use Rattle.pef_inspect.specs.Needs.{needed_of}
 use Rattle.mac_rows.specs.DataFiles.{DataFileIs, member_table_in}
 use Rattle.mac_rows.specs.MacParts.{MemberTableIs, PlaceIs, WrappingIs, elsewhere, lying, missing, place_of, wrapping_of}
 use Rattle.mac_rows.specs.Sums.{up_to}

@@ -15,7 +15,7 @@ use crate::wrapping::Wrapping;
 use cfm_members::{FileKind, Locator, Member, MemberFault, readable};
 use mac_forks::ForkBytes;
 use pef_format::layout::{ARCHITECTURE_AT, CONTAINER_HEADER_SIZE, POWERPC};
-use pef_report::needed;
+use pef_inspect::needed;
 use pef_words::Cut;
 use std::alloc::{AllocError, Allocator};
 

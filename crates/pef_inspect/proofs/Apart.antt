@@ -1,7 +1,7 @@
 -- What is found among the errors is an error, or the note that something wasn't verified. What is found among the notes is no
 -- error.
 use Rattle.std.proofs.Common.{◌≡◌, ℕ, zero, suc, ◌+◌, Bool, true, false, cond, List, [], ◌∷◌, ◌++◌, map, length, Option, None, Some, refl, sym, subst}
-use Rattle.std.specs.Prelude.{◌||◌, ◌-◌, ◌==◌, min, nat_lt, Result, Ok, Err}
+use Rattle.std.specs.Prelude.{◌||◌, ◌-◌, ◌*◌, ◌==◌, min, nat_lt, Result, Ok, Err}
 use Rattle.std.specs.List.{AllByRecursion}
 use Rattle.std.specs.Option.{is_none, option_and_then, option_map, option_map_or, option_to_list}
 use Rattle.pef_format.specs.declared.place.Place.{Place}
@@ -27,12 +27,14 @@ use Rattle.pef_inspect.specs.Findings.{image_finding, is_error, is_unverified, l
 use Rattle.pef_inspect.specs.Limits.{checked_within, rest_of, within}
 use Rattle.pef_inspect.specs.LoaderParts.{AreGapsOpened, loader_note}
 use Rattle.pef_inspect.specs.More.{AreMoreOpened, AreMoreWithin}
-use Rattle.pef_inspect.specs.Oddities.{behind_notes, entry_notes, export_row, header_notes, image_size, irregular_note, library_notes, library_row, loader_notes, note_at, notes_in, notes_within, opened_notes, relocation_notes, relocation_row, runs_reached, section_notes, section_row, word_note, word_outside, export_notes}
+use Rattle.pef_inspect.specs.Oddities.{behind_notes, entry_notes, export_row, header_notes, image_size, irregular_note, library_notes, library_row, loader_notes, note_at, notes_in, notes_within, opened_notes, relocation_notes, relocation_row, rows_notes, runs_reached, section_notes, section_row, word_note, word_outside, export_notes}
 use Rattle.pef_inspect.specs.Sound.{TellsApart}
 use Rattle.pef_inspect.specs.Twice.{first_again, loader_twice, twice_in, twice_note, words_at, words_before, words_cost}
+use Rattle.pef_inspect.specs.Zeros.{exports, imports, libraries, relocations, starts_zeros, zero_note, zero_notes, zero_rows, zeros_from}
 use Rattle.pef_inspect.specs.declared.finding.Finding.{Finding}
-use Rattle.pef_inspect.specs.declared.note.Note.TheVariants.{Overlap, TrailingBytes, UnownedBytes, WordOutsideImage, WordRelocatedTwice}
+use Rattle.pef_inspect.specs.declared.note.Note.TheVariants.{Overlap, TrailingBytes, UnownedBytes, WordOutsideImage, WordRelocatedTwice, ZeroRows}
 use Rattle.pef_inspect.specs.declared.limits.Limits.{Limits}
+use Rattle.pef_inspect.specs.declared.zeros.Table.{Table}
 
 -- a property of each finding of some lists
 module _ (P : Finding → Type 0) where
@@ -168,13 +170,30 @@ module _ (limits : Limits) (c : Contained) where
   note-irregular true = (refl, tt)
   note-irregular false = tt
 
+  note-zero-rows : (t : Table) → AreNotes (zero_rows c t)
+  note-zero-rows t = each-among IsNote (λ i. option_to_list (zero_note c t i)) 0 t.count (λ i. by i (starts_zeros c t i) (nat_lt (zeros_from c t i (t.count - i)) t.least))
+    where
+      by : (i : ℕ) (b enough : Bool) → AreNotes (option_to_list (cond b (cond enough None (Some (note_finding (ZeroRows (t.size * zeros_from c t i (t.count - i))) (place_of c t.kind i 0)))) None))
+      by i true true = tt
+      by i true false = (refl, tt)
+      by i false enough = tt
+
+  note-zeros : (l : Loaded) → AreNotes (zero_notes c l)
+  unfolding zero_notes
+  note-zeros l =
+      all-append IsNote (zero_rows c (libraries l)) (zero_rows c (imports l) ++ (zero_rows c (relocations l) ++ zero_rows c (exports l))) (note-zero-rows (libraries l))
+      (all-append IsNote (zero_rows c (imports l)) (zero_rows c (relocations l) ++ zero_rows c (exports l)) (note-zero-rows (imports l))
+      (all-append IsNote (zero_rows c (relocations l)) (zero_rows c (exports l)) (note-zero-rows (relocations l)) (note-zero-rows (exports l))))
+
   note-behind : (r : Result Loaded LoaderFault) (irregular : Bool) → AreNotes (behind_notes limits c r irregular)
-  note-behind (Ok l) irregular = all-append IsNote (loader_notes limits c l) (irregular_note c irregular) (note-loader l) (note-irregular irregular)
+  note-behind (Ok l) irregular = all-append IsNote (rows_notes limits c l) (irregular_note c irregular)
+      (all-append IsNote (loader_notes limits c l) (zero_notes c l) (note-loader l) (note-zeros l))
+      (note-irregular irregular)
   note-behind (Err f) irregular = tt
 
   note-in : (irregular : Bool) → AreNotes (notes_in limits c irregular)
   note-in irregular =
-      all-append IsNote (all_met (header_notes c)) (all_among (section_row c) 0 c.header.section_count ++ behind_notes limits c (loader.partial_of (views.sections_allowed c) c.loader) irregular) (each-met IsNote (header_notes c) (refl, (refl, (refl, (refl, tt)))))
+      all-append IsNote (all_met (header_notes c)) (all_among (section_row c) 0 c.header.section_count ++ behind_notes limits c (loader.partial_of (views.sections_allowed c) c.loader) irregular) (each-met IsNote (header_notes c) (refl, (refl, (refl, (refl, (refl, tt))))))
       (all-append IsNote (all_among (section_row c) 0 c.header.section_count) (behind_notes limits c (loader.partial_of (views.sections_allowed c) c.loader) irregular) (each-among IsNote (section_row c) 0 c.header.section_count (λ i. each-or IsNote (λ s. all_met (section_notes c i s)) (views.header_in c i) (λ s. each-met IsNote (section_notes c i s) (refl, (refl, (refl, (refl, tt)))))))
       (note-behind (loader.partial_of (views.sections_allowed c) c.loader) irregular))
 

@@ -9,3 +9,4 @@ mod Seeing
 mod Soundness
 mod Taking
 mod Within
+mod ZeroLemmas

@@ -6,7 +6,7 @@ use Rattle.pef_inspect.specs.declared.detail.Detail.TheVariants as detail
 use Rattle.pef_inspect.specs.declared.finding.Cause.{Cause}
 use Rattle.pef_inspect.specs.declared.finding.Cause.TheVariants as cause
 use Rattle.pef_inspect.specs.declared.note.Note.{Note}
-use Rattle.pef_inspect.specs.declared.note.Note.TheVariants.{ReservedNotZero, UnknownKind, UnknownShare, VersionBelowOldest, EntryOutside, ExportOutside, WordOutsideImage, IrregularExports, TrailingBytes, ProgramsUnverified, ImagesUnverified, Overlap, UnownedBytes, WordRelocatedTwice, SectionsOutOfOrder, NameOutside}
+use Rattle.pef_inspect.specs.declared.note.Note.TheVariants.{ReservedNotZero, UnknownKind, UnknownShare, VersionBelowOldest, EntryOutside, ExportOutside, WordOutsideImage, IrregularExports, TrailingBytes, ProgramsUnverified, ImagesUnverified, Overlap, UnownedBytes, WordRelocatedTwice, SectionsOutOfOrder, NameOutside, TextDamage, ZeroRows}
 
 -- the number that a note has beside its place: the offset of a word in its section, or a count of bytes or of sections
 abbrev pub note_detail : Note → Detail
@@ -15,6 +15,8 @@ note_detail (WordRelocatedTwice word) = detail.Word word
 note_detail (TrailingBytes len) = detail.Length len
 note_detail (Overlap len) = detail.Length len
 note_detail (UnownedBytes len) = detail.Length len
+note_detail (TextDamage count) = detail.Length count
+note_detail (ZeroRows len) = detail.Length len
 note_detail (SectionsOutOfOrder sections) = detail.Sections sections
 note_detail ReservedNotZero = detail.None
 note_detail UnknownKind = detail.None

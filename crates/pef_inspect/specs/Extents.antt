@@ -16,6 +16,7 @@ use Rattle.pef_words.specs.Findings.{all_among}
 use Rattle.pef_words.specs.Refusals.{◌>>=◌}
 use Rattle.pef_inspect.specs.Findings.{note_finding, whole_place}
 use Rattle.pef_inspect.specs.Oddities.{name_begins, note_at}
+use Rattle.pef_inspect.specs.Zeros.{are_zero}
 use Rattle.pef_inspect.specs.declared.finding.Finding.{Finding}
 use Rattle.pef_inspect.specs.declared.note.Note.TheVariants.{Overlap, TrailingBytes, UnownedBytes}
 
@@ -79,10 +80,6 @@ greatest_end [] = 0
 greatest_end (e ∷ extents) = max e.2 (greatest_end extents)
 
 -- bytes that only align the part after them
-abbrev pub are_zero : List ℕ → Bool
-are_zero [] = true
-are_zero (b ∷ bytes) = b == 0 && are_zero bytes
-
 abbrev pub is_padding : List ℕ → Bool
 is_padding bytes = nat_lt (length bytes) 16 && are_zero bytes
 

@@ -8,6 +8,7 @@ pub mod Kept
 pub mod Left
 pub mod Limits
 pub mod More
+pub mod Needs
 pub mod Notes
 pub mod Runs
 pub mod LoaderParts
@@ -16,4 +17,6 @@ pub mod Oddities
 pub mod PartsSeen
 pub mod Shown
 pub mod Sound
+pub mod Text
 pub mod Twice
+pub mod Zeros

@@ -1,7 +1,7 @@
 -- The numbers and the names of notes, which are this project's own.
 use Rattle.std.specs.Prelude.{ℕ, List, codes}
 use Rattle.pef_inspect.specs.declared.note.Note.{Note}
-use Rattle.pef_inspect.specs.declared.note.Note.TheVariants.{ReservedNotZero, UnknownKind, UnknownShare, VersionBelowOldest, EntryOutside, ExportOutside, WordOutsideImage, IrregularExports, TrailingBytes, ProgramsUnverified, ImagesUnverified, Overlap, UnownedBytes, WordRelocatedTwice, SectionsOutOfOrder, NameOutside}
+use Rattle.pef_inspect.specs.declared.note.Note.TheVariants.{ReservedNotZero, UnknownKind, UnknownShare, VersionBelowOldest, EntryOutside, ExportOutside, WordOutsideImage, IrregularExports, TrailingBytes, ProgramsUnverified, ImagesUnverified, Overlap, UnownedBytes, WordRelocatedTwice, SectionsOutOfOrder, NameOutside, TextDamage, ZeroRows}
 
 abbrev pub note_number : Note → ℕ
 note_number ReservedNotZero = 101
@@ -20,6 +20,8 @@ note_number (UnownedBytes len) = 113
 note_number (WordRelocatedTwice word) = 114
 note_number (SectionsOutOfOrder sections) = 116
 note_number NameOutside = 121
+note_number (TextDamage count) = 124
+note_number (ZeroRows len) = 125
 
 abbrev pub note_name : Note → List ℕ
 note_name ReservedNotZero = codes "ReservedNotZero"
@@ -38,3 +40,5 @@ note_name (UnownedBytes len) = codes "UnownedBytes"
 note_name (WordRelocatedTwice word) = codes "WordRelocatedTwice"
 note_name (SectionsOutOfOrder sections) = codes "SectionsOutOfOrder"
 note_name NameOutside = codes "NameOutside"
+note_name (TextDamage count) = codes "TextDamage"
+note_name (ZeroRows len) = codes "ZeroRows"

@@ -32,9 +32,12 @@ use Rattle.pef_reloc.specs.declared.verifying.Sizes.{Sizes}
 use Rattle.pef_inspect.specs.Errors.{programs_reached, run_cost, run_at}
 use Rattle.pef_inspect.specs.Findings.{note_finding}
 use Rattle.pef_inspect.specs.Limits.{container_limits, within}
+use Rattle.pef_inspect.specs.Needs.{own_bytes}
+use Rattle.pef_inspect.specs.Text.{text_signs}
+use Rattle.pef_inspect.specs.Zeros.{zero_notes}
 use Rattle.pef_inspect.specs.declared.limits.Limits.{Limits}
 use Rattle.pef_inspect.specs.declared.note.Note.{Note}
-use Rattle.pef_inspect.specs.declared.note.Note.TheVariants.{ReservedNotZero, UnknownKind, UnknownShare, VersionBelowOldest, EntryOutside, ExportOutside, WordOutsideImage, IrregularExports, SectionsOutOfOrder, NameOutside}
+use Rattle.pef_inspect.specs.declared.note.Note.TheVariants.{ReservedNotZero, UnknownKind, UnknownShare, VersionBelowOldest, EntryOutside, ExportOutside, WordOutsideImage, IrregularExports, SectionsOutOfOrder, NameOutside, TextDamage}
 use Rattle.pef_inspect.specs.declared.finding.Finding.{Finding}
 
 -- a note at a field of a part
@@ -53,9 +56,10 @@ instantiable_among c from (suc n) = instantiable_at c from + instantiable_among 
 abbrev pub instantiable_sections : Contained → ℕ
 instantiable_sections c = instantiable_among c 0 c.header.section_count
 
--- the tests of a container header: both oldest versions, the order of the sections, and the reserved field
+-- the tests of a container header: whether the container seems to have been changed as text is, both oldest versions, the order of the sections, and the reserved field
 abbrev pub header_notes : Contained → List (Bool × Finding)
-header_notes c = (nat_lt c.header.current_version c.header.old_def_version, note_at c VersionBelowOldest part.Header 0 20)
+header_notes c = (nat_lt 0 (text_signs (own_bytes c)), note_at c (TextDamage (text_signs (own_bytes c))) part.Header 0 0)
+    ∷ (nat_lt c.header.current_version c.header.old_def_version, note_at c VersionBelowOldest part.Header 0 20)
     ∷ (nat_lt c.header.current_version c.header.old_imp_version, note_at c VersionBelowOldest part.Header 0 24)
     ∷ (views.is_out_of_order c, note_at c (SectionsOutOfOrder (instantiable_sections c)) part.Header 0 34)
     ∷ (not (c.header.reserved == 0), note_at c ReservedNotZero part.Header 0 36)
@@ -158,7 +162,7 @@ word_note c l k = option_and_then (λ image. option_and_then (λ run. option_map
 abbrev pub runs_reached : Limits → Contained → Loaded → ℕ
 runs_reached limits c l = within (run_cost c l) limits.steps 0 (programs_reached limits l)
 
--- the notes on a loader section, without that on irregular exports
+-- the notes on the rows of a loader section and on its programs
 abbrev pub loader_notes : Limits → Contained → Loaded → List Finding
 loader_notes limits c l = all_among (library_row c l) 0 (rows_in l (library_place 0) 24 l.header.library_count)
     ++ (all_met (entry_notes c l)
@@ -166,12 +170,16 @@ loader_notes limits c l = all_among (library_row c l) 0 (rows_in l (library_plac
     ++ (all_among (export_row c l) 0 (exports_in l)
     ++ all_among (λ k. option_to_list (word_note c l k)) 0 (runs_reached limits c l))))
 
+-- .. and those on zero rows
+abbrev pub rows_notes : Limits → Contained → Loaded → List Finding
+rows_notes limits c l = loader_notes limits c l ++ zero_notes c l
+
 -- the note on exports that aren't searched by their hash words
 abbrev pub irregular_note : Contained → Bool → List Finding
 irregular_note c irregular = if irregular then note_at c IrregularExports part.LoaderHeader 0 44 ∷ [] else []
 
 abbrev pub behind_notes : Limits → Contained → Result Loaded LoaderFault → Bool → List Finding
-behind_notes limits c (Ok l) irregular = loader_notes limits c l ++ irregular_note c irregular
+behind_notes limits c (Ok l) irregular = rows_notes limits c l ++ irregular_note c irregular
 behind_notes limits c (Err f) irregular = []
 
 -- the notes on a container

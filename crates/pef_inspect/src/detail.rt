@@ -57,8 +57,11 @@ fn note_detail(note: Note) -> Detail
 {
     match note {
         Note::WordOutsideImage { word } | Note::WordRelocatedTwice { word } => Detail::Word(word),
-        Note::TrailingBytes { length } | Note::Overlap { length } | Note::UnownedBytes { length } =>
-            { Detail::Length(length as u64) }
+        Note::TrailingBytes { length }
+        | Note::Overlap { length }
+        | Note::UnownedBytes { length }
+        | Note::TextDamage { count: length }
+        | Note::ZeroRows { length } => Detail::Length(length as u64),
         Note::SectionsOutOfOrder { sections } => Detail::Sections(u64::from(sections)),
         Note::ReservedNotZero
         | Note::UnknownKind

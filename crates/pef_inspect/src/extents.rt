@@ -2,11 +2,12 @@ ghost use Rattle.std.specs.Prelude.{◌≡◌, ◌++◌, ◌∷◌, ◌-◌, ℕ
 ghost use Rattle.std.specs.Option.{option_to_list};
 ghost use Rattle.pef_views.specs.PartialViews.{partly};
 ghost use Rattle.pef_inspect.specs.declared.finding.Finding.{Finding};
-ghost use Rattle.pef_inspect.specs.Extents.{AddsExtents, AreParts, Extent, are_zero, extent_in, extents_of, gap_note, greatest_end, head_extent, is_padding, last_name, later, name_end, name_offset, names_end, overlap_note, part_note, parts_notes, raw_end, section_extent, trailing_note};
+ghost use Rattle.pef_inspect.specs.Extents.{AddsExtents, AreParts, Extent, extent_in, extents_of, gap_note, greatest_end, head_extent, is_padding, last_name, later, name_end, name_offset, names_end, overlap_note, part_note, parts_notes, raw_end, section_extent, trailing_note};
 
 use crate::finding::{Finding, whole_place};
 use crate::note::Note;
 use crate::notes::name_begins;
+use crate::zeros::are_zero;
 use pef_format::layout::CONTAINER_OFFSET_AT;
 use pef_format::{Part, Place};
 use pef_loader::partial_place;
@@ -160,18 +161,6 @@ fn is_padding(bytes: &[u8]) -> bool
     ensures { result ≡ is_padding bytes.now }
 {
     bytes.len() < ALIGNED && are_zero(bytes)
-}
-
-/// Returns whether all bytes are 0.
-fn are_zero(bytes: &[u8]) -> bool
-    ensures { result ≡ are_zero bytes.now }
-{
-    for byte in bytes {
-        if *byte != 0 {
-            return false;
-        }
-    }
-    true
 }
 
 /// Returns the parts that have bytes in a container.

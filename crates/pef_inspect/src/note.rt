@@ -39,6 +39,11 @@ pub enum Note {
     SectionsOutOfOrder { sections: u32 },
     /// The nameOffset of a section is neither -1 nor the offset of a byte of the container.
     NameOutside,
+    /// The ends of lines or the characters in the container were changed as those of text are. `count` of them say so.
+    TextDamage { count: usize },
+    /// Rows of a table of the loader section that follow each other are zero bytes, `length` bytes together. The place is that of the
+    /// first one.
+    ZeroRows { length: usize },
 }
 
 impl Note {
@@ -63,6 +68,8 @@ impl Note {
             Note::WordRelocatedTwice { .. } => 114,
             Note::SectionsOutOfOrder { .. } => 116,
             Note::NameOutside => 121,
+            Note::TextDamage { .. } => 124,
+            Note::ZeroRows { .. } => 125,
         }
     }
 
@@ -87,6 +94,8 @@ impl Note {
             Note::WordRelocatedTwice { .. } => "WordRelocatedTwice",
             Note::SectionsOutOfOrder { .. } => "SectionsOutOfOrder",
             Note::NameOutside => "NameOutside",
+            Note::TextDamage { .. } => "TextDamage",
+            Note::ZeroRows { .. } => "ZeroRows",
         }
     }
 }

@@ -4,15 +4,18 @@ ghost use Rattle.pef_words.specs.Findings.{all_met};
 ghost use Rattle.pef_views.specs.Partial.{sections_allowed};
 ghost use Rattle.pef_views.specs.PartialViews.{partly};
 ghost use Rattle.pef_loader.specs.PartialViews.{export_seen, partly_loaded};
-ghost use Rattle.pef_inspect.specs.Oddities.{Adds, HasIrregularExports, IrregularContainer, behind_notes, entry_notes, export_notes, header_notes, image_size, instantiable_at, instantiable_sections, irregular_note, library_notes, is_past, is_past_entry, is_name_outside, is_past_value, is_unknown_kind, is_unknown_share, loader_notes, name_begins, note_at, notes_in, notes_of, notes_within, section_notes, word_inside, word_note, word_outside};
+ghost use Rattle.pef_inspect.specs.Oddities.{Adds, HasIrregularExports, IrregularContainer, behind_notes, entry_notes, export_notes, header_notes, image_size, instantiable_at, instantiable_sections, irregular_note, library_notes, is_past, is_past_entry, is_name_outside, is_past_value, is_unknown_kind, is_unknown_share, loader_notes, name_begins, note_at, notes_in, notes_of, notes_within, rows_notes, section_notes, word_inside, word_note, word_outside};
 ghost use Rattle.pef_inspect.specs.Runs.{run_seen};
 ghost use Rattle.pef_loader.specs.Partial.{partial_of};
 
 use crate::finding::Finding;
 use crate::limits::Limits;
+use crate::needs::own_bytes;
 use crate::note::Note;
 use crate::runs::{Run, runs_within};
 use crate::sink::{Findings, Rows, take_met, take_rows, take_some};
+use crate::text::text_signs;
+use crate::zeros::find_zero_rows;
 use pef_format::layout::{
     CONTAINER_RESERVED_AT, EXPORT_HASH_OFFSET_AT, EXPORT_VALUE_AT, INSTANTIATED_SECTION_COUNT_AT,
     LIBRARY_OLD_IMP_VERSION_AT, LIBRARY_RESERVED_AT, MAIN_OFFSET_AT, NAME_OFFSET_AT,
@@ -81,7 +84,7 @@ fn find_behind<S: Findings>(
 {
     match PartialLoader::read(container) {
         Ok(loader) => {
-            find_in_loader(container, &loader, limits, sink)?;
+            find_in_rows(container, &loader, limits, sink)?;
             let irregular = loader.is_irregular();
             take_some(irregular_note(container, irregular), sink)?;
             Ok(())
@@ -90,7 +93,22 @@ fn find_behind<S: Findings>(
     }
 }
 
-/// Hands the notes on a loader section with a header to a sink, without that on irregular exports.
+/// Hands the notes on a loader section with a header to a sink, and those on zero rows, without that on irregular exports.
+fn find_in_rows<S: Findings>(
+    container: &PartialContainer<'_>,
+    loader: &PartialLoader<'_>,
+    limits: Limits,
+    sink: &mut S,
+) -> Result<(), S::Error>
+    requires { partly loader.now.container ≡ partly container.now }
+    ensures { OnOk result (S.taken sink.new ≡ S.taken sink.old ++ rows_notes limits (partly container.now) (partly_loaded loader.now)) }
+{
+    find_in_loader(container, loader, limits, sink)?;
+    find_zero_rows(container, loader, sink)?;
+    Ok(())
+}
+
+/// Hands the notes on the rows of a loader section with a header, and on its programs, to a sink.
 fn find_in_loader<S: Findings>(
     container: &PartialContainer<'_>,
     loader: &PartialLoader<'_>,
@@ -112,7 +130,7 @@ fn find_in_loader<S: Findings>(
 }
 
 /// Returns a note at a field of a part.
-fn note_at(
+pub(crate) fn note_at(
     container: &PartialContainer<'_>,
     note: Note,
     part: Part,
@@ -142,11 +160,16 @@ fn irregular_note(container: &PartialContainer<'_>, irregular: bool) -> Option<F
 }
 
 /// Returns the tests of a container header.
-fn header_notes(container: &PartialContainer<'_>) -> [(bool, Finding); 4]
+fn header_notes(container: &PartialContainer<'_>) -> [(bool, Finding); 5]
     ensures { result ≡ header_notes (partly container.now) }
 {
     let header = container.header();
+    let count = text_signs(own_bytes(container));
     [
+        (
+            count > 0,
+            note_at(container, Note::TextDamage { count }, Part::Header, 0, 0),
+        ),
         (
             header.old_def_version > header.current_version,
             note_at(

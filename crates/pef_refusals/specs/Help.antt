@@ -151,6 +151,8 @@ note_help number =
     else if number == 121 then Some (codes "nameOffset is neither -1, which says that there is no name, nor the offset of a byte of the container. The section header may be damaged.")
     else if number == 122 then Some (codes "The architecture of a member of the table of fragments isn't that of its container, or is none that there is. The member may be damaged.")
     else if number == 123 then Some (codes "A member of the table of fragments has a usage that the format doesn't name. It may be damaged.")
+    else if number == 124 then Some (codes "The container was probably changed as text is: its line ends, or its characters. Transfer the file again, as binary.")
+    else if number == 125 then Some (codes "Rows of a table that follow each other are zero bytes. The file may have lost them. Get it again.")
     else None
 
 -- an answer that only this library gives

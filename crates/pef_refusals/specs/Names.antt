@@ -151,6 +151,8 @@ note_name number =
     else if number == 121 then Some (codes "NameOutside")
     else if number == 122 then Some (codes "FragmentArchitecture")
     else if number == 123 then Some (codes "FragmentUsage")
+    else if number == 124 then Some (codes "TextDamage")
+    else if number == 125 then Some (codes "ZeroRows")
     else None
 
 -- an answer that only this library gives

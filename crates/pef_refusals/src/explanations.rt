@@ -399,6 +399,12 @@ fn note_help(number: u32) -> Option<&'static str>
         123 => Some(
             "A member of the table of fragments has a usage that the format doesn't name. It may be damaged.",
         ),
+        124 => Some(
+            "The container was probably changed as text is: its line ends, or its characters. Transfer the file again, as binary.",
+        ),
+        125 => Some(
+            "Rows of a table that follow each other are zero bytes. The file may have lost them. Get it again.",
+        ),
         _ => None,
     }
 }

@@ -213,6 +213,8 @@ fn note_name(number: u32) -> Option<&'static str>
         121 => Some("NameOutside"),
         122 => Some("FragmentArchitecture"),
         123 => Some("FragmentUsage"),
+        124 => Some("TextDamage"),
+        125 => Some("ZeroRows"),
         _ => None,
     }
 }

@@ -1,15 +1,13 @@
 -- The verdict on a container: its state, and which of its parts are whole (this project's own).
-use Rattle.std.specs.Prelude.{ℕ, ◌+◌, ◌==◌, ◌&&◌, ◌||◌, Bool, true, false, List, [], ◌∷◌, ◌++◌, not, Option, None, Some, Result, Ok, Err, codes, decimal, length, max, nat_le, nat_lt, take, if◌then◌else◌}
+use Rattle.std.specs.Prelude.{ℕ, ◌+◌, ◌==◌, ◌&&◌, ◌||◌, Bool, true, false, List, [], ◌∷◌, ◌++◌, not, Option, None, Some, Result, Ok, Err, codes, decimal, length, nat_lt, if◌then◌else◌}
 use Rattle.pef_format.specs.declared.place.Part.{Part}
 use Rattle.pef_format.specs.declared.place.Part.TheVariants as part
 use Rattle.pef_inspect.specs.Findings.{finding_number, is_error}
+use Rattle.pef_inspect.specs.Needs.{needed_of}
 use Rattle.pef_inspect.specs.declared.finding.Finding.{Finding}
 use Rattle.pef_views.specs.Container.{Contained}
-use Rattle.pef_views.specs.Extents.{greatest}
-use Rattle.pef_views.specs.Header.{names_from}
-use Rattle.pef_views.specs.Partial.{header_in, partial_of}
+use Rattle.pef_views.specs.Partial.{partial_of}
 use Rattle.pef_views.specs.declared.fault.ViewFault.{ViewFault}
-use Rattle.pef_views.specs.declared.section.SectionHeader.{SectionHeader}
 use Rattle.pef_rows.specs.Findings.{shown}
 use Rattle.pef_rows.specs.Tokens.{truth}
 use Rattle.pef_report.specs.declared.verdict.Group.{Group}
@@ -17,20 +15,6 @@ use Rattle.pef_report.specs.declared.verdict.Group.TheVariants as group
 use Rattle.pef_report.specs.declared.verdict.State.{State}
 use Rattle.pef_report.specs.declared.verdict.State.TheVariants as state
 use Rattle.pef_report.specs.declared.verdict.Verdict.{Verdict}
-
--- where the raw bytes of a section end; 0 if there are none
-abbrev pub section_end : Option SectionHeader → ℕ
-section_end None = 0
-section_end (Some s) = if s.packed_size == 0 then 0 else s.container_offset + s.packed_size
-
--- how many bytes the headers and the raw bytes of the first sections need
-abbrev pub needed_by : Contained → ℕ
-needed_by c = max (names_from c.header) (greatest (λ i. section_end (header_in c i)) 0 c.header.section_count)
-
--- without a header, the 40 bytes of one
-abbrev pub needed_of : Result Contained ViewFault → ℕ
-needed_of (Ok c) = needed_by c
-needed_of (Err fault) = 40
 
 -- an error with a number at a part is about parts of a container. Without a loader section, and with a loader header or tables
 -- that are cut, nothing is known of what is in it. But the loader section is read if it is there and counts as instantiated. The
@@ -112,19 +96,7 @@ state_of architecture is_cut findings =
     else if is_cut then state.Cut
     else sound_state architecture findings
 
--- how often a byte comes
-abbrev pub count_of : ℕ → List ℕ → ℕ
-count_of b [] = 0
-count_of b (x ∷ bytes) = if x == b then 1 + count_of b bytes else count_of b bytes
-
--- a transfer as text makes each line feed a carriage return, or the other way: in the first 65,536 bytes, one of the two comes
--- 16 times, and the other never
-abbrev pub lacks_one : ℕ → ℕ → Bool
-lacks_one feeds returns = (feeds == 0 && nat_le 16 returns) || (returns == 0 && nat_le 16 feeds)
-
-abbrev pub is_as_text : List ℕ → Bool
-is_as_text bytes = lacks_one (count_of 0x0A (take 65536 bytes)) (count_of 0x0D (take 65536 bytes))
-
+-- the state, the parts that are whole, and whether the container seems to have been changed as text is (note 124)
 unfoldable pub verdict_of : List ℕ → List Finding → Verdict
 verdict_of bytes findings = record {
   needs = needed_of (partial_of bytes);
@@ -134,7 +106,7 @@ verdict_of bytes findings = record {
   imports = is_damaged group.Imports (has_number 116 findings) findings;
   exports = is_damaged group.Exports (has_number 116 findings) findings;
   relocations = is_damaged group.Relocations (has_number 116 findings) findings;
-  as_text = is_damaged group.Any true findings && is_as_text bytes;
+  as_text = has_number 124 findings;
 }
 
 abbrev pub state_word : State → List ℕ

@@ -17,4 +17,3 @@ pub use theorems::{
     each_finding_is_in_its_place, each_finding_is_printed_once, inspections_are_right, rows_join,
     verdicts_are_right,
 };
-pub use verdict::needed;

@@ -1,28 +1,19 @@
 //! The verdict on a container: its state, and which of its parts are whole.
-ghost use Rattle.std.specs.Prelude.{◌≡◌, ◌≤◌, length};
+ghost use Rattle.std.specs.Prelude.{◌≡◌};
 ghost use Rattle.pef_ports.specs.Sent.{Sends};
 ghost use Rattle.pef_views.specs.Partial.{partial_of};
-ghost use Rattle.pef_views.specs.PartialViews.{partly};
-ghost use Rattle.pef_report.specs.Verdict.{architecture_of, count_of, damages, error_state, has_number, has_other, is_about, is_as_text, is_damaged, is_m68k, is_other, is_stub, is_unlikely, lacks_one, needed_by, needed_of, part_state, section_end, sound_state, state_of, state_word, verdict_line, verdict_object, verdict_of};
+ghost use Rattle.pef_report.specs.Verdict.{architecture_of, damages, error_state, has_number, has_other, is_about, is_damaged, is_m68k, is_other, is_stub, is_unlikely, part_state, sound_state, state_of, state_word, verdict_line, verdict_object, verdict_of};
 
 use pef_format::Part;
-use pef_format::layout::CONTAINER_HEADER_SIZE;
-use pef_inspect::Finding;
+use pef_inspect::{Finding, needed};
 use pef_ports::{Page, Sink, StreamFault};
 use pef_rows::{Token, print_tokens, text_if, truth};
-use pef_views::{PartialContainer, SectionHeader};
-
-/// If one of CR and LF comes this often and the other one never, the container was probably transferred as text.
-const MANY: usize = 16;
-
-/// How many bytes of a container are searched for CR and LF. Its bytes reach to the end of the file, so without a limit the end of
-/// a file would be searched again for each container in it.
-const COUNTED: usize = 65_536;
+use pef_views::PartialContainer;
 
 /// The architecture of CFM-68K, `m68k`.
 const M68K: u32 = 0x6D36_386B;
 
-/// The numbers of the errors and of the note that states depend on.
+/// The numbers of the errors and notes that a verdict depends on.
 const BAD_ARCHITECTURE: u32 = 3;
 
 const BAD_FORMAT_VERSION: u32 = 4;
@@ -32,6 +23,8 @@ const BAD_SECTION_KIND: u32 = 7;
 const NO_LOADER: u32 = 10;
 
 const SECTIONS_OUT_OF_ORDER: u32 = 116;
+
+const TEXT_DAMAGE: u32 = 124;
 
 /// The state of a container. The first that it is in counts.
 #[derive(Clone, Copy, Debug, PartialEq, Eq)]
@@ -61,7 +54,7 @@ pub(crate) struct Verdict {
     pub imports: bool,
     pub exports: bool,
     pub relocations: bool,
-    /// Whether it was probably transferred as text.
+    /// Whether it was probably changed as text is.
     pub as_text: bool,
 }
 
@@ -92,7 +85,7 @@ impl Verdict {
             imports: is_damaged(Group::Imports, is_read, findings),
             exports: is_damaged(Group::Exports, is_read, findings),
             relocations: is_damaged(Group::Relocations, is_read, findings),
-            as_text: is_damaged(Group::Any, true, findings) && is_as_text(bytes),
+            as_text: has_number(TEXT_DAMAGE, findings),
         }
     }
 
@@ -157,43 +150,6 @@ impl Verdict {
                 Token::Text(b"}}"),
             ],
         )
-    }
-}
-
-/// Returns how many bytes the headers and the sections of the container that begins some bytes need.
-pub fn needed(bytes: &[u8]) -> u64
-    ensures { result ≡ needed_of (partial_of bytes.now) }
-{
-    match PartialContainer::read(bytes) {
-        Ok(container) => needed_by(&container),
-        Err(_) => CONTAINER_HEADER_SIZE as u64,
-    }
-}
-
-/// Returns how many bytes the headers and the raw bytes of the first sections need.
-fn needed_by(container: &PartialContainer<'_>) -> u64
-    ensures { result ≡ needed_by (partly container.now) }
-{
-    let mut end = container.names_start() as u64;
-    for i in 0..container.header().section_count {
-        end = end.max(section_end(container.section(usize::from(i))));
-    }
-    end
-}
-
-/// Returns where the raw bytes of a section end, or 0 if it has none.
-fn section_end(section: Option<SectionHeader>) -> u64
-    ensures { result ≡ section_end section }
-{
-    match section {
-        Some(section) => {
-            if section.packed_size == 0 {
-                0
-            } else {
-                u64::from(section.container_offset) + u64::from(section.packed_size)
-            }
-        }
-        None => 0,
     }
 }
 
@@ -351,35 +307,6 @@ fn is_about(which: Group, is_read: bool, number: u32, part: Part) -> bool
             _ => false,
         },
     }
-}
-
-/// Returns whether some bytes were probably transferred as text.
-fn is_as_text(bytes: &[u8]) -> bool
-    ensures { result ≡ is_as_text bytes.now }
-{
-    let (counted, _) = bytes.split_at(COUNTED.min(bytes.len()));
-    lacks_one(count_of(b'\n', counted), count_of(b'\r', counted))
-}
-
-/// Returns whether one of two bytes never comes, and the other one often.
-fn lacks_one(feeds: usize, returns: usize) -> bool
-    ensures { result ≡ lacks_one feeds returns }
-{
-    feeds == 0 && returns >= MANY || returns == 0 && feeds >= MANY
-}
-
-/// Returns how often a byte comes.
-fn count_of(byte: u8, bytes: &[u8]) -> usize
-    ensures value { result ≡ count_of byte bytes.now }
-    ensures small { result ≤ length bytes.now }
-{
-    let mut count = 0;
-    for b in bytes {
-        if *b == byte {
-            count += 1;
-        }
-    }
-    count
 }
 
 /// Returns the word for the state of a container.

@@ -15,7 +15,7 @@ shown is_shown text = if is_shown then text else []
 
 -- an error or a note about a container as a whole, or about bytes of it, and about no field
 abbrev pub is_whole : ℕ → Bool
-is_whole number = number == 1 || number == 10 || number == 109 || number == 113
+is_whole number = number == 1 || number == 10 || number == 109 || number == 113 || number == 124
 
 -- the first word of the line of a part
 abbrev pub part_word : Part → List ℕ

@@ -84,7 +84,7 @@ pub fn print_finding_object<W: Sink>(
 fn is_whole(number: u32) -> bool
     ensures { result ≡ is_whole number }
 {
-    matches!(number, 1 | 10 | 109 | 113)
+    matches!(number, 1 | 10 | 109 | 113 | 124)
 }
 
 /// Returns the first word of the line of a part.

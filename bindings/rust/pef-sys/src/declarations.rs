@@ -237,6 +237,10 @@ pub const PEF_NOTE_FRAGMENT_ARCHITECTURE: u32 = 122;
 
 pub const PEF_NOTE_FRAGMENT_USAGE: u32 = 123;
 
+pub const PEF_NOTE_TEXT_DAMAGE: u32 = 124;
+
+pub const PEF_NOTE_ZERO_ROWS: u32 = 125;
+
 // Only this library returns these: the caller's buffer is too small; there is no such thing; the context isn't open; a
 // fragment of an open connection was prepared without the weak library that is added; the context has as many fragments
 // as it may; the granule is none; the options have another size; the fragment is present; a fragment of an open

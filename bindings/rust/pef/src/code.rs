@@ -192,6 +192,8 @@ codes! {
     NoteNameOutside = PEF_NOTE_NAME_OUTSIDE,
     NoteFragmentArchitecture = PEF_NOTE_FRAGMENT_ARCHITECTURE,
     NoteFragmentUsage = PEF_NOTE_FRAGMENT_USAGE,
+    NoteTextDamage = PEF_NOTE_TEXT_DAMAGE,
+    NoteZeroRows = PEF_NOTE_ZERO_ROWS,
     RoomTooSmall = PEF_ROOM_TOO_SMALL,
     NotThere = PEF_NOT_THERE,
     NotOpen = PEF_NOT_OPEN,

@@ -4,8 +4,8 @@ use Rattle.pef_views.specs.Extents.{greatest}
 use Rattle.pef_views.specs.Partial.{header_in}
 use Rattle.pef_views.specs.PartialViews.{partly}
 use Rattle.pef_views.proofs.Laws.{greatest-next}
-use Rattle.pef_report.specs.Verdict.{section_end}
-use Rattle.pef_report.proofs.verdict.needed_by.Goals as goal
+use Rattle.pef_inspect.specs.Needs.{section_end}
+use Rattle.pef_inspect.proofs.needs.needed_by.Goals as goal
 
 pub loop-i-preserved : goal.loop-i-preserved
 loop-i-preserved c =
