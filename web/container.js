@@ -328,7 +328,7 @@ function verdict({ errors, notes, isCut, others }) {
 
 /** Returns what a verdict says besides its word, or null. */
 function verdictHint(found) {
-    if (found === null || found.state === "whole") {
+    if (found === null || (found.state === "whole" && !found.as_text)) {
         return null;
     }
     const damaged = VERDICT_PARTS.filter((it) => found[it] === "damaged");
