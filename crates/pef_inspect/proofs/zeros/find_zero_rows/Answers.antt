@@ -2,7 +2,7 @@
 use Rattle.std.proofs.Common.{◌≡◌, ◌∙◌, ◌++◌, ap}
 use Rattle.pef_views.specs.PartialViews.{partly}
 use Rattle.pef_loader.specs.PartialViews.{partly_loaded}
-use Rattle.pef_inspect.specs.Zeros.{exports, imports, libraries, relocations, zero_rows}
+use Rattle.pef_inspect.specs.Zeros.{exports, imports, libraries, relocations, zero_notes, zero_rows}
 use Rattle.pef_inspect.specs.declared.zeros.Table.{Table}
 use Rattle.pef_inspect.proofs.Taking.{taken-two}
 use Rattle.pef_inspect.proofs.zeros.find_zero_rows.Goals as goal
