@@ -72,6 +72,8 @@ note-low (note.UnownedBytes len) = refl
 note-low (note.WordRelocatedTwice word) = refl
 note-low (note.SectionsOutOfOrder sections) = refl
 note-low note.NameOutside = refl
+note-low (note.TextDamage count) = refl
+note-low (note.ZeroRows len) = refl
 
 cause-low : (c : Cause) → is_fault c ≡ false → (cause_number c == 3) ≡ false
 cause-low (cause.View f) is = absurd (cc is)
