@@ -243,6 +243,20 @@ def tags(length: int) -> Fragments:
     return [("it", b"Joy!peff" * (length // 8))]
 
 
+def tags_in_resources(rows: int) -> Callable[[int], Fragments]:
+    """A resource fork in which a container may begin at every eighth byte of its last resource, after so many empty ones."""
+
+    def made(length: int) -> Fragments:
+        room = max(0, length - 256 - 38 - 16 * rows) // 8 * 8
+        data = bytes(4 * (rows - 1)) + struct.pack(">I", room) + b"Joy!peff" * (room // 8)
+        references = b"".join(struct.pack(">hHII", number, 0xFFFF, 4 * number, 0) for number in range(rows))
+        types = struct.pack(">H4s2H", 0, b"data", rows - 1, 10) + references
+        head = struct.pack(">4I", 256, 256 + len(data), len(data), 28 + len(types))
+        return [("it", head + bytes(240) + data + head + struct.pack(">I4H", 0, 0, 0, 28, 28 + len(types)) + types)]
+
+    return made
+
+
 # --- all of them ---
 
 
@@ -293,4 +307,5 @@ FILES: Dict[str, Hostile] = {
     "a program of repeats": Hostile(repeats, 70, ("load",), more=1),
     "sections with pattern data": Hostile(packed_sections),
     "tags": Hostile(tags, 3),
+    "tags in a resource after many": Hostile(tags_in_resources(4_090), 2),
 }

@@ -531,7 +531,8 @@ uint32_t pef_report_open_container(struct pef_report *report, const uint8_t *con
 
 /*
  * A container in a file: where it begins, how many bytes it can have, and its number, from 0. Its bytes are those up to the end of its
- * fork, or of the file if it begins in no fork. The other fields are what the containers before it leave of what the report on the file
+ * fork, or of the file if it begins in no fork. If the report inspects no further containers, because it would cost more, they are all
+ * up to the end of the file. The other fields are what the containers before it leave of what the report on the file
  * may cost, and how many of them weren't inspected, because it would have cost more. A program passes them on. It may copy the struct,
  * and use it as long as the file is the same.
  *

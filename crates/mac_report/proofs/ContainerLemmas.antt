@@ -1,13 +1,12 @@
 -- How the containers of a file add up.
 use Rattle.std.proofs.Common.{◌≡◌, ℕ, List, [], ◌∷◌, ◌++◌, Result, Ok, Err, IfOk, IsErrAnd, refl, sym, subst, append_assoc, append-nil, ◌∙◌, true, false, Bool}
 use Rattle.std.specs.Prelude.{◌==◌, nat_lt}
-use Rattle.cfm_members.specs.Contents.{rest_from}
 use Rattle.pef_ports.specs.Ports.{Stream}
 use Rattle.pef_ports.specs.Sent.{Prints, StopsShort}
 use Rattle.pef_ports.proofs.Laws.Sending.{Prints-then, StopsShort-longer, StopsShort-then, sent-nothing}
 use Rattle.pef_inspect.specs.declared.limits.Limits.{Limits}
 use Rattle.mac_rows.specs.declared.output_format.OutputFormat.{OutputFormat}
-use Rattle.mac_report.specs.Containers.{IsRowIf, RowIs, Steps, Walks, cost, fresh_tally, lacking, row_text, skipped, tallied}
+use Rattle.mac_report.specs.Containers.{IsRowIf, RowIs, Steps, Walks, cost, fresh_tally, lacking, rest_for, row_text, skipped, tallied}
 use Rattle.mac_report.specs.declared.tally.Tally.{Tally}
 
 -- what was sent of the first containers, and what the places that are left add to it
@@ -25,8 +24,8 @@ some_row false limits rest at = (lacking at, refl)
 pub some_walk : (form : OutputFormat) (bytes : List ℕ) (tally : Tally) (places : List ℕ) → (text : List ℕ) × (last : Tally) × Walks form bytes tally places text last
 some_walk form bytes tally [] = ([], tally, (refl, refl))
 some_walk form bytes tally (at ∷ places) =
-    let row = some_row (nat_lt tally.turn.budget (cost (rest_from bytes at))) tally.turn.limits (rest_from bytes at) at in
-    let next = tallied tally (rest_from bytes at) row.0 in
+    let row = some_row (nat_lt tally.turn.budget (cost (rest_for bytes tally.turn at))) tally.turn.limits (rest_for bytes tally.turn at) at in
+    let next = tallied tally (rest_for bytes tally.turn at) row.0 in
     let here = row_text form (tally.turn.containers == 0) row.0 in
     let others = some_walk form bytes next places in
     (here ++ others.0, others.1, (here, next, others.0, record { row = row.0; is = row.1; printed = refl; counted = refl }, others.2, refl))

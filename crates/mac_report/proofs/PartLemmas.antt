@@ -1,11 +1,10 @@
 -- The parts of a report, one after the other, are a report.
 use Rattle.std.proofs.Common.{◌≡◌, ℕ, List, [], ◌∷◌, length, refl, sym}
-use Rattle.cfm_members.specs.Contents.{rest_from}
 use Rattle.cfm_members.specs.Search.{containers_in}
 use Rattle.mac_rows.specs.Faults.{faults_of}
 use Rattle.mac_rows.specs.FileNotes.{notes_of}
 use Rattle.mac_rows.specs.declared.output_format.OutputFormat.TheVariants.{Json}
-use Rattle.mac_report.specs.Containers.{Walks, fresh_tally, tallied, total}
+use Rattle.mac_report.specs.Containers.{Walks, fresh_tally, rest_for, tallied, total}
 use Rattle.mac_report.specs.Parts.{AreContainers, PartsJoin}
 use Rattle.mac_report.specs.declared.tally.Tally.{Tally}
 use Rattle.mac_report.specs.declared.turn.Turn.{Turn}
@@ -16,7 +15,7 @@ walks : (bytes places text : List ℕ) (tally : Tally) (last : Turn) → AreCont
 walks bytes [] text tally last are = (tally, (are.0, refl), sym are.1)
 walks bytes (at ∷ places) text tally last are =
     let here = are.2 in
-    let next = tallied tally (rest_from bytes at) here.row in
+    let next = tallied tally (rest_for bytes tally.turn at) here.row in
     let others = walks bytes places are.1 next last are.3 in
     (others.0, (are.0, next, are.1, record { row = here.row; is = here.is.is; printed = here.printed; counted = refl }, others.1, are.4), others.2)
 

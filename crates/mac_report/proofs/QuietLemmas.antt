@@ -1,22 +1,21 @@
 -- In a report without errors no container has one.
 use Rattle.std.proofs.Common.{◌≡◌, ℕ, Bool, true, false, List, [], ◌∷◌, ap, arith}
 use Rattle.std.specs.Prelude.{nat_lt}
-use Rattle.cfm_members.specs.Contents.{rest_from}
 use Rattle.cfm_members.specs.Search.{containers_in}
 use Rattle.pef_rows.specs.declared.frames.Counts.{Counts}
 use Rattle.pef_report.proofs.Laws.{judges_right}
 use Rattle.mac_rows.specs.declared.output_format.OutputFormat.{OutputFormat}
-use Rattle.mac_report.specs.Containers.{IsRow, IsRowIf, RowIs, Walks, cost, errors_in, fresh_tally, inspected, lacking, skipped}
+use Rattle.mac_report.specs.Containers.{IsRow, IsRowIf, RowIs, Walks, cost, errors_in, fresh_tally, inspected, lacking, rest_for, skipped}
 use Rattle.mac_report.specs.Quiet.{AreQuiet, IsQuiet, QuietAreSound}
 use Rattle.mac_report.specs.declared.tally.Tally.{Tally}
 use Rattle.mac_report.specs.declared.turn.Turn.{Turn}
 
-quiet-row : (bytes : List ℕ) (t : Turn) (at : ℕ) (row : RowIs) → IsRow bytes t at row → errors_in row ≡ 0 → IsQuiet (rest_from bytes at) row
-quiet-row bytes t at (inspected i) is none = by (nat_lt t.budget (cost (rest_from bytes at))) is
+quiet-row : (bytes : List ℕ) (t : Turn) (at : ℕ) (row : RowIs) → IsRow bytes t at row → errors_in row ≡ 0 → IsQuiet (rest_for bytes t at) row
+quiet-row bytes t at (inspected i) is none = by (nat_lt t.budget (cost (rest_for bytes t at))) is
   where
-    by : (b : Bool) → IsRowIf b t.limits (rest_from bytes at) at (inspected i) → IsQuiet (rest_from bytes at) (inspected i)
+    by : (b : Bool) → IsRowIf b t.limits (rest_for bytes t at) at (inspected i) → IsQuiet (rest_for bytes t at) (inspected i)
     by true is = absurd (cc is)
-    by false is = (none, λ verified. judges_right.sound t.limits at (rest_from bytes at) i is none verified)
+    by false is = (none, λ verified. judges_right.sound t.limits at (rest_for bytes t at) i is none verified)
 quiet-row bytes t at (lacking offset) is none = absurd (cc none)
 quiet-row bytes t at skipped is none = tt
 

@@ -1,7 +1,7 @@
 -- What is printed of the containers of a file, in the order in which a search finds them. The budget and the limits, which
 -- keep the work for a file linear in its length, are this project's own.
 use Rattle.std.specs.Prelude.{◌≡◌, ℕ, ◌+◌, ◌-◌, ◌*◌, ◌/◌, ◌^◌, ◌==◌, Bool, true, false, List, [], ◌∷◌, ◌++◌, Result, Ok, Err, codes, decimal, length, nat_lt, unwrap_or, if◌then◌else◌}
-use Rattle.cfm_members.specs.Contents.{rest_from}
+use Rattle.cfm_members.specs.Contents.{all_from, rest_from}
 use Rattle.pef_words.specs.Bytes.{number_at}
 use Rattle.pef_views.specs.Container.{Contained}
 use Rattle.pef_views.specs.Partial.{partial_of}
@@ -14,6 +14,7 @@ use Rattle.pef_report.specs.Inspection.{Inspected, count_chosen, inspection_obje
 use Rattle.pef_rows.specs.Objects.{separator}
 use Rattle.pef_rows.specs.Tokens.{at_text}
 use Rattle.pef_rows.specs.declared.frames.Counts.{Counts}
+use Rattle.mac_rows.specs.ResourceRows.{resource_rows}
 use Rattle.mac_rows.specs.Sums.{up_to}
 use Rattle.mac_rows.specs.declared.output_format.OutputFormat.{OutputFormat}
 use Rattle.mac_rows.specs.declared.output_format.OutputFormat.TheVariants.{Text, Json}
@@ -49,8 +50,16 @@ abbrev pub IsRowIf : Bool → Limits → List ℕ → ℕ → RowIs → Type 0
 IsRowIf true limits rest at row = row ≡ skipped
 IsRowIf false limits rest at row = IsInspected limits rest at row
 
+abbrev pub IsRowOf : List ℕ → Turn → ℕ → RowIs → Type 0
+IsRowOf rest t at row = IsRowIf (nat_lt t.budget (cost rest)) t.limits rest at row
+
+-- the bytes of a container at a place. If too little of the budget is left for any container, where its resource or its fork ends isn't
+-- looked for
+unfoldable pub rest_for : List ℕ → Turn → ℕ → List ℕ
+rest_for bytes t at = if nat_lt t.budget (2 ^ 13 + 40) then all_from bytes at else rest_from bytes at
+
 abbrev pub IsRow : List ℕ → Turn → ℕ → RowIs → Type 0
-IsRow bytes t at row = IsRowIf (nat_lt t.budget (cost (rest_from bytes at))) t.limits (rest_from bytes at) at row
+IsRow bytes t at row = IsRowOf (rest_for bytes t at) t at row
 
 -- what is printed of a container that was inspected
 abbrev pub inspected_object : Bool → Inspected → List ℕ
@@ -95,9 +104,10 @@ notes_in skipped = 0
 abbrev pub file_limits : ℕ → Limits
 file_limits n = record { program_bytes = most_program_bytes + n; steps = most_steps + n; packed_bytes = most_packed + n; words = most_words + n / 64 }
 
--- what is left for the first container of a file: its limits, and a budget of 64 megabytes and its length
+-- what is left for the first container of a file: its limits, and a budget of 64 megabytes and its length. For each container the rows of
+-- the resources are looked at, so with 512 of them it is half of the 64 megabytes, with 1,024 a third, and so on
 abbrev pub first_turn : List ℕ → Turn
-first_turn bytes = record { budget = 2 ^ 26 + length bytes; limits = file_limits (length bytes); containers = 0; skipped = 0 }
+first_turn bytes = record { budget = 2 ^ 26 / (1 + resource_rows bytes / 512) + length bytes; limits = file_limits (length bytes); containers = 0; skipped = 0 }
 
 -- .. and what a container leaves to the next one. One that passes the budget isn't inspected, and leaves nothing of it
 abbrev pub turn_if : Bool → Turn → List ℕ → Turn
@@ -119,7 +129,7 @@ pub record Steps (form : OutputFormat) (bytes : List ℕ) (before : Tally) (at :
   pub row : RowIs
   pub is : IsRow bytes before.turn at row
   pub printed : text ≡ row_text form (before.turn.containers == 0) row
-  pub counted : after ≡ tallied before (rest_from bytes at) row
+  pub counted : after ≡ tallied before (rest_for bytes before.turn at) row
 
 -- what the containers at some places add
 abbrev pub Walks : OutputFormat → List ℕ → Tally → List ℕ → List ℕ → Tally → Type 0

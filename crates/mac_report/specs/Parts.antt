@@ -8,7 +8,7 @@ use Rattle.pef_rows.specs.declared.frames.Counts.{Counts}
 use Rattle.mac_rows.specs.DataFiles.{DataFileIs}
 use Rattle.mac_rows.specs.Views.{data_file_seen}
 use Rattle.mac_rows.specs.declared.output_format.OutputFormat.TheVariants.{Json}
-use Rattle.mac_report.specs.Containers.{IsRow, RowIs, first_turn, inspected, lacking, row_text, skipped, turn_after}
+use Rattle.mac_report.specs.Containers.{IsRow, RowIs, first_turn, inspected, lacking, rest_for, row_text, skipped, turn_after}
 use Rattle.mac_report.specs.Reports.{IsWhole, found_of, json_end, json_head}
 use Rattle.mac_report.specs.declared.parts.ReportPart.{ReportPart}
 use Rattle.mac_report.specs.declared.parts.ReportPart.TheVariants as part
@@ -55,7 +55,7 @@ abbrev pub AreContainers : List ℕ → Turn → List ℕ → List ℕ → Turn 
 AreContainers bytes turn [] text last = (text ≡ []) × (last ≡ turn)
 AreContainers bytes turn (at ∷ places) text last =
     (here : List ℕ) × (others : List ℕ)
-    × IsContainerText bytes turn at here × AreContainers bytes (turn_after turn (rest_from bytes at)) places others last × (text ≡ here ++ others)
+    × IsContainerText bytes turn at here × AreContainers bytes (turn_after turn (rest_for bytes turn at)) places others last × (text ≡ here ++ others)
 
 -- the head, all containers and the end are a report
 abbrev pub PartsJoin : Type 0

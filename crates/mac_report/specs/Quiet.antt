@@ -1,7 +1,6 @@
 -- What a report without errors says of the containers of a file.
 use Rattle.std.specs.Prelude.{◌≡◌, ℕ, true, false, List, [], ◌∷◌, Option}
 use Rattle.std.specs.List.{AllByRecursion}
-use Rattle.cfm_members.specs.Contents.{rest_from}
 use Rattle.cfm_members.specs.Search.{containers_in}
 use Rattle.pef_inspect.specs.Findings.{is_unverified}
 use Rattle.pef_inspect.specs.Sound.{IsSound}
@@ -9,7 +8,7 @@ use Rattle.pef_report.specs.Inspection.{count_chosen}
 use Rattle.pef_rows.specs.declared.frames.Counts.{Counts}
 use Rattle.mac_rows.specs.DataFiles.{DataFileIs}
 use Rattle.mac_rows.specs.declared.output_format.OutputFormat.{OutputFormat}
-use Rattle.mac_report.specs.Containers.{RowIs, Walks, fresh_tally, inspected, lacking, skipped}
+use Rattle.mac_report.specs.Containers.{RowIs, Walks, fresh_tally, inspected, lacking, rest_for, skipped}
 use Rattle.mac_report.specs.Reports.{FoundIs, IsWhole}
 use Rattle.mac_report.specs.declared.tally.Tally.{Tally}
 
@@ -23,7 +22,7 @@ IsQuiet rest skipped = Unit {0}
 -- each container of a walk is quiet
 abbrev pub AreQuiet : (form : OutputFormat) (bytes : List ℕ) (before : Tally) (places : List ℕ) (text : List ℕ) (after : Tally) → Walks form bytes before places text after → Type 0
 AreQuiet form bytes before [] text after walk = Unit {0}
-AreQuiet form bytes before (at ∷ places) text after walk = IsQuiet (rest_from bytes at) walk.3.row × AreQuiet form bytes walk.1 places walk.2 after walk.4
+AreQuiet form bytes before (at ∷ places) text after walk = IsQuiet (rest_for bytes before.turn at) walk.3.row × AreQuiet form bytes walk.1 places walk.2 after walk.4
 
 -- if the report on a file counts no error, so is each of its containers
 abbrev pub QuietAreSound : Type 0

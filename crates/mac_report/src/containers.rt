@@ -24,7 +24,7 @@ pub(crate) fn print_containers<A: Allocator + Copy, W: Sink>(
         × Sends result (W.stream out.old) (W.stream out.new) page.old.items page.new.items text
         × IfOk result (λ r. r ≡ tally) }
 {
-    print_contents(alloc, out, page, report.form, Contents::of(report.bytes))
+    print_contents(alloc, out, page, report.form, &Contents::of(report.bytes))
 }
 
 /// Prints the containers of a file whose forks are known.
@@ -33,18 +33,19 @@ fn print_contents<A: Allocator + Copy, W: Sink>(
     out: &mut W,
     page: &mut Page,
     form: OutputFormat,
-    contents: Contents<'_>,
+    contents: &Contents<'_>,
 ) -> Result<Tally, StreamFault>
     ensures { (text : List ℕ) × (tally : TallyIs)
-        × Walks form contents.entry.bytes.now (fresh_tally contents.entry.bytes.now) (containers_in contents.entry.bytes.now 0) text tally
+        × Walks form contents.now.bytes.now (fresh_tally contents.now.bytes.now) (containers_in contents.now.bytes.now 0) text tally
         × Sends result (W.stream out.old) (W.stream out.new) page.old.items page.new.items text
         × IfOk result (λ r. r ≡ tally) }
 {
     let mut tally = Tally::new(contents.bytes);
     for place in Containers::new(contents.bytes) {
-        let row = read_row(alloc, contents, place, tally.turn);
+        let rest = tally.turn.rest_of(contents, place);
+        let row = read_row(alloc, rest, place, tally.turn);
         row.print(out, page, form, tally.turn.containers == 0)?;
-        tally = tally.with_row(contents.rest_from(place), &row);
+        tally = tally.with_row(rest, &row);
     }
     Ok(tally)
 }

@@ -186,8 +186,8 @@ fn known_row<'a, A: Allocator + Copy>(
 ) -> Result<Row<'a, A>, StreamFault>
     ensures { IfOk result (λ row. IsKnown container.entry.bytes.now container.entry.turn container.entry.place (row_seen row)) }
 {
-    let contents = Contents::of(container.bytes);
-    let row = read_row(alloc, contents, container.place, container.turn);
+    let rest = container.turn.rest(container.bytes, container.place);
+    let row = read_row(alloc, rest, container.place, container.turn);
     if row.is_lacking() {
         return Err(StreamFault);
     }

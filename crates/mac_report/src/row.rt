@@ -3,12 +3,11 @@ ghost use Rattle.std.specs.Prelude.{◌≡◌, ◌++◌};
 ghost use Rattle.pef_ports.specs.Sent.{Sends};
 ghost use Rattle.pef_report.specs.Views.{inspected};
 ghost use Rattle.pef_rows.specs.Objects.{separator};
-ghost use Rattle.mac_report.specs.Containers.{IsInspected, IsRow, errors_in, inspected_object, inspected_text, lacking_line, lacking_object, lacking_text, notes_in, row_text};
+ghost use Rattle.mac_report.specs.Containers.{IsInspected, IsRowOf, errors_in, inspected_object, inspected_text, lacking_line, lacking_object, lacking_text, notes_in, row_text};
 ghost use Rattle.mac_report.specs.Parts.{excerpt_text, is_lacking};
 ghost use Rattle.mac_report.specs.Views.{row_seen};
 
 use crate::turn::Turn;
-use cfm_members::Contents;
 use mac_rows::OutputFormat;
 use pef_inspect::Limits;
 use pef_ports::{Page, Sink, StreamFault};
@@ -30,16 +29,16 @@ pub(crate) enum Row<'a, A: Allocator> {
     Skipped,
 }
 
-/// Inspects the container at a place of a file, within what is left of the file's budget and its limits.
+/// Inspects the container that begins some bytes of a file, which are at a place, within what is left of the file's budget and its
+/// limits.
 pub(crate) fn read_row<'a, A: Allocator + Copy>(
     alloc: A,
-    contents: Contents<'a>,
+    rest: &'a [u8],
     place: usize,
     turn: Turn,
 ) -> Row<'a, A>
-    ensures { IsRow contents.entry.bytes.now turn place (row_seen result) }
+    ensures { IsRowOf rest.entry.now turn place (row_seen result) }
 {
-    let rest = contents.rest_from(place);
     if turn.is_exceeded_by(rest) {
         Row::Skipped
     } else {

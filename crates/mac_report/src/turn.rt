@@ -1,14 +1,20 @@
 //! What the containers of a file leave to the ones after them.
-ghost use Rattle.std.specs.Prelude.{◌≡◌, ◌<◌, ◌^◌, length, nat_lt};
-ghost use Rattle.mac_report.specs.Containers.{cost, file_limits, first_turn, headers_cost, loader_length, turn_after};
+ghost use Rattle.std.specs.Prelude.{◌≡◌, ◌+◌, ◌<◌, ◌^◌, length, nat_lt};
+ghost use Rattle.cfm_members.specs.Contents.{all_from};
+ghost use Rattle.mac_report.specs.Containers.{cost, file_limits, first_turn, headers_cost, loader_length, rest_for, turn_after};
 ghost use Rattle.pef_views.specs.Partial.{partial_of};
 
+use cfm_members::Contents;
+use mac_rows::resource_rows;
 use pef_inspect::{Limits, MAX_PACKED_BYTES, MAX_PROGRAM_BYTES, MAX_STEPS, MAX_WORDS, left_after};
 use pef_views::PartialContainer;
 use pef_words::Cut;
 
-/// The budget of a file, besides its own length.
+/// The budget of a file with few resources, besides its own length.
 const BUDGET: u64 = 0x0400_0000;
+
+/// How many rows of resources halve the budget.
+const ROWS: u64 = 512;
 
 /// What an inspection takes from the budget of its file, besides the bytes of the container's headers and its loader section.
 const INSPECTION_COST: u64 = 0x2000;
@@ -38,7 +44,7 @@ impl Turn {
         ensures { result ≡ first_turn bytes.now }
     {
         Turn {
-            budget: BUDGET + bytes.len() as u64,
+            budget: BUDGET / (1 + resource_rows(bytes) / ROWS) + bytes.len() as u64,
             limits: file_limits(bytes),
             containers: 0,
             skipped: 0,
@@ -66,6 +72,37 @@ impl Turn {
         }
     }
 
+    /// Returns the bytes of a container at a place of a file. All that follow it are these if the budget is spent.
+    #[tactic(auto, unfolding(crate::specs::Containers::rest_for))]
+    pub fn rest<'a>(self, bytes: &'a [u8], place: usize) -> &'a [u8]
+        ensures { result.now ≡ rest_for bytes.entry.now self place }
+    {
+        if self.is_spent() {
+            all_from(bytes, place)
+        } else {
+            Contents::of(bytes).rest_from(place)
+        }
+    }
+
+    /// Does the same in a file whose forks are known.
+    #[tactic(auto, unfolding(crate::specs::Containers::rest_for))]
+    pub(crate) fn rest_of<'a>(self, contents: &Contents<'a>, place: usize) -> &'a [u8]
+        ensures { result.now ≡ rest_for contents.now.bytes.now self place }
+    {
+        if self.is_spent() {
+            all_from(contents.bytes, place)
+        } else {
+            contents.rest_from(place)
+        }
+    }
+
+    /// Returns whether too little of the budget is left for any container.
+    fn is_spent(self) -> bool
+        ensures { result ≡ nat_lt self.budget (2 ^ 13 + 40) }
+    {
+        self.budget < INSPECTION_COST + CONTAINER_HEADER_SIZE
+    }
+
     /// Returns whether the inspection of a container costs more than what is left of the budget. The sections of a container are
     /// looked at if there is enough for their headers.
     #[tactic(auto, unfolding(crate::specs::Containers::cost))]
@@ -77,6 +114,14 @@ impl Turn {
         }
         cost(rest) > self.budget
     }
+}
+
+/// Returns all bytes from a place on.
+fn all_from<'a>(bytes: &'a [u8], place: usize) -> &'a [u8]
+    ensures { result.now ≡ all_from bytes.entry.now place }
+{
+    let (_, rest) = bytes.split_at(place.min(bytes.len()));
+    rest
 }
 
 /// Returns the limits of a file. With its length they are enough for each file whose containers share no bytes and repeat

@@ -1,6 +1,6 @@
 -- What is printed of the resources of a file: for each its type, its id and its name, and where its bytes are in the file
 -- (Inside Macintosh: More Macintosh Toolbox, "Resource Manager", "Resource File Format").
-use Rattle.std.specs.Prelude.{ℕ, ◌+◌, Bool, true, false, List, [], ◌∷◌, ◌++◌, Option, None, Some, Result, Ok, Err, codes, decimal, length}
+use Rattle.std.specs.Prelude.{ℕ, ◌+◌, ◌/◌, Bool, true, false, List, [], ◌∷◌, ◌++◌, Option, None, Some, Result, Ok, Err, codes, decimal, length}
 use Rattle.byteorder.specs.Endian.{big_bytes}
 use Rattle.mac_forks.specs.Parts.{Lying}
 use Rattle.mac_resources.specs.Fork.{ForkIs}
@@ -11,10 +11,23 @@ use Rattle.pef_listing.specs.Listing.{magnitude, sign_text}
 use Rattle.pef_ports.specs.Names.{name_text}
 use Rattle.pef_rows.specs.Objects.{separator}
 use Rattle.pef_rows.specs.Tokens.{at_or_dash, column_text, member_text, number_or_null, tag_text}
-use Rattle.mac_rows.specs.MacParts.{WrappingIs, resources_in}
+use Rattle.mac_rows.specs.MacParts.{WrappingIs, resources_in, wrapping_of}
 use Rattle.mac_rows.specs.Sums.{up_to}
 use Rattle.mac_rows.specs.declared.output_format.OutputFormat.{OutputFormat}
 use Rattle.mac_rows.specs.declared.output_format.OutputFormat.TheVariants.{Text, Json}
+
+-- a bound on how many rows of resources a file has: one for each type, and one for each 12 bytes of its map
+abbrev pub rows_in : Option (Result ForkIs ResourceFault) → ℕ
+rows_in None = 0
+rows_in (Some (Err fault)) = 0
+rows_in (Some (Ok fork)) = fork.type_count + fork.header.map_length / 12
+
+abbrev pub rows_of : Option Lying → ℕ
+rows_of None = 0
+rows_of (Some part) = rows_in (resources_in part)
+
+unfoldable pub resource_rows : List ℕ → ℕ
+resource_rows bytes = rows_of (readable (wrapping_of bytes).resource_fork)
 
 -- the offset in the file and the length of a resource's bytes, in a fork that begins at an offset of the file
 abbrev pub contents_at : ℕ → Result Lying ResourceFault → Option ℕ

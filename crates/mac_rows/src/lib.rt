@@ -26,6 +26,6 @@ pub use fragments::print_members;
 pub use member_table::FileError;
 pub use output_format::OutputFormat;
 pub use record::{print_record_line, print_record_member};
-pub use resource_row::print_resources;
+pub use resource_row::{print_resources, resource_rows};
 pub use unread::{UNREAD_COUNTS, UnreadFile};
 pub use wrapping::{print_fork_lines, print_fork_objects};

@@ -10,7 +10,7 @@ ghost use Rattle.mac_resources.specs.Views.{fork_seen, name_seen, resource_seen,
 ghost use Rattle.pef_rows.specs.Objects.{separator};
 ghost use Rattle.pef_rows.specs.Tokens.{at_or_dash, token_text};
 ghost use Rattle.mac_rows.specs.MacParts.{wrapping_of};
-ghost use Rattle.mac_rows.specs.ResourceRows.{contents_at, contents_size, fork_text, known_name, name_if, name_word, part_text, resource_back, resource_front, resource_line, resource_object, resource_rest, resource_start, resource_text, resources_of, resources_text, row_text, still_first};
+ghost use Rattle.mac_rows.specs.ResourceRows.{contents_at, contents_size, fork_text, known_name, name_if, name_word, part_text, resource_back, resource_front, resource_line, resource_object, resource_rest, resource_rows, resource_start, resource_text, resources_of, resources_text, row_text, rows_in, still_first};
 
 use crate::output_format::OutputFormat;
 use crate::wrapping::{Wrapping, resources_in};
@@ -20,6 +20,32 @@ use mac_resources::{Resource, ResourceFault, ResourceFork};
 use pef_listing::{magnitude, sign};
 use pef_ports::{Page, Sink, StreamFault};
 use pef_rows::{Token, at_or_dash, name_column, number_or_null, print_separator, print_tokens};
+
+/// The length of a row of a list of references.
+const REFERENCE_SIZE: u64 = 12;
+
+/// Returns a bound on how many rows of resources a file has.
+#[tactic(auto, unfolding(crate::specs::ResourceRows::resource_rows))]
+pub fn resource_rows(bytes: &[u8]) -> u64
+    ensures { result ≡ resource_rows bytes.now }
+{
+    match readable(Wrapping::of(bytes).resource_fork) {
+        Some(part) => rows_in(resources_in(part)),
+        None => 0,
+    }
+}
+
+/// Returns a bound on how many rows a resource fork has.
+fn rows_in(fork: Option<Result<ResourceFork<'_>, ResourceFault>>) -> u64
+    ensures { result ≡ rows_in (option_map (result_map fork_seen) fork.entry) }
+{
+    match fork {
+        Some(Ok(fork)) => {
+            u64::from(fork.type_count()) + u64::from(fork.header().map_length) / REFERENCE_SIZE
+        }
+        Some(Err(_)) | None => 0,
+    }
+}
 
 /// Prints the resources of a file whose rows can be read.
 pub fn print_resources<W: Sink>(

@@ -446,7 +446,8 @@ pub struct pef_report {
 pub const PEF_NO_REPORT: pef_report = pef_report { handle: core::ptr::null_mut(), is_open: false };
 
 /// A container in a file: where it begins, how many bytes it can have, and its number, from 0. Its bytes are those up to the end of its
-/// fork, or of the file if it begins in no fork. The other fields are what the containers before it leave of what the report on the file
+/// fork, or of the file if it begins in no fork. If the report inspects no further containers, because it would cost more, they are all
+/// up to the end of the file. The other fields are what the containers before it leave of what the report on the file
 /// may cost, and how many of them weren't inspected, because it would have cost more. A program passes them on. It may copy the struct,
 /// and use it as long as the file is the same.
 ///

@@ -1,8 +1,7 @@
 -- What the calls return and write that find the containers of a file one after the other.
 use Rattle.std.specs.Prelude.{◌≡◌, ℕ, ◌+◌, List, ◌∷◌, Option, None, Some, MatchBool, drop, length, nat_lt, slice_get}
-use Rattle.cfm_members.specs.Contents.{rest_from}
 use Rattle.cfm_members.specs.Search.{containers_in}
-use Rattle.mac_report.specs.Containers.{first_turn, turn_after}
+use Rattle.mac_report.specs.Containers.{first_turn, rest_for, turn_after}
 use Rattle.mac_report.specs.declared.turn.Turn.{Turn}
 use Rattle.pef_records.specs.declared.structs.PefFoundContainer.{PefFoundContainer}
 
@@ -19,11 +18,11 @@ turn_of c = record {
   skipped = c.skipped;
 }
 
--- the container at a place, with all bytes that it can have
+-- the container at a place, with all bytes that it can have. If nothing more is inspected, they may go up to the end of the file
 abbrev pub found_at : List ℕ → ℕ → Turn → PefFoundContainer
 found_at file at turn = record {
   offset = at;
-  length = length (rest_from file at);
+  length = length (rest_for file turn at);
   number = turn.containers;
   skipped = turn.skipped;
   budget = turn.budget;
@@ -46,7 +45,7 @@ FirstFound file new answer = StoresFound file (first_turn file) (slice_get (plac
 abbrev pub NextFound : List ℕ → PefFoundContainer → PefFoundContainer → ℕ → Type 0
 NextFound file old new answer =
     MatchBool (nat_lt old.offset (length file))
-    (StoresFound file (turn_after (turn_of old) (rest_from file old.offset)) (slice_get (places_from file (old.offset + 1)) 0) new answer)
+    (StoresFound file (turn_after (turn_of old) (rest_for file (turn_of old) old.offset)) (slice_get (places_from file (old.offset + 1)) 0) new answer)
     ((answer ≡ 201) × (new ≡ old))
 
 -- the places after the first one from a place on are those from the byte after it on. So the containers that are found one after the

@@ -2,7 +2,7 @@
 ghost use Rattle.std.specs.Prelude.{◌≡◌, ◌≤◌, length, slice_get};
 ghost use Rattle.pef_c.specs.Reports.Found.{FirstFound, NextFound, StoresFound, found_at, places_from, turn_of};
 
-use cfm_members::{Containers, Contents};
+use cfm_members::Containers;
 use mac_report::Turn;
 use pef_inspect::Limits;
 use pef_records::{NOT_THERE, PefFoundContainer, given};
@@ -15,7 +15,7 @@ pub extern "C" fn pef_first_container(file: &[u8], found: &mut PefFoundContainer
     ensures { FirstFound file.now found.new result }
 {
     let file = given(file);
-    store(Contents::of(file), 0, Turn::first(file), found)
+    store(file, 0, Turn::first(file), found)
 }
 
 /// Goes on to the next container of a file.
@@ -28,9 +28,9 @@ pub extern "C" fn pef_next_container(file: &[u8], found: &mut PefFoundContainer)
     if found.offset >= file.len() {
         return NOT_THERE;
     }
-    let contents = Contents::of(file);
-    let turn = turn_of(*found).after(contents.rest_from(found.offset));
-    store(contents, found.offset + 1, turn, found)
+    let before = turn_of(*found);
+    let turn = before.after(before.rest(file, found.offset));
+    store(file, found.offset + 1, turn, found)
 }
 
 /// Returns what the containers before one leave.
@@ -51,17 +51,17 @@ pub(crate) fn turn_of(found: PefFoundContainer) -> Turn
 }
 
 /// Writes the first container from a place on, or the end of the file.
-fn store(contents: Contents<'_>, from: usize, turn: Turn, found: &mut PefFoundContainer) -> u32
-    requires { from ≤ length contents.bytes.now }
-    ensures { StoresFound contents.entry.bytes.now turn (slice_get (places_from contents.entry.bytes.now from) 0) found.new result }
+fn store(file: &[u8], from: usize, turn: Turn, found: &mut PefFoundContainer) -> u32
+    requires { from ≤ length file.now }
+    ensures { StoresFound file.now turn (slice_get (places_from file.now from) 0) found.new result }
 {
-    match first_from(contents.bytes, from) {
+    match first_from(file, from) {
         Some(place) => {
-            *found = found_at(contents, place, turn);
+            *found = found_at(file, place, turn);
             0
         }
         None => {
-            *found = found_at(contents, contents.bytes.len(), turn);
+            *found = found_at(file, file.len(), turn);
             NOT_THERE
         }
     }
@@ -80,12 +80,12 @@ fn first_from(bytes: &[u8], from: usize) -> Option<usize>
 }
 
 /// Returns the container at a place.
-fn found_at(contents: Contents<'_>, place: usize, turn: Turn) -> PefFoundContainer
-    ensures { result ≡ found_at contents.entry.bytes.now place turn }
+fn found_at(file: &[u8], place: usize, turn: Turn) -> PefFoundContainer
+    ensures { result ≡ found_at file.now place turn }
 {
     PefFoundContainer {
         offset: place,
-        length: contents.rest_from(place).len(),
+        length: turn.rest(file, place).len(),
         number: turn.containers,
         skipped: turn.skipped,
         budget: turn.budget,
