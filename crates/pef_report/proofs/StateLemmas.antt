@@ -22,6 +22,7 @@ use Rattle.pef_inspect.specs.Findings.{cause_number, finding_number, is_error, i
 use Rattle.pef_inspect.specs.Notes.{note_number}
 use Rattle.pef_inspect.specs.Oddities.{notes_within}
 use Rattle.pef_inspect.specs.declared.finding.Cause.{Cause}
+use Rattle.pef_inspect.specs.Needs.{needed_by, needed_of, section_end}
 use Rattle.pef_inspect.specs.declared.finding.Cause.TheVariants as cause
 use Rattle.pef_inspect.specs.declared.finding.Finding.{Finding}
 use Rattle.pef_inspect.specs.declared.limits.Limits.{Limits}
@@ -29,7 +30,7 @@ use Rattle.pef_inspect.specs.declared.note.Note.{Note}
 use Rattle.pef_inspect.specs.declared.note.Note.TheVariants as note
 use Rattle.pef_report.specs.Inspection.{Inspected, InspectsWithin, count_chosen}
 use Rattle.pef_report.specs.States.{HasOnly, IsWholeVerdict, VerdictsAreRight, verdict_on}
-use Rattle.pef_report.specs.Verdict.{architecture_of, error_state, has_number, has_other, is_damaged, is_m68k, is_stub, is_unlikely, needed_by, needed_of, section_end, sound_state, state_of, verdict_of}
+use Rattle.pef_report.specs.Verdict.{architecture_of, error_state, has_number, has_other, is_damaged, is_m68k, is_stub, is_unlikely, sound_state, state_of, verdict_of}
 use Rattle.pef_report.specs.declared.verdict.Group.{Group}
 use Rattle.pef_report.specs.declared.verdict.Group.TheVariants as group
 use Rattle.pef_report.specs.declared.verdict.State.{State}
