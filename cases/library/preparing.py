@@ -65,14 +65,17 @@ def refusal(pef, contents):
 
 
 def first_errors(pef, contents):
-    """The errors of a preparation, of pef_container_place and of a listing, and all that `inspect` finds."""
+    """The errors of a preparation, of pef_container_place and of a listing, all that pef_findings gives, and all that a report has."""
     place = pef._Place()
     reading = pef.library().pef_container_place(contents, len(contents), ctypes.byref(place))
     try:
         listed = pef.Container(contents).listing()
     except pef.PefError as error:
         listed = error.number
-    return refusal(pef, contents)[0], reading, listed, [it.number for it in pef.inspect(contents) if it.is_error]
+    places, count = (pef._declarations._Finding * 8)(), ctypes.c_size_t()
+    pef.library().pef_findings(contents, len(contents), 0, places, len(places), ctypes.byref(count))
+    found = [it.number for it in places[: count.value] if it.is_error]
+    return refusal(pef, contents)[0], reading, listed, found, [it.number for it in pef.inspect(contents) if it.is_error]
 
 
 def errors(pef, contents):
@@ -106,7 +109,7 @@ def orders(pef):
     contents = container([bad], [bytes.fromhex("4C00")], symbol=True)
     yield "an image and a program", refusal(pef, contents), (22, PACKED, 0, 0, 96, False)
     contents = container([Section(bytes.fromhex("22 01"), 2, 2, kind=2)], [bytes.fromhex("4C00")], symbol=True)
-    yield "the order of a preparation, and that of the other calls", first_errors(pef, contents), (21, 31, 31, [31, 21])
+    yield "the order of a preparation, and that of the other calls", first_errors(pef, contents), (21, 31, 31, [31, 21], [21, 31])
     contents = container([Section(total=8)], [bytes.fromhex("4A01"), bytes.fromhex("4C00")], symbol=True)
     yield "an addition, and the next program", refusal(pef, contents), (38, PROGRAM, 0, 0, 204, False)
     contents = container([Section(total=8)], [bytes.fromhex("4000"), bytes.fromhex("4C00")], symbol=True)

@@ -182,7 +182,7 @@ static void test_notes(void)
     EXPECT(pef_name(PEF_NOTE_WORD_RELOCATED_TWICE, &name) == PEF_OK && is_named(name, "WordRelocatedTwice"));
     EXPECT(pef_name(PEF_NOTE_SECTIONS_OUT_OF_ORDER, &name) == PEF_OK && is_named(name, "SectionsOutOfOrder"));
     EXPECT(pef_help(PEF_NOTE_TRAILING_BYTES, &name) == PEF_OK && name.length > 20);
-    EXPECT(pef_name(124, &name) == PEF_NOT_THERE && pef_help(199, &name) == PEF_NOT_THERE);
+    EXPECT(pef_name(199, &name) == PEF_NOT_THERE && pef_help(199, &name) == PEF_NOT_THERE);
 }
 
 /* Packed bytes are expanded (docs/FORMATS.md, section 3). */
